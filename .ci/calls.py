@@ -48,7 +48,7 @@ def read(crate: str, files: list[Path]) -> Found:
     """The functions and types of a crate's files."""
     found = Found({}, {})
     for file in files:
-        text = (it for it in file.read_text().splitlines() if not it.strip().startswith("//"))
+        text = (line for line in file.read_text().splitlines() if not line.strip().startswith("//"))
         read_file(crate, text, found)
     return found
 
@@ -60,9 +60,9 @@ def read_file(crate: str, lines: Iterator[str], found: Found) -> None:
             owner, of_trait = "", False
         if named := TRAIT.match(line):
             owner, of_trait = named[1], True
-        elif made := IMPL.match(line):
-            parameter = made["type"] in re.findall(r"\w+", made["parameters"] or "")
-            owner, of_trait = "" if parameter else made["type"], made["trait"] is not None
+        elif implemented := IMPL.match(line):
+            parameter = implemented["type"] in re.findall(r"\w+", implemented["parameters"] or "")
+            owner, of_trait = "" if parameter else implemented["type"], implemented["trait"] is not None
         elif kind := STRUCT.match(line):
             found.types[kind[1]] = found.types.get(kind[1], "") + "\n".join(rest_of(line, lines, ""))
         elif start := FUNCTION.match(line):
@@ -74,9 +74,9 @@ def read_file(crate: str, lines: Iterator[str], found: Found) -> None:
 def rest_of(line: str, lines: Iterator[str], indent: str) -> list[str]:
     """The lines of an item that begins so, to its end, without its clauses."""
     head = repository.head_of(line, lines, indent)
-    kept = list(itertools.takewhile(lambda it: not CLAUSE.match(it), head))
+    kept = list(itertools.takewhile(lambda line: not CLAUSE.match(line), head))
     if head[-1].endswith("{"):
-        kept += itertools.takewhile(lambda it: it != indent + "}", lines)
+        kept += itertools.takewhile(lambda line: line != indent + "}", lines)
     return kept
 
 
@@ -85,7 +85,7 @@ class Walk:
 
     def __init__(self, root: Path, crates: repository.Crates) -> None:
         self.crates = crates
-        self.sees = {it: {it, *repository.below(crates, it)} for it in crates}
+        self.sees = {crate: {crate, *repository.below(crates, crate)} for crate in crates}
         self.texts: dict[Function, str] = {}
         self.types: dict[str, str] = defaultdict(str)
         self.named: dict[str, list[Function]] = defaultdict(list)
@@ -93,7 +93,7 @@ class Walk:
             folder = root / "crates" / crate / "src"
             tests = repository.test_modules(folder)
             found = read(
-                crate, [it for it in repository.files_of(folder) if it.suffix == ".rt" and it.name not in tests]
+                crate, [path for path in repository.files_of(folder) if path.suffix == ".rt" and path.name not in tests]
             )
             self.texts |= found.functions
             for name, text in found.types.items():
@@ -105,7 +105,7 @@ class Walk:
 
     def start(self, crate: str, name: str) -> Walk:
         """Walks from a free function, until nothing new is found."""
-        self.reached |= {it for it in self.named[name] if it.crate == crate and not it.owner}
+        self.reached |= {function for function in self.named[name] if function.crate == crate and not function.owner}
         size = (0, 0)
         while size != (len(self.reached), len(self.met)):
             size = (len(self.reached), len(self.met))
@@ -119,32 +119,34 @@ class Walk:
         left = set(TYPE.findall(text)) - self.met
         while left:
             self.met |= left
-            left = {it for name in left if name in self.types for it in TYPE.findall(self.types[name])} - self.met
+            left = {
+                type_name for name in left if name in self.types for type_name in TYPE.findall(self.types[name])
+            } - self.met
 
     def called_by(self, function: Function) -> set[Function]:
-        return {it for call in set(CALL.findall(self.texts[function])) for it in self.meant(function, *call)}
+        return {called for call in set(CALL.findall(self.texts[function])) for called in self.meant(function, *call)}
 
     def meant(self, caller: Function, dot: str, path: str, name: str) -> list[Function]:
         """The functions that a call may mean."""
         path = caller.owner if path == "Self" else path
-        own = [it for it in self.named[name] if it.crate in self.sees[caller.crate]]
+        own = [one for one in self.named[name] if one.crate in self.sees[caller.crate]]
         if dot:
-            every = [it for it in self.named[name] if it.of_trait or it in own and it.owner]
-            return [it for it in every if not it.owner or it.owner in self.met]
+            every = [one for one in self.named[name] if one.of_trait or one in own and one.owner]
+            return [one for one in every if not one.owner or one.owner in self.met]
         if path[:1].isupper():
-            return [it for it in own if it.owner == path]
-        free = [it for it in own if not it.owner]
-        return [it for it in free if it.crate == caller.crate] or free
+            return [one for one in own if one.owner == path]
+        free = [one for one in own if not one.owner]
+        return [one for one in free if one.crate == caller.crate] or free
 
     def has(self, crate: str, owner: str, name: str) -> bool:
         """Whether a type or trait of the crate has a function of this name."""
-        return any(it.crate == crate and it.owner == owner for it in self.named[name])
+        return any(found.crate == crate and found.owner == owner for found in self.named[name])
 
     def comes_to(self, crate: str, path: str) -> bool:
         """Whether a function of this name, or of this type and name, was reached; or a type or constant was named."""
         *types, name = path.split("::")
         owner = types[-1] if types and types[-1][:1].isupper() else ""
-        functions = [it for it in self.named[name] if it.crate == crate and owner in ("", it.owner)]
+        functions = [found for found in self.named[name] if found.crate == crate and owner in ("", found.owner)]
         if functions:
-            return any(it in self.reached for it in functions)
-        return any(re.search(rf"\b{name}\b", self.texts[it]) for it in self.reached)
+            return any(found in self.reached for found in functions)
+        return any(re.search(rf"\b{name}\b", self.texts[found]) for found in self.reached)

@@ -25,8 +25,8 @@ from concurrent.futures import ThreadPoolExecutor
 from dataclasses import dataclass
 from pathlib import Path
 
-import edits
 import repository
+import trials
 
 MEMORY_OF_A_CHECK = 4_000_000  # kilobytes
 SECONDS_OF_TESTS = 900  # that those of a crate may take together
@@ -147,23 +147,23 @@ def try_planted(root: Path, names: list[str]) -> Iterator[Count]:
     """Tries the planted bugs of these crates, or of all."""
     paths = {name: repository.edits_of(root, name, "planted") for name in names or repository.crates_of(root)}
     with tempfile.TemporaryDirectory(prefix="ttm-planted-") as room:
-        for outcome in edits.try_all(root, Path(room), {it: paths[it] for it in paths if paths[it]}, jobs()):
+        for outcome in trials.try_all(root, Path(room), {path: paths[path] for path in paths if paths[path]}, jobs()):
             yield Count(len(outcome.refused), len(outcome.others))
 
 
-def arguments_of(words: list[str]) -> argparse.Namespace:
+def arguments_of(arguments: list[str]) -> argparse.Namespace:
     parser = argparse.ArgumentParser(
         prog=".ci/run", description=__doc__, formatter_class=argparse.RawDescriptionHelpFormatter
     )
     part = parser.add_mutually_exclusive_group()
     part.add_argument("--quick", action="store_true", help="run tests without any proof")
     part.add_argument("--planted", nargs="*", metavar="CRATE", help="try the planted bugs, and nothing else")
-    return parser.parse_args(words)
+    return parser.parse_args(arguments)
 
 
-def run(root: Path, words: list[str]) -> int:
+def run(root: Path, command: list[str]) -> int:
     """Runs the gate of the repository at `root`, or a part of it, and returns the exit status."""
-    arguments = arguments_of(words)
+    arguments = arguments_of(command)
     if arguments.planted is not None:
         count = sum(try_planted(root, arguments.planted), Count())
     else:

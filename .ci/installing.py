@@ -20,19 +20,19 @@ def install(*groups: Sequence[str]) -> None:
 
     Scripts run side by side, and one at a time installs. Where nothing is lacking nothing is asked of the network.
     """
-    wanted = [list(it) for it in groups if it]
+    wanted = [list(group) for group in groups if group]
     if not wanted or os.geteuid() != 0 or shutil.which("apt-get") is None:
         return
     environment = {**os.environ, "DEBIAN_FRONTEND": "noninteractive"}
     # what an earlier call left half done when its time was up makes later ones fail
     calls = [["dpkg", "--configure", "-a"], ["apt-get", "update", "-q"]]
-    calls += [["apt-get", "install", "-q", "-y", "--no-install-recommends", *it] for it in wanted]
+    calls += [["apt-get", "install", "-q", "-y", "--no-install-recommends", *packages] for packages in wanted]
     with LOCK.open("w") as lock:
         fcntl.flock(lock, fcntl.LOCK_EX)
         end = time.monotonic() + SECONDS
-        for words in calls:
+        for command in calls:
             try:
                 left = max(1.0, end - time.monotonic())
-                subprocess.run(words, env=environment, timeout=left, capture_output=True)
+                subprocess.run(command, env=environment, timeout=left, capture_output=True)
             except subprocess.TimeoutExpired:
-                print(f"{' '.join(words[:2])}: not done in {SECONDS} seconds", flush=True)
+                print(f"{' '.join(command[:2])}: not done in {SECONDS} seconds", flush=True)

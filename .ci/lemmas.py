@@ -70,10 +70,10 @@ def imports_in(text: str) -> tuple[dict[str, set[tuple[str, str]]], dict[str, st
     """The names that a text imports, each with its name here, by module; and the modules that have a name here."""
     names: dict[str, set[tuple[str, str]]] = {}
     for found in LISTED.finditer(text):
-        for name in filter(None, (it.strip() for it in found["names"].split(","))):
+        for name in filter(None, (text.strip() for text in found["names"].split(","))):
             there, _, here = name.partition(" as ")
             names.setdefault(found["path"], set()).add((there, here or there))
-    return names, {it["name"]: it["path"] for it in RENAMED.finditer(text)}
+    return names, {match["name"]: match["path"] for match in RENAMED.finditer(text)}
 
 
 def items_in(lines: list[str], for_the_prover: bool) -> list[Item]:
@@ -119,7 +119,7 @@ def is_import(item: Item) -> bool:
 
 
 def tokens_of(item: Item) -> set[str]:
-    return {it.strip("()") for _, line in item.lines for it in TOKEN.findall(line)}
+    return {match.strip("()") for _, line in item.lines for match in TOKEN.findall(line)}
 
 
 def cited_in(proof: Proof) -> set[tuple[str, str]]:
@@ -141,18 +141,18 @@ def cited_in(proof: Proof) -> set[tuple[str, str]]:
 
 def passed_on(proof: Proof) -> str:
     """The imports that a file hands on to those that import it."""
-    given = [it for it in proof.items if it.lines[0][1].startswith("pub use")]
-    return "\n".join(" ".join(text for _, text in it.lines) for it in given)
+    given = [item for item in proof.items if item.lines[0][1].startswith("pub use")]
+    return "\n".join(" ".join(text for _, text in item_given.lines) for item_given in given)
 
 
 def cited_by_code(root: Path, path: Path) -> set[tuple[str, str]]:
     """The module and the name of each lemma that a source file names."""
     text = path.read_text()
     crate = path.relative_to(root / "crates").parts[0]
-    found = {it.replace("::", ".").replace("crate.", f"Rattle.{crate}.", 1) for it in USING.findall(text)}
+    found = {match.replace("::", ".").replace("crate.", f"Rattle.{crate}.", 1) for match in USING.findall(text)}
     listed, _ = imports_in(text)
     named = {(module, name) for module, names in listed.items() for name, _ in names}
-    return named | {(it.rpartition(".")[0], it.rpartition(".")[2]) for it in found}
+    return named | {(item.rpartition(".")[0], item.rpartition(".")[2]) for item in found}
 
 
 def uncited(root: Path, proofs: list[Proof]) -> Iterator[tuple[str, bool]]:
@@ -190,7 +190,7 @@ def doubled(root: Path, proofs: list[Proof]) -> Iterator[tuple[str, bool]]:
 def judged(root: Path) -> Iterator[tuple[str, bool]]:
     """Each thing that is looked at, and whether it is as it should be."""
     paths = sorted((root / "crates").glob("*/proofs/**/*.antt"))
-    proofs = [proof_at(root, it) for it in paths if it.name not in ("Goals.antt", "Lib.antt")]
+    proofs = [proof_at(root, path) for path in paths if path.name not in ("Goals.antt", "Lib.antt")]
     yield from uncited(root, proofs)
     yield from doubled(root, proofs)
 

@@ -1,11 +1,11 @@
 #!/usr/bin/env python3
 """Checks that the pages name only what exists.
 
-- Each function and law that README or the table of architecture.md names exists in its crate, and each promise
-  names a function that has a contract.
-- The program's `main` reaches each function that the table lists 'on the program's way', by a walk over the sources
+- Each function and law that README or architecture.md names exists in its crate, and each promise names a function
+  that has a contract.
+- The program's `main` reaches each function that architecture.md doesn't list as 'apart', by a walk over the sources
   that goes by names (`calls.py` says what it misses).
-- Each spec that the table or definitions.md name is a file, and so is each must-fail edit that proofs.md names; the
+- Each spec that architecture.md or definitions.md names is a file, and so is each must-fail edit of proofs.md; the
   functions, types and constants that proofs.md names exist.
 - Each module that the table of the tools names in architecture.md is there, and has the names of its row.
 - Each planted bug can be planted, and a test or a planted bug names each public function (`public.py`).
@@ -55,12 +55,12 @@ class Sources:
         crates = repository.crates_of(root)
         self.root = root
         self.names = list(crates)
-        self.texts = {it: self.text_of(root / "crates" / it / "src") for it in crates}
+        self.texts = {crate: self.text_of(root / "crates" / crate / "src") for crate in crates}
         self.walk = calls.Walk(root, crates).start(PROGRAM, "main")
 
     @staticmethod
     def text_of(folder: Path) -> str:
-        return "\n".join(it.read_text() for it in repository.files_of(folder) if it.suffix == ".rt")
+        return "\n".join(path.read_text() for path in repository.files_of(folder) if path.suffix == ".rt")
 
     def has(self, claim: Claim) -> bool:
         """Whether the crate has a function of that name, of that type where one is named; or a type or a constant."""
@@ -77,7 +77,7 @@ class Sources:
         for found in re.finditer(FUNCTION.format(last), text):
             lines = iter(text[found.start() :].splitlines())
             header = repository.header_of(next(lines), lines, found[1])
-            if any(it.strip().startswith("ensures") for it in header):
+            if any(item.strip().startswith("ensures") for item in header):
                 return True
         return False
 
@@ -105,35 +105,36 @@ def claims_of_promise(text: str, crates: list[str], page: str = "README") -> lis
     return claims
 
 
-def rows_of_table(architecture: str, crates: list[str]) -> Iterator[tuple[str, list[str]]]:
-    """The rows of the table of what is decided where: the crate, and the other cells. A row without a crate is of the
-    crate above it.
+def entries_of(architecture: str, crates: list[str]) -> Iterator[tuple[str, str, str, str]]:
+    """The entries of what is decided where: the crate, what is decided, the functions on the program's way, and those
+    apart from it.
     """
     part = architecture.split("\n## Where is it decided", 1)[1].split("\n## ", 1)[0]
-    crate = ""
-    for line in part.splitlines():
-        cells = [it.strip() for it in line.strip("|").split("|")] if line.startswith("|") else []
-        if len(cells) != 5:
-            continue
-        named = NAME.findall(cells[0])
-        crate = named[0] if named and named[0] in crates else crate
-        if crate:
-            yield crate, cells[1:]
+    for block in re.split(r"\n(?=- `)", part)[1:]:
+        crate, *entries = re.split(r"\n {2}- ", block)
+        for entry in entries if crate.strip("- `\n") in crates else ():
+            what, *functions = re.split(r": (?=`|\*apart\*)", " ".join(entry.split()), maxsplit=1)
+            on_way, _, apart = "".join(functions).partition("*apart*")
+            yield crate.strip("- `\n"), what, on_way, apart
 
 
-def claims_of_table(architecture: str, crates: list[str]) -> list[Claim]:
-    """The names in the last two columns of the table: those that the program comes to, and those beside its way."""
+def claims_of_entries(architecture: str, crates: list[str]) -> list[Claim]:
+    """The names in the entries: those that the program comes to, and those apart from its way."""
     claims = []
-    for crate, (_, _, on_way, beside) in rows_of_table(architecture, crates):
-        claims += [Claim("architecture.md", crate, it, True) for it in NAME.findall(on_way)]
-        claims += [Claim("architecture.md", crate, it) for it in NAME.findall(beside)]
+    for crate, _, on_way, apart in entries_of(architecture, crates):
+        claims += [Claim("architecture.md", crate, match, True) for match in NAME.findall(on_way)]
+        claims += [Claim("architecture.md", crate, match) for match in NAME.findall(apart)]
     return claims
 
 
-def specs_of_table(architecture: str, crates: list[str]) -> list[Claim]:
-    """The spec files that the table names in its column of words."""
-    rows = rows_of_table(architecture, crates)
-    return [Claim("architecture.md", crate, it[1]) for crate, cells in rows for it in SPEC.findall(cells[1])]
+def specs_of_entries(architecture: str, crates: list[str]) -> list[Claim]:
+    """The spec files that the entries name in square brackets."""
+    return [
+        Claim("architecture.md", crate, spec)
+        for crate, what, _, _ in entries_of(architecture, crates)
+        for words in re.findall(r"\[([^\]]*)\](?!\()", what)
+        for _, spec in SPEC.findall(words)
+    ]
 
 
 def specs_of_definitions(definitions: str, crates: list[str]) -> list[Claim]:
@@ -152,9 +153,9 @@ def judged_assurance(root: Path, sources: Sources) -> Iterator[tuple[str, bool]]
     text = page.read_text() if page.is_file() else ""
     for crate, edit in EDIT.findall(text):
         yield f"proofs.md: {crate} has no edit {edit}", (root / f"crates/{crate}/must-fail/{edit}.edit").is_file()
-    files = {it.stem for crate in sources.names for it in repository.files_of(root / f"crates/{crate}/src")}
-    specs = "\n".join(it.read_text() for it in sorted((root / "crates").glob("*/specs/*.antt")))
-    libraries = {it for crate in repository.crates_of(root).values() for it in crate.line.split(":")[1].split()}
+    files = {path.stem for crate in sources.names for path in repository.files_of(root / f"crates/{crate}/src")}
+    specs = "\n".join(path.read_text() for path in sorted((root / "crates").glob("*/specs/*.antt")))
+    libraries = {text for crate in repository.crates_of(root).values() for text in crate.line.split(":")[1].split()}
     known = {*sources.names, *files, *libraries}
     for name in dict.fromkeys(NAME.findall(text)):
         there = any(sources.has(Claim("proofs.md", crate, name)) for crate in sources.names)
@@ -167,8 +168,8 @@ def judged_tools(root: Path, architecture: str) -> Iterator[tuple[str, bool]]:
     for line in architecture.partition("\n## The tools\n")[2].split("\n## ", 1)[0].splitlines():
         cells = line.strip("|").split("|") if line.startswith("|") else []
         modules = [root / TOOLS / name for name in MODULE.findall(cells[1])] if len(cells) == 3 else []
-        yield from ((f"architecture.md: no module {it.relative_to(root)}", it.is_file()) for it in modules)
-        text = "\n".join(it.read_text() for it in modules if it.is_file())
+        yield from ((f"architecture.md: no module {module.relative_to(root)}", module.is_file()) for module in modules)
+        text = "\n".join(module.read_text() for module in modules if module.is_file())
         for name in NAME.findall(cells[2]) if modules else ():
             yield f"architecture.md: {cells[1].strip()} has no {name}", bool(re.search(PYTHON.format(name), text))
 
@@ -177,7 +178,7 @@ def judged(root: Path) -> Iterator[tuple[str, bool]]:
     """Each thing that is looked at, and whether it is as it should be."""
     sources = Sources(root)
     architecture = (root / "docs/explanation/architecture.md").read_text()
-    claims = claims_of_table(architecture, sources.names)
+    claims = claims_of_entries(architecture, sources.names)
     for title, text in promises((root / "README.md").read_text()):
         named = claims_of_promise(text, sources.names)
         yield f"README: '{title}' names no function with a contract", any(map(sources.has_contract, named))
@@ -188,7 +189,7 @@ def judged(root: Path) -> Iterator[tuple[str, bool]]:
             said = f"{claim.page}: {PROGRAM} doesn't come to {claim.crate}'s {claim.name}"
             yield said, sources.walk.comes_to(claim.crate, claim.name)
     specs = specs_of_definitions((root / "docs/explanation/definitions.md").read_text(), sources.names)
-    for claim in specs_of_table(architecture, sources.names) + specs:
+    for claim in specs_of_entries(architecture, sources.names) + specs:
         yield f"{claim.page}: {claim.crate} has no spec {claim.name}", sources.has_spec(claim)
     yield from judged_assurance(root, sources)
     yield from judged_tools(root, architecture)

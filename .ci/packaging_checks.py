@@ -48,28 +48,28 @@ def program_is_the_built_one(of: Packages) -> None:
     shutil.copy(of.program, bare)
     if shutil.which("strip"):
         of.output("strip", "--strip-unneeded", bare)
-    for it in (of.tree / "usr/bin/ttm", of.folder / "bin/ttm"):
-        assert it.read_bytes() == bare.read_bytes(), f"{it} differs"
+    for item in (of.tree / "usr/bin/ttm", of.folder / "bin/ttm"):
+        assert item.read_bytes() == bare.read_bytes(), f"{item} differs"
 
 
 def every_file_in_both(of: Packages) -> None:
     """the tar file has what the package has"""
-    names = [sorted(str(it.relative_to(top)) for it in top.rglob("*")) for top in (of.tree / "usr", of.folder)]
+    names = [sorted(str(path.relative_to(top)) for path in top.rglob("*")) for top in (of.tree / "usr", of.folder)]
     assert names[0] == names[1], set(names[0]) ^ set(names[1])
 
 
 def toolchain_is_named(of: Packages) -> None:
     """the package names the toolchain that proved the program, as README does"""
     named = re.search(r"^    (rattle-kit-\S+ logic \S+)$", (ROOT / "README.md").read_text(), re.M)
-    told = of.share("doc/ttm/PROVED")
-    assert named and f"proved with {named[1]}\n" in told and "\ncommit " in told, told
+    proved = of.share("doc/ttm/PROVED")
+    assert named and f"proved with {named[1]}\n" in proved and "\ncommit " in proved, proved
 
 
 def documents_are_there(of: Packages) -> None:
     """the changelog and the pages of docs are there"""
-    for it in (ROOT / "README.md", ROOT / "CHANGELOG.md", *(ROOT / "docs").rglob("*.md")):
-        name = it.relative_to(ROOT)
-        assert of.share(f"doc/ttm/{name}") == it.read_text(), f"{name} differs"
+    for item in (ROOT / "README.md", ROOT / "CHANGELOG.md", *(ROOT / "docs").rglob("*.md")):
+        name = item.relative_to(ROOT)
+        assert of.share(f"doc/ttm/{name}") == item.read_text(), f"{name} differs"
 
 
 def html_needs_no_network(of: Packages) -> None:
@@ -77,10 +77,10 @@ def html_needs_no_network(of: Packages) -> None:
     if lacking():
         raise Skipped("no Sphinx or no MyST on this machine")
     folder = of.tree / "usr/share/doc/ttm/html"
-    names = [it.relative_to(ROOT).with_suffix(".html") for it in (ROOT / "docs").rglob("*.md")]
-    assert [it for it in names if not (folder / it).is_file()] == []
+    names = [path.relative_to(ROOT).with_suffix(".html") for path in (ROOT / "docs").rglob("*.md")]
+    assert [name for name in names if not (folder / name).is_file()] == []
     loaded = re.compile(r'<(?:script|img|iframe)[^>]* src="(?:https?:)?//|<link[^>]* href="(?:https?:)?//')
-    assert [it for it in folder.rglob("*.html") if loaded.search(it.read_text())] == []
+    assert [path for path in folder.rglob("*.html") if loaded.search(path.read_text())] == []
     assert "percentil" in (folder / "searchindex.js").read_text()
     assert "ttm-tools walks" in (folder / "docs/reference/help.html").read_text()
     found = of.output(sys.executable, of.folder / "bin/ttm-tools", "docs", "--path").strip()
@@ -133,7 +133,7 @@ def tools_of_the_folder_run(of: Packages) -> None:
 
 def control_says_what_is_needed(of: Packages) -> None:
     """the package depends on the libraries of C alone, and recommends what the tools stand on"""
-    depends, recommends = (of.output("dpkg-deb", "--field", of.deb, it) for it in ("Depends", "Recommends"))
+    depends, recommends = (of.output("dpkg-deb", "--field", of.deb, name) for name in ("Depends", "Recommends"))
     assert re.fullmatch(r"libc6( \(>= 2\.\d+\))?(, libgcc-s1)?\n", depends), depends
     assert "python3-numpy" in recommends and "python3-pandas" in recommends, recommends
 
@@ -143,7 +143,11 @@ def manuals_have_every_option(of: Packages) -> None:
     programs: tuple[list[object], ...] = ([of.program], [sys.executable, of.folder / "bin/ttm-tools"])
     for name, program in zip(COMMANDS, programs):
         page = of.share(f"man/man1/{name}.1.gz").replace("\\-", "-")
-        missing = [it for it in re.findall(r"(?<![\w-])--[a-z][\w-]*", of.output(*program, "--help")) if it not in page]
+        missing = [
+            match
+            for match in re.findall(r"(?<![\w-])--[a-z][\w-]*", of.output(*program, "--help"))
+            if match not in page
+        ]
         assert not missing, f"{name}.1: {missing}"
 
 
@@ -173,16 +177,16 @@ def words_are_completed(of: Packages) -> None:
         (("ttm-tools", "com"), "compare"),
         (("ttm-tools", "walks", "--lim"), "--limit"),
     ]
-    for words, found in wanted:
-        function = "_" + words[0].replace("-", "_")
+    for typed, found in wanted:
+        function = "_" + typed[0].replace("-", "_")
         script = f"cd {ROOT}; {BASH}"
-        told = of.output("bash", "--norc", "-c", script, "bash", completions / words[0], function, *words)
-        assert told == found + "\n", f"{words}: {told}"
+        completed = of.output("bash", "--norc", "-c", script, "bash", completions / typed[0], function, *typed)
+        assert completed == found + "\n", f"{typed}: {completed}"
 
 
 def wheel_says_what_an_index_asks(of: Packages) -> None:
     """twine takes the wheel's metadata, and its name says the least glibc that the program needs"""
-    minors = [int(it) for it in re.findall(rb"GLIBC_2\.(\d+)", of.program.read_bytes())]
+    minors = [int(match) for match in re.findall(rb"GLIBC_2\.(\d+)", of.program.read_bytes())]
     assert f"-py3-none-manylinux_2_{max([17, *minors])}_x86_64.whl" in of.wheel.name, of.wheel.name
     if not shutil.which("twine"):
         raise Skipped("no twine on this machine")
@@ -212,7 +216,7 @@ def installed_by_dpkg(of: Packages) -> None:
 
 def installed_in_debian(of: Packages) -> None:
     """installed in a Debian 12 of its own, it gives the worked example, and is removed whole"""
-    if not any(shutil.which(it, path=PATH) for it in ("mmdebstrap", "debootstrap")):
+    if not any(shutil.which(name, path=PATH) for name in ("mmdebstrap", "debootstrap")):
         raise Skipped("neither mmdebstrap nor debootstrap on this machine")
     of.install("debian")
 
@@ -243,8 +247,8 @@ CHECKS: tuple[Callable[[Packages], None], ...] = (
 
 def results(program: Path) -> Iterator[str]:
     """How each check ended: passed, failed or skipped."""
-    with tempfile.TemporaryDirectory(prefix="ttm-packaging-") as made:
-        of = Packages(program, Path(made))
+    with tempfile.TemporaryDirectory(prefix="ttm-packaging-") as folder:
+        of = Packages(program, Path(folder))
         for check in CHECKS:
             try:
                 check(of)
@@ -261,7 +265,7 @@ def lacking() -> list[str]:
     """The Debian packages of the modules that Python lacks."""
     script = "import importlib.util, sys; print(*[it for it in sys.argv[1:] if importlib.util.find_spec(it) is None])"
     found = subprocess.run([PYTHON, "-c", script, *MODULES], capture_output=True, text=True)
-    return [MODULES[it] for it in found.stdout.split()]
+    return [MODULES[text] for text in found.stdout.split()]
 
 
 def main() -> int:
@@ -273,7 +277,7 @@ def main() -> int:
     except (AssertionError, OSError, subprocess.SubprocessError) as fault:
         print(f"wrong: both packages are made: {fault}", flush=True)
         ended = ["failed"]
-    passed, failed, skipped = (ended.count(it) for it in ("passed", "failed", "skipped"))
+    passed, failed, skipped = (ended.count(name) for name in ("passed", "failed", "skipped"))
     print(f"{passed} passed, {failed} failed" + (f", {skipped} skipped" if skipped else ""))
     return 1 if failed else 0
 

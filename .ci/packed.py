@@ -26,13 +26,13 @@ class Packages:
         self.output("tar", "--extract", "--file", self.tar, "--directory", self.folder, "--strip-components=1")
 
     @staticmethod
-    def output(*words: object, **more: str) -> str:
+    def output(*command: object, **more: str) -> str:
         """What a command prints; its failure is a fault."""
         ran = subprocess.run(
-            list(map(str, words)), env={**os.environ, **more}, capture_output=True, text=True, timeout=SECONDS
+            list(map(str, command)), env={**os.environ, **more}, capture_output=True, text=True, timeout=SECONDS
         )
         if ran.returncode:
-            raise AssertionError(f"{words[0]}: status {ran.returncode}: {ran.stderr}")
+            raise AssertionError(f"{command[0]}: status {ran.returncode}: {ran.stderr}")
         return ran.stdout
 
     def made(self, name: str) -> tuple[Path, Path, Path]:

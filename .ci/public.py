@@ -34,11 +34,11 @@ def functions_of(root: Path, crate: str) -> Iterator[tuple[str, str]]:
         if file.suffix != ".rt" or file.name in repository.test_modules(folder) or module == LAWS:
             continue
         owner, of_trait = "", False
-        lines = iter([it for it in file.read_text().splitlines() if not it.strip().startswith("//")])
+        lines = iter([line for line in file.read_text().splitlines() if not line.strip().startswith("//")])
         for line in lines:
-            made = IMPL.match(line)
-            if line == "}" or made:
-                owner, of_trait = (made[2], bool(made[1])) if made else ("", False)
+            implemented = IMPL.match(line)
+            if line == "}" or implemented:
+                owner, of_trait = (implemented[2], bool(implemented[1])) if implemented else ("", False)
             found = FUNCTION.match(line)
             if not found:
                 continue
@@ -50,15 +50,17 @@ def functions_of(root: Path, crate: str) -> Iterator[tuple[str, str]]:
 
 def shown_by(folder: Path) -> set[str]:
     """The names that a crate's root shows to other crates."""
-    texts = [(folder / it).read_text() for it in ("lib.rt", "main.rt") if (folder / it).is_file()]
-    used = [re.findall(r"\w+", it) for text in texts for it in re.findall(r"(?m)^pub use ([^;]+);", text)]
-    return {name for names in used for name in names}.union(*(re.findall(r"(?m)^pub fn (\w+)", it) for it in texts))
+    texts = [(folder / name).read_text() for name in ("lib.rt", "main.rt") if (folder / name).is_file()]
+    used = [re.findall(r"\w+", match) for text in texts for match in re.findall(r"(?m)^pub use ([^;]+);", text)]
+    return {name for names in used for name in names}.union(*(re.findall(r"(?m)^pub fn (\w+)", text) for text in texts))
 
 
 def named_by_tests(root: Path, crates: repository.Crates) -> set[str]:
     """The names in the first lines of the doc comments of all tests."""
-    files = [it for crate in crates for it in repository.files_of(root / "crates" / crate / "src")]
-    firsts = [it.split("\n")[0] for file in files if file.suffix == ".rt" for it in TEST.findall(file.read_text())]
+    files = [path for crate in crates for path in repository.files_of(root / "crates" / crate / "src")]
+    firsts = [
+        match.split("\n")[0] for file in files if file.suffix == ".rt" for match in TEST.findall(file.read_text())
+    ]
     return {name for line in firsts for name in NAME.findall(line)}
 
 
@@ -79,7 +81,7 @@ def judged(root: Path) -> Iterator[tuple[str, bool]]:
         if WITHOUT.search(crate):
             continue
         paths = repository.edits_of(root, crate) + repository.edits_of(root, crate, "planted")
-        edits = {tuple(it.name.split(".")[:2]) for it in paths}
+        edits = {tuple(path.name.split(".")[:2]) for path in paths}
         for path in paths:
             yield f"{crate}: what {path.parent.name}/{path.name} replaces isn't there once", can_be_planted(path)
         for module, name in functions_of(root, crate):

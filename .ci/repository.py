@@ -22,15 +22,15 @@ Crates = dict[str, Crate]
 
 def name_in(line: str) -> str:
     """The crate that a line of crates.txt lists; of a comment or an empty line none."""
-    words = line.split("#")[0].split(":")[0].split()
-    return words[0] if words else ""
+    names = line.split("#")[0].split(":")[0].split()
+    return names[0] if names else ""
 
 
 def crates_of(root: Path) -> Crates:
     listed = (root / "crates.txt").read_text().splitlines()
     lines = {name_in(line): line for line in listed if name_in(line)}
     return {
-        name: Crate(name, line, tuple(it for it in line.split(":")[1].split() if it in lines))
+        name: Crate(name, line, tuple(text for text in line.split(":")[1].split() if text in lines))
         for name, line in lines.items()
     }
 
@@ -52,17 +52,17 @@ def edits_of(root: Path, name: str, folder: str = "must-fail") -> list[Path]:
 
 
 def files_of(folder: Path) -> list[Path]:
-    return sorted(it for it in folder.rglob("*") if it.is_file()) if folder.is_dir() else []
+    return sorted(path for path in folder.rglob("*") if path.is_file()) if folder.is_dir() else []
 
 
 def begins_a_body(line: str, indent: str) -> bool:
-    heads = tuple(indent + it for it in (")", "pub", "fn", "const", "struct", "enum"))
+    heads = tuple(indent + name for name in (")", "pub", "fn", "const", "struct", "enum"))
     return line.endswith(("{}", ";")) or line == indent + "{" or line.startswith(heads) and line.endswith(" {")
 
 
 def head_of(line: str, lines: Iterator[str], indent: str) -> list[str]:
     """An item's lines up to that with which its body begins: a function's signature and clauses. Those of a clause may
-    end as a body begins, so they are told by its braces.
+    end as a body begins, so they are found by its braces.
     """
     head, depth = [line], 0
     while depth or not begins_a_body(line, indent):
@@ -86,7 +86,7 @@ def header_of(line: str, lines: Iterator[str], indent: str) -> list[str]:
 
 def test_modules(folder: Path) -> set[str]:
     """The files of a crate that are read for its tests alone."""
-    root = "\n".join(it.read_text() for it in [folder / "lib.rt", folder / "main.rt"] if it.is_file())
+    root = "\n".join(item.read_text() for item in [folder / "lib.rt", folder / "main.rt"] if item.is_file())
     return {f"{name}.rt" for name in re.findall(r"#\[cfg\(test\)\]\s*(?:pub )?mod (\w+);", root)}
 
 

@@ -6,7 +6,6 @@ Most run over a stand-in for `rt`; the last goes through the toolchain itself.
 
 from __future__ import annotations
 
-import subprocess
 import sys
 from pathlib import Path
 
@@ -15,7 +14,7 @@ import pytest
 sys.path.insert(0, str(Path(__file__).resolve().parent))
 import edits  # noqa: E402
 import gate  # noqa: E402
-import names  # noqa: E402
+from small_repository import LOWER, Repository  # noqa: E402
 
 # what stands in for `rt`: it refuses each edit that adds another number, and notes what it was asked
 STAND_IN = """#!/bin/sh
@@ -43,19 +42,6 @@ check)
 esac
 """
 
-LOWER = """//! Counts.
-#![tactic(auto)]
-
-ghost use Rattle.std.specs.Prelude.{◌≡◌, ◌+◌, ◌<◌};
-
-/// One more.
-pub fn bump(count: u32) -> u32
-    requires { count < 1000 }
-    ensures { result ≡ count + 1 }
-{
-    count + 1
-}
-"""
 TWICE = (
     LOWER
     + """
@@ -70,30 +56,11 @@ pub fn twice(count: u32) -> u32
 )
 TESTED = LOWER + "\n#[cfg(test)]\nmod tests {\n    #[test]\n    fn counts() {}\n}\n"
 
-TWO_MORE = "file: src/lib.rt\nold:     count + 1\nnew:     count + 2\n"
 PROVES = "file: src/lib.rt\nold:     count + 1\nnew:     1 + count\n"
 ONCE = "file: src/lib.rt\nold:     bump(bump(count))\nnew:     bump(count)\n"
 UNKNOWN_NAME = "file: src/lib.rt\nold:     count + 1\nnew:     counts + 1\n"
 UNREADABLE = "file: src/lib.rt\nold:     bump(bump(count))\nnew:     bump(bump(count)\n"
 SCRIPT = "import os, sys\nprint(f'{len(sys.argv)} passed, 0 failed, 2 skipped')\n"
-
-
-class Repository:
-    """A small repository, with a bug planted in each crate."""
-
-    def __init__(self, root: Path, crates: dict[str, str]) -> None:
-        self.root = root
-        self.write("crates.txt", "".join(f"{name}: {below}".rstrip() + "\n" for name, below in crates.items()))
-        self.write("HANDLES", "Handles allowed: none.\n")
-        for name in crates:
-            self.write(f"crates/{name}/src/lib.rt", LOWER)
-            self.write(f"crates/{name}/must-fail/lib.bump.two_more.edit", TWO_MORE)
-            self.write(f"crates/{name}/planted/lib.bump.three_more.edit", TWO_MORE.replace("+ 2", "+ 3"))
-        subprocess.run(["git", "init", "-q"], cwd=root, check=True)
-
-    def write(self, name: str, text: str) -> None:
-        (self.root / name).parent.mkdir(parents=True, exist_ok=True)
-        (self.root / name).write_text(text)
 
 
 class Run:
@@ -118,8 +85,8 @@ class Gate:
         (self.folder / "bin/rt").write_text(text)
         (self.folder / "bin/rt").chmod(0o755)
 
-    def run(self, *words: str) -> Run:
-        status = gate.run(self.repository.root, list(words))
+    def run(self, *arguments: str) -> Run:
+        status = gate.run(self.repository.root, list(arguments))
         return Run(status, self.capsys.readouterr().out.splitlines(), self.folder / "log")
 
 
@@ -208,90 +175,6 @@ def test_a_planted_bug_that_proves_fails(small: Gate) -> None:
     assert "one/lib.bump.turned_round.edit: NOT REFUSED: the crate is still proved with it" in run.lines
 
 
-README = (
-    "# x\n\n## What is proved\n\n1. **Sums.** Added: `lower::bump`, `gone`.\n2. **Hopes.** `lower::bare`.\n\n## Else\n"
-)
-TABLE = (
-    "\n## Where is it decided\n\n| Crate | What | Words | On the way | Beside |\n|---|---|---|---|---|\n"
-    "| `lower`: counts | more | Sums, Hopes | `bump`, `Count::up` | `lost`, `bare` |\n"
-    "| | less | `src/lib.rt` | `bare`, `Count::down`, `MOST` | `Other::up` |\n\n## Else\n"
-)
-COUNT = """
-pub const MOST: u32 = 9;
-pub struct Count {
-    number: u32,
-}
-impl Count {
-    // calls bare()
-    pub fn up(self) -> u32
-        ensures { result ≡ bare() }
-    {
-        let more = self.number;
-        bump(more)
-    }
-    pub fn down(self) -> u32 {
-        self.number
-    }
-}
-pub fn bare() {
-}
-"""
-MAIN = "fn main() {\n    let count = lower::make();\n    count.up();\n}\nfn other() {\n    lower::bare();\n}\n"
-
-
-def wrong_names(root: Path, source: str) -> list[str]:
-    """What is wrong with the pages above, where the crate below the program has this source."""
-    repository = Repository(root, {"lower": "", "ttm": "lower"})
-    repository.write("crates/lower/src/lib.rt", LOWER + source)
-    repository.write("crates/lower/specs/Sums.antt", "")
-    repository.write("crates/ttm/src/main.rt", MAIN)
-    repository.write("README.md", README)
-    repository.write("docs/explanation/architecture.md", TABLE)
-    repository.write(
-        "docs/explanation/definitions.md", "**Sum.** What is added. [lower/Sums, Adds; seen in ttm/Seen]\n"
-    )
-    return [why for why, right in names.judged(root) if not right]
-
-
-def test_a_name_that_is_not_there_or_has_no_contract_or_is_not_reached_is_reported(tmp_path: Path) -> None:
-    wrong = wrong_names(tmp_path / "r", COUNT + "pub fn make() -> Count {\n    Count { number: 1 }\n}\n")
-    assert sorted(wrong) == sorted(
-        [
-            "README: 'Hopes' names no function with a contract",
-            "README: lower has no gone",
-            "architecture.md: lower has no lost",
-            "architecture.md: lower has no Other::up",
-            "architecture.md: ttm doesn't come to lower's bare",
-            "architecture.md: ttm doesn't come to lower's Count::down",
-            "architecture.md: ttm doesn't come to lower's MOST",
-            "architecture.md: lower has no spec Hopes",
-            "definitions.md: lower has no spec Adds",
-            "definitions.md: ttm has no spec Seen",
-            "lower: no test and no planted bug names bare",
-            "lower: no test and no planted bug names make",
-        ]
-    )
-
-
-def test_modules_and_names_of_the_tools_that_are_not_there_are_reported(tmp_path: Path) -> None:
-    (tmp_path / names.TOOLS).mkdir(parents=True)
-    (tmp_path / names.TOOLS / "days.py").write_text(
-        "MOST: int = 3\nLEAST = 1\n\n\ndef day_of() -> int:\n    return 1\n"
-    )
-    rows = "| days | `days.py` | `MOST`, `LEAST`, `day_of`, `day` |\n| others | `lost.py` | |\n"
-    judged = list(names.judged_tools(tmp_path, f"\n## The tools\n\n{rows}\n## Folders\n\n| a | `b.py` | `c` |\n"))
-    wrong = [why for why, right in judged if not right]
-    assert (len(judged), len(wrong)) == (6, 2)
-    assert wrong == ["architecture.md: `days.py` has no day", f"architecture.md: no module {names.TOOLS}/lost.py"]
-
-
-def test_a_method_of_a_type_that_is_not_met_is_not_reached(tmp_path: Path) -> None:
-    wrong = wrong_names(tmp_path / "r", COUNT + "pub fn make() -> u32 {\n    MOST\n}\n")
-    assert "architecture.md: ttm doesn't come to lower's Count::up" in wrong
-    assert "architecture.md: ttm doesn't come to lower's bump" in wrong
-    assert "architecture.md: ttm doesn't come to lower's MOST" not in wrong
-
-
 def test_the_prover_refuses_what_it_should(
     tmp_path: Path, monkeypatch: pytest.MonkeyPatch, capsys: pytest.CaptureFixture[str]
 ) -> None:
@@ -311,10 +194,10 @@ def test_the_prover_refuses_what_it_should(
     together: list[tuple[set[str], set[str]]] = []
     was = edits.Trial.together
 
-    def noted(trial: edits.Trial, asked: list[edits.Edit]) -> list[edits.Edit]:
-        chosen, _ = edits.choose(asked, trial.texts)
-        refused = was(trial, asked)
-        together.append(({it.name for it in chosen}, {it.name for it in refused}))
+    def noted(trial: edits.Trial, edits_asked: list[edits.Edit]) -> list[edits.Edit]:
+        chosen, _ = edits.choose(edits_asked, trial.texts)
+        refused = was(trial, edits_asked)
+        together.append(({item.name for item in chosen}, {item.name for item in refused}))
         return refused
 
     monkeypatch.setattr(edits.Trial, "together", noted)
@@ -326,6 +209,6 @@ def test_the_prover_refuses_what_it_should(
     for name in ("bump.another_name", "twice.half_a_call"):
         start = f"counts/lib.{name}.edit: NOT REFUSED: the prover can't read it"
         assert any(line.startswith(start) for line in lines)
-    # one check tells of two functions which of their bugs is refused
+    # one check says of two functions which of their bugs is refused
     assert ({"lib.bump.turned_round.edit", "lib.twice.once.edit"}, {"lib.twice.once.edit"}) in together
     assert "wrong/lib.bump.three_more.edit: NOT REFUSED: the crate isn't proved without it" in lines

@@ -7,8 +7,9 @@
 
 `black`, `flake8` and `mypy --strict` look at the folders below, and `pytest` runs the tests, by as many processes as
 there are processors. What is missing is installed from Debian where that can be had, in five minutes at
-most; a linter, and a test that needs a package, counts as skipped where it can't. Each linter counts as one. The last
-line is 'N passed, M failed, K skipped'.
+most; a linter, and a test that needs a package, counts as skipped where it can't. Each linter counts as one. Where one
+to three tests of a folder fail, each is named and run again by itself, since a browser or a process can be late beside
+others; it fails if it fails again. The last line is 'N passed, M failed, K skipped'.
 """
 
 import os
@@ -25,6 +26,8 @@ ROOT = Path(__file__).resolve().parent.parent
 PYTHON = "/usr/bin/python3"  # that of Debian's packages
 CHECKED = ["tools", "bench", ".ci", "packaging", "tests"]  # folders that pass all linters
 OF_PROGRAM = "tests/program"
+MOST_AGAIN = 3  # failed tests of a folder that are run again
+FAILED = re.compile(r"^FAILED ([^\s\[]+(?:\[.*?\])?)(?: - .*)?$", re.MULTILINE)
 COMMANDS = {"black": "black", "flake8": "flake8", "mypy": "mypy"}
 PACKAGES = {
     "numpy": "python3-numpy",
@@ -59,8 +62,8 @@ class Counts:
 
 def lacking() -> list[str]:
     """The Debian packages of what isn't there, but for the browser's."""
-    made = "import importlib.util, sys; print(*[it for it in sys.argv[1:] if importlib.util.find_spec(it) is None])"
-    found = subprocess.run([PYTHON, "-c", made, *PACKAGES], capture_output=True, text=True)
+    script = "import importlib.util, sys; print(*[it for it in sys.argv[1:] if importlib.util.find_spec(it) is None])"
+    found = subprocess.run([PYTHON, "-c", script, *PACKAGES], capture_output=True, text=True)
     modules = [PACKAGES[name] for name in found.stdout.split()] if found.returncode == 0 else list(PACKAGES.values())
     commands = [package for command, package in COMMANDS.items() if shutil.which(command) is None]
     file, package = LEAFLET
@@ -73,12 +76,12 @@ def lacking_browser() -> list[str]:
     return [package for name, package in BROWSER.items() if not found[name]]
 
 
-def run(words: list[str], folder: Path) -> tuple[int, str]:
+def run(command: list[str], folder: Path) -> tuple[int, str]:
     """Runs a command, prints what it says, and gives its status and what it said."""
-    path = ":".join(str(ROOT / it) for it in [*CHECKED, OF_PROGRAM])
+    path = ":".join(str(ROOT / item) for item in [*CHECKED, OF_PROGRAM])
     environment = {**os.environ, "PYTHONDONTWRITEBYTECODE": "1", "MYPYPATH": path}
     ran = subprocess.run(
-        words, cwd=folder, env=environment, stdout=subprocess.PIPE, stderr=subprocess.STDOUT, text=True
+        command, cwd=folder, env=environment, stdout=subprocess.PIPE, stderr=subprocess.STDOUT, text=True
     )
     print(ran.stdout, end="", flush=True)
     return ran.returncode, ran.stdout
@@ -104,12 +107,12 @@ def lint(counts: Counts) -> None:
         ("mypy", [*mypy, *packages()]),
         ("mypy", [*mypy, *python_files([OF_PROGRAM])]),
     ]
-    for name, words in linters:
+    for name, command in linters:
         if shutil.which(name) is None:
             print(f"1 check is skipped: {name} isn't installed (Debian: apt-get install {COMMANDS[name]})")
             counts.add(0, 0, 1)
             continue
-        status, _ = run(words, ROOT)
+        status, _ = run(command, ROOT)
         print(f"{name}: {'passed' if status == 0 else 'FAILED'}", flush=True)
         counts.add(status == 0, status != 0, 0)
 
@@ -118,7 +121,7 @@ def packages() -> list[str]:
     """What mypy looks at: the package, its tests, and the files of the other folders; by itself tests/program, whose
     `conftest` bears the name of another.
     """
-    return ["tools/src", "tools/tests", *python_files([it for it in CHECKED if it not in ("tools", "tests")])]
+    return ["tools/src", "tools/tests", *python_files([item for item in CHECKED if item not in ("tools", "tests")])]
 
 
 def there(*modules: str) -> bool:
@@ -132,33 +135,43 @@ def test(counts: Counts, program: str | None, without_browser: bool) -> None:
         print("the tests of the tools are skipped: without python3-pytest and python3-numpy")
         counts.add(0, 0, 1)
         return
-    there("matplotlib.font_manager")  # lists the fonts, once for all processes: where that is slow, it is told
-    common = [PYTHON, "-m", "pytest", "-rs", "-p", "no:cacheprovider"]
+    there("matplotlib.font_manager")  # lists the fonts, once for all processes: where that is slow, it is reported
+    common = [PYTHON, "-m", "pytest", "-rfs", "-p", "no:cacheprovider"]
     at_once = ["-n", str(len(os.sched_getaffinity(0))), "--dist", "loadgroup"] if there("xdist") else []
     chosen = ["-m", "program", f"--program={Path(program).resolve()}"] if program else ["-m", "not program"]
-    add_tests(counts, [*common, *at_once, *chosen], "tools")
+    add_tests(counts, [*common, *chosen], at_once, "tools")
     if program:
-        add_tests(counts, [*common, *at_once, *chosen[2:]], OF_PROGRAM)
+        add_tests(counts, [*common, *chosen[2:]], at_once, OF_PROGRAM)
     else:
-        add_tests(counts, common, "bench")
+        add_tests(counts, common, [], "bench")
         if not without_browser:
-            add_tests(counts, common, ".ci")
+            add_tests(counts, common, [], ".ci")
 
 
-def add_tests(counts: Counts, words: list[str], folder: str) -> None:
-    """Runs the tests of a folder, and counts what their last line says."""
-    status, said = run(words, ROOT / folder)
+def add_tests(counts: Counts, command: list[str], at_once: list[str], folder: str) -> None:
+    """Runs the tests of a folder, and counts what they say. Where few fail, these are run again by themselves."""
+    status, said = run([*command, *at_once], ROOT / folder)
+    passed, failed, skipped = counted(status, said)
+    tests = FAILED.findall(said)
+    if 1 <= failed == len(tests) <= MOST_AGAIN:
+        print(f"run again by themselves: {', '.join(tests)}", flush=True)
+        again, failed, _ = counted(*run([*command, *tests], ROOT / folder))
+        passed += again
+    counts.add(passed, failed, skipped)
+
+
+def counted(status: int, said: str) -> tuple[int, int, int]:
+    """How many tests passed, failed and were skipped, by the last line of pytest."""
     last = said.splitlines()[-1] if said else ""
-    told = re.findall(r"(\d+) (passed|failed|error|errors|skipped)\b", last)
-    found = {word: int(number) for number, word in told}
+    found = {word: int(number) for number, word in re.findall(r"(\d+) (passed|failed|error|errors|skipped)\b", last)}
     failed = found.get("failed", 0) + found.get("error", 0) + found.get("errors", 0)
-    counts.add(found.get("passed", 0), max(failed, 1 if status else 0), found.get("skipped", 0))
+    return found.get("passed", 0), max(failed, 1 if status else 0), found.get("skipped", 0)
 
 
 def main() -> int:
-    asked = sys.argv[1] if len(sys.argv) > 1 else None
-    without_browser = asked == "--no-browser"
-    program = None if without_browser else asked
+    argument = sys.argv[1] if len(sys.argv) > 1 else None
+    without_browser = argument == "--no-browser"
+    program = None if without_browser else argument
     install(lacking(), [] if without_browser else lacking_browser())
     missing, counts = lacking() + lacking_browser(), Counts()
     if missing:

@@ -25,7 +25,7 @@ import tempfile
 import time
 from dataclasses import dataclass, replace
 from pathlib import Path
-from typing import Callable, Iterator, Optional, Sequence
+from typing import Callable, Iterator, Sequence
 
 from goals import CELLS, DURATIONS, FROM_ON, Figure, printed
 from shared import DATE, Study, built, first_origins, parser_of, print_head, print_row, there, write_origins
@@ -64,25 +64,25 @@ class Setting:
             write_origins(path, [stop])
         return [paths[stop] for stop in stops]
 
-    def words(self, size: str, origins: str) -> list[str]:
+    def arguments(self, size: str, origins: str) -> list[str]:
         """The words of a run."""
-        return [self.program, *Study().words(self.folders[size], origins, 1)]
+        return [self.program, *Study().arguments(self.folders[size], origins, 1)]
 
     @contextlib.contextmanager
     def conversation(self, size: str, origins: str) -> Iterator[Conversation]:
         """A conversation, whose own origins are those of a file."""
-        made = Conversation([*self.words(size, origins), "--ask"])
+        conversation = Conversation([*self.arguments(size, origins), "--ask"])
         try:
-            yield made
+            yield conversation
         finally:
-            made.close()
+            conversation.close()
 
 
 def ask(conversation: Conversation, path: str, *more: str) -> Answer:
     """The answer for the origin of a file; ends the script where it is a fault."""
     answer = conversation.ask(["--origins", path, *more])
     if answer.status != 0:
-        sys.exit("status %d: %s" % (answer.status, answer.body.decode()))
+        sys.exit(f"status {answer.status}: {answer.body.decode()}")
     return answer
 
 
@@ -107,7 +107,7 @@ def answers(setting: Setting, size: str) -> Iterator[Figure]:
             row = min(row, (figures[DURATIONS] + figures[CELLS]) / 1000 / len(paths))
             millis = [timed(lambda: ask(conversation, path)) for path in paths]
             least = [min(pair) for pair in zip(least, millis)]
-    what = "an answer, ms, where durations and cells take %.1f" % row
+    what = f"an answer, ms, where durations and cells take {row:.1f}"
     yield Figure(what, size, sum(least) / len(least), OF_ROW * row + SIZES[size], False)
 
 
@@ -122,11 +122,11 @@ def first_answer(setting: Setting, size: str, path: str) -> float:
 def first(setting: Setting, size: str) -> Iterator[Figure]:
     """The first answer, over a run."""
     path = setting.drawn(size, 1)[0]
-    words, runs, spans = setting.words(size, path), list[float](), list[float]()
+    arguments, runs, spans = setting.arguments(size, path), list[float](), list[float]()
     for _ in range(setting.rounds):
-        runs.append(timed(lambda: subprocess.run(words, stdout=subprocess.PIPE, check=True)))
+        runs.append(timed(lambda: subprocess.run(arguments, stdout=subprocess.PIPE, check=True)))
         spans.append(first_answer(setting, size, path))
-    yield Figure("the first answer, over a run of %.0f ms" % min(runs), size, min(spans) / min(runs), 1.0, False)
+    yield Figure(f"the first answer, over a run of {min(runs):.0f} ms", size, min(spans) / min(runs), 1.0, False)
 
 
 def many(setting: Setting, size: str) -> Iterator[Figure]:
@@ -160,7 +160,7 @@ def memory(setting: Setting, size: str) -> Iterator[Figure]:
             if number + 1 == FIRST:
                 held = resident(conversation.process.pid)
         grown = resident(conversation.process.pid) / held
-    what = "memory after %s questions, over %d MB after %d" % (f"{setting.questions:,}", held // 1000, FIRST)
+    what = f"memory after {setting.questions:,} questions, over {held // 1000} MB after {FIRST}"
     yield Figure(what, size, grown, GROWTH, False)
 
 
@@ -172,7 +172,7 @@ def network(setting: Setting, size: str) -> Iterator[Figure]:
     with Network(folder, DATE, footpaths=walks, back=0, ahead=0, program=setting.program) as kept:
         for stop in stops:
             millis.append(timed(lambda: kept.matrix(("07:00", "08:59"), origins=[stop]).times("base")))
-    what = "the slowest of nine questions of `Network`, s, after one of %.2f" % (millis[0] / 1000)
+    what = f"the slowest of nine questions of `Network`, s, after one of {millis[0] / 1000:.2f}"
     yield Figure(what, size, max(millis[1:]) / 1000, SECONDS, False)
 
 
@@ -185,7 +185,7 @@ PARTS: dict[str, Callable[[Setting, str], Iterator[Figure]]] = {
 }
 
 
-def setting_of(words: Optional[Sequence[str]] = None) -> tuple[Setting, list[str]]:
+def setting_of(arguments: Sequence[str] | None = None) -> tuple[Setting, list[str]]:
     """What the arguments ask for, and the parts."""
     parser = parser_of(__doc__)
     for size in SIZES:
@@ -195,10 +195,10 @@ def setting_of(words: Optional[Sequence[str]] = None) -> tuple[Setting, list[str
     parser.add_argument("--parts", default=",".join(PARTS), help="which parts, divided by commas (default: all)")
     for name, usual in (("rounds", 5), ("origins", 20), ("questions", 100_000)):
         parser.add_argument(f"--{name}", metavar="N", type=int, default=usual, help=f"(default: {usual})")
-    given = parser.parse_args(words)
+    given = parser.parse_args(arguments)
     parts = given.parts.split(",")
     if unknown := [name for name in parts if name not in PARTS]:
-        parser.error("no such part: %s" % ", ".join(unknown))
+        parser.error(f"no such part: {', '.join(unknown)}")
     folders = {size: getattr(given, size) for size in SIZES if getattr(given, size)}
     measure = given.measure or (built("measure") if "answers" in parts else "")
     program = given.program or built("ttm")

@@ -22,38 +22,40 @@ EIGHT = (50, 55, 60, 65, 70, 75, 85, 95)
 FEW = 10
 
 
-def study_of(asked: argparse.Namespace, shares: Sequence[int]) -> Study:
+def study_of(args: argparse.Namespace, shares: Sequence[int]) -> Study:
     """The study that is asked for, at these shares."""
-    return Study(minutes=asked.minutes, trips=asked.trips, shares=shares)
+    return Study(minutes=args.minutes, trips=args.trips, shares=shares)
 
 
-def all_stops(program: str, folder: str, place: str, asked: argparse.Namespace) -> list[str]:
+def all_stops(program: str, folder: str, place: str, args: argparse.Namespace) -> list[str]:
     """The cells of a feed whose every stop is an origin, with access alone."""
     stops = stops_of(os.path.join(folder, "stops.txt"))
     origins, none = os.path.join(place, "origins.csv"), os.path.join(place, "none.csv")
     write_origins(origins, stops)
     write_origins(none, [])
-    words = study_of(asked, THREE).words(folder, origins, asked.workers)
+    arguments = study_of(args, THREE).arguments(folder, origins, args.workers)
     out = os.path.join(place, "matrix.csv")
-    ran = run_into([program, *words, "--destinations", none], out)
-    return [name_of(folder), "%d" % len(stops), "%.0f" % ran.seconds, "%d" % ran.peak, "%d" % os.path.getsize(out)]
+    ran = run_into([program, *arguments, "--destinations", none], out)
+    return [name_of(folder), f"{len(stops)}", f"{ran.seconds:.0f}", f"{ran.peak}", f"{os.path.getsize(out)}"]
 
 
-def some_origins(program: str, folder: str, place: str, asked: argparse.Namespace) -> list[str]:
+def some_origins(program: str, folder: str, place: str, args: argparse.Namespace) -> list[str]:
     """The cells of a feed: seconds without columns, with a few, and with all."""
     stops = stops_of(os.path.join(folder, "stops.txt"))
     origins = os.path.join(place, "origins.csv")
-    write_origins(origins, first_origins(folder, asked.origins))
-    words = [program, *study_of(asked, EIGHT).words(folder, origins, 1)]
+    write_origins(origins, first_origins(folder, args.origins))
+    arguments = [program, *study_of(args, EIGHT).arguments(folder, origins, 1)]
     tried: list[list[str]] = []
     for count in (0, FEW):
-        path = os.path.join(place, "%d.csv" % count)
+        path = os.path.join(place, f"{count}.csv")
         write_origins(path, stops[:count])
-        tried.append([*words, "--destinations", path])
-    tried.append(words)
-    runs = [[run_into(it, os.path.join(place, "matrix.csv")).seconds for it in tried] for _ in range(asked.runs)]
-    least = [min(run[it] for run in runs) for it in range(len(tried))]
-    return [name_of(folder), "%d" % asked.origins] + ["%.2f" % it for it in least] + ["%.2f" % (least[1] / least[0])]
+        tried.append([*arguments, "--destinations", path])
+    tried.append(arguments)
+    runs = [[run_into(item, os.path.join(place, "matrix.csv")).seconds for item in tried] for _ in range(args.runs)]
+    least = [min(run[number] for run in runs) for number in range(len(tried))]
+    return (
+        [name_of(folder), f"{args.origins}"] + [f"{seconds:.2f}" for seconds in least] + [f"{least[1] / least[0]:.2f}"]
+    )
 
 
 def main() -> None:
@@ -65,15 +67,15 @@ def main() -> None:
     parser.add_argument("--trips", type=int, default=4)
     parser.add_argument("--workers", type=int, default=len(os.sched_getaffinity(0)))
     parser.add_argument("folder", nargs="+")
-    asked = parser.parse_args()
+    args = parser.parse_args()
     program = built("ttm")
-    if asked.all:
+    if args.all:
         print_head(["feed", "origins", "s", "peak memory, MB", "bytes"])
     else:
         print_head(["feed", "origins", "access alone, s", "ten columns, s", "all columns, s", "ten beside none"])
-    for folder in asked.folder:
+    for folder in args.folder:
         with tempfile.TemporaryDirectory() as place:
-            print_row((all_stops if asked.all else some_origins)(program, folder, place, asked))
+            print_row((all_stops if args.all else some_origins)(program, folder, place, args))
 
 
 if __name__ == "__main__":

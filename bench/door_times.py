@@ -36,17 +36,17 @@ def write_points(feed: Path, path: Path, count: int) -> None:
         writer.writerows([f"p{n:05}", f"{a:.6f}", f"{b:.6f}", n % 90] for n, (a, b) in enumerate(chosen.tolist()))
 
 
-def timed(words: list[str]) -> str:
-    """Runs a command of the tools, and says what it took and told."""
+def timed(command: list[str]) -> str:
+    """Runs a command of the tools, and says what it took and reported."""
     began = time.monotonic()
-    with subprocess.Popen([PYTHON, str(TOOLS), *words], stderr=subprocess.PIPE, text=True) as run:
+    with subprocess.Popen([PYTHON, str(TOOLS), *command], stderr=subprocess.PIPE, text=True) as run:
         assert run.stderr is not None
-        told = run.stderr.read().strip().replace("\n", "; ")
+        errors = run.stderr.read().strip().replace("\n", "; ")
         _, status, used = os.wait4(run.pid, 0)
         run.returncode = os.waitstatus_to_exitcode(status)
     busy = used.ru_utime + used.ru_stime
     clock = f"{time.monotonic() - began:.1f} s, {busy:.1f} s of processor time, {used.ru_maxrss // 1000} MB"
-    return f"{words[0]}: {clock}, status {run.returncode}: {told}"
+    return f"{command[0]}: {clock}, status {run.returncode}: {errors}"
 
 
 def main() -> None:
@@ -55,19 +55,19 @@ def main() -> None:
     parser.add_argument("--size", default="metro")
     parser.add_argument("--nodes", type=int, default=600_000)
     parser.add_argument("--points", type=int, default=20_000)
-    asked = parser.parse_args()
-    feed, streets, points = (asked.folder / name for name in (asked.size, "streets.osm.pbf", "points.csv"))
-    asked.folder.mkdir(parents=True, exist_ok=True)
+    args = parser.parse_args()
+    feed, streets, points = (args.folder / name for name in (args.size, "streets.osm.pbf", "points.csv"))
+    args.folder.mkdir(parents=True, exist_ok=True)
     makers = [
-        (feed, ["feedgen.py", asked.size, str(feed)]),
-        (streets, ["streetgen.py", str(feed), str(streets), "--nodes", str(asked.nodes)]),
+        (feed, ["feedgen.py", args.size, str(feed)]),
+        (streets, ["streetgen.py", str(feed), str(streets), "--nodes", str(args.nodes)]),
     ]
-    for made, words in makers:
-        if not made.exists():
-            subprocess.run([PYTHON, str(Path(HERE) / words[0]), *words[1:]], check=True)
+    for product, command in makers:
+        if not product.exists():
+            subprocess.run([PYTHON, str(Path(HERE) / command[0]), *command[1:]], check=True)
     if not points.exists():
-        write_points(feed, points, asked.points)
-    with tempfile.TemporaryDirectory(prefix="ttm-doors-", dir=asked.folder) as room:
+        write_points(feed, points, args.points)
+    with tempfile.TemporaryDirectory(prefix="ttm-doors-", dir=args.folder) as room:
         ways: list[list[str]] = [[], ["--streets", str(streets)]]
         for more in ways:
             out = Path(room) / "doors"

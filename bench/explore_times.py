@@ -1,7 +1,7 @@
 #!/usr/bin/env python3
 """Measures `ttm-tools explore` in a real browser, headless Chromium, and prints a Markdown table: from a click to the
-painted picture, a slider that needs no new search, a hundred clicks a second, a change of the network, and the memory
-of its processes.
+painted picture, a slider that needs no new search, a hundred clicks a second, a change of the network, journeys, and
+the memory of its processes.
 
     explore_times.py --city FOLDER [--metropolis FOLDER] [--clicks N] [--program PATH]
 
@@ -14,8 +14,9 @@ import contextlib
 import statistics
 import subprocess
 import sys
+import threading
 from pathlib import Path
-from typing import Iterator, Optional
+from typing import Iterator
 
 ROOT = Path(__file__).resolve().parent.parent
 sys.path[:0] = [str(ROOT / "tools" / "tests"), str(ROOT / "tools" / "src")]
@@ -24,12 +25,23 @@ from browser import Browser  # noqa: E402
 
 GOALS = {"city": 200, "metropolis": 600}  # milliseconds from a click to the picture
 SLIDE, CHANGE, MEMORY = 50, 3000, 300  # milliseconds, milliseconds in the city, MB above a run
+CHANGES = {
+    "every five minutes": "{ do: 'headway', route: 1, every: 300, from: '06:00', to: '20:00' }",
+    "taken out": "{ do: 'remove_route', route: 2 }",
+    "faster": "{ do: 'speed', route: 3, factor: '0.80' }",
+}
 DATE = "20260504"
+JOURNEY = (  # to another place, from the question to the list of its legs
+    "const begin = performance.now(); journey.end = numbers.columns[Math.floor(head.columns / 2)]; await show();"
+    "while (journey.key === '' || journey.found === null) await new Promise((it) => setTimeout(it, 5));"
+    "return performance.now() - begin;"
+)
+LONGEST = 170  # seconds of an answer, on a busy machine
 PAINTED = "await new Promise((it) => requestAnimationFrame(() => requestAnimationFrame(it)));"
 TIMED = f"const begin = performance.now(); await %s; {PAINTED} return performance.now() - begin;"
 
 
-def words_of(size: str, folder: Path, program: Optional[str]) -> list[str]:
+def command_of(size: str, folder: Path, program: str | None) -> list[str]:
     """The arguments of the server."""
     days = ["--back", "0", "--ahead", "0"] if size == "metropolis" else []
     window = ["--from", "07:00", "--to", "08:59", "--footpaths", str(folder / "footpaths.csv")]
@@ -39,10 +51,10 @@ def words_of(size: str, folder: Path, program: Optional[str]) -> list[str]:
 
 
 @contextlib.contextmanager
-def served(words: list[str]) -> Iterator["tuple[subprocess.Popen[str], str]"]:
+def served(command: list[str]) -> Iterator["tuple[subprocess.Popen[str], str]"]:
     """A server while the block runs, and its address."""
     process = subprocess.Popen(
-        [sys.executable, str(ROOT / "tools" / "ttm-tools"), "explore", *words], stdout=-1, text=True
+        [sys.executable, str(ROOT / "tools" / "ttm-tools"), "explore", *command], stdout=-1, text=True
     )
     try:
         assert process.stdout is not None
@@ -56,30 +68,32 @@ def resident(process: int) -> int:
     """MB of a process and of those that it began, at most until now."""
     lines = Path(f"/proc/{process}/status").read_text().splitlines()
     own = next((int(line.split()[1]) for line in lines if line.startswith("VmHWM:")), 0) // 1000
-    children = Path(f"/proc/{process}/task/{process}/children").read_text().split()
-    return own + sum(resident(int(child)) for child in children)
+    return own + sum(map(resident, children(process)))
 
 
-def run_of(words: list[str], program: Optional[str]) -> int:
-    """MB that a run with the same network takes."""
-    feed, *options = words
-    kept = [word for word in options if word != "--no-browser"]
-    if "--program" in kept:
-        del kept[kept.index("--program") : kept.index("--program") + 2]
-    named = program or str(ROOT / "crates" / "ttm" / "out" / "ttm")
-    more = "--trips 4 --walk 600 --share 10,25,50,75,90 --within 1800 --workers 1 --tries 1".split()
-    origin = ["--origins", str(one_origin(Path(feed)))]
+def children(process: int) -> list[int]:
+    """The processes that a process has begun."""
+    tasks = Path(f"/proc/{process}/task").iterdir()
+    return [int(child) for task in tasks for child in (task / "children").read_text().split()]
+
+
+def run_like(server: int, feed: Path) -> int:
+    """MB that a run of the program takes with the words of the network that answers now, and those of a click."""
+    commands = [Path(f"/proc/{child}/cmdline").read_text().split("\0")[:-1] for child in children(server)]
+    kept = next([item for item in some if item not in ("--report", "--ask")] for some in commands if "--ask" in some)
+    for name, value in {"--from": "07:00", "--to": "08:59", "--share": "10,25,50,75,90"}.items():
+        kept[kept.index(name) + 1] = value
     ran = subprocess.run(
-        ["/usr/bin/time", "-f", "%M", named, "--feed", feed, *kept, *more, *origin], capture_output=True, text=True
+        ["/usr/bin/time", "-f", "%M", *kept, "--origins", str(one_origin(feed))], capture_output=True, text=True
     )
     return int(ran.stderr.split()[-1]) // 1000
 
 
 def one_origin(feed: Path) -> Path:
     """A file with the feed's first stop."""
-    made = feed / "one_origin.csv"
-    made.write_text("\n".join((feed / "origins.csv").read_text().splitlines()[:2]) + "\n")
-    return made
+    path = feed / "one_origin.csv"
+    path.write_text("\n".join((feed / "origins.csv").read_text().splitlines()[:2]) + "\n")
+    return path
 
 
 def clicks(browser: Browser, count: int) -> list[float]:
@@ -113,11 +127,12 @@ def slides(browser: Browser) -> list[float]:
     return [float(browser.awaited(TIMED % change)) for change in changes]
 
 
-def measure(size: str, folder: Path, count: int, program: Optional[str]) -> Iterator[str]:
+def measure(size: str, folder: Path, count: int, program: str | None) -> Iterator[str]:
     """The rows of a feed."""
-    words = words_of(size, folder, program)
-    with served(words) as (process, address):
+    command, goal = command_of(size, folder, program), CHANGE if size == "city" else None
+    with served(command) as (process, address):
         browser = Browser()
+        browser.driver.set_script_timeout(LONGEST)
         try:
             browser.visit(address)
             clicks(browser, 3)
@@ -129,16 +144,58 @@ def measure(size: str, folder: Path, count: int, program: Optional[str]) -> Iter
             yield row(size, "a hundred clicks a second: the last one to its picture, ms", millis, 2 * GOALS[size])
             yield row(size, "questions that they asked", questions, None)
             browser.awaited("await routes.read_;")
-            change = TIMED % "routes.add({ do: 'headway', route: 1, every: 300, from: '06:00', to: '20:00' })"
-            yield row(size, "change of a route, ms", browser.awaited(change), CHANGE if size == "city" else None)
-            yield row(size, "memory above a run, MB", resident(process.pid) - run_of(words, program), MEMORY)
+            yield row(size, "memory above a run, MB", resident(process.pid) - run_like(process.pid, folder), MEMORY)
+            for name, action in CHANGES.items():
+                yield row(size, f"a route {name}, ms", browser.awaited(TIMED % f"routes.add({action})"), goal)
+            yield row(size, "slider in a difference, median, ms", statistics.median(slides(browser)), SLIDE)
+            above = resident(process.pid) - run_like(process.pid, folder)
+            yield row(size, "memory above a run with the changes, MB", above, MEMORY)
+            yield from further(size, browser, process.pid, folder)
         finally:
             browser.close()
 
 
-def row(size: str, what: str, value: float, goal: Optional[float]) -> str:
-    told = "" if goal is None else f"at most {goal:,.0f}"
-    return f"| {size} | {what} | {value:,.0f} | {told} |"
+def further(size: str, browser: Browser, server: int, folder: Path) -> Iterator[str]:
+    """The rows of what isn't asked at each click: two networks at once, and journeys."""
+    with watched(server) as most:
+        browser.awaited("await routes.undo();")
+    yield row(size, "memory above a run while a network begins, MB", most[0] - run_like(server, folder), None)
+    for name, change in (("with changes", ""), ("as it is", "await routes.change({ actions: [], walk: live.walk });")):
+        script = f"{change} await set({{ place: numbers.columns[5] }}); {JOURNEY}"
+        yield row(size, f"a journey of the feed {name}, ms", browser.awaited(script), None)
+        above = resident(server) - run_like(server, folder)
+        yield row(size, f"memory above a run with journeys of the feed {name}, MB", above, None)
+
+
+@contextlib.contextmanager
+def watched(server: int) -> Iterator[list[int]]:
+    """While the block runs: MB of a process and of those that it began, at most, each page of memory once."""
+    most, is_over = [0], threading.Event()
+
+    def watch() -> None:
+        while not is_over.wait(0.05):
+            with contextlib.suppress(OSError):  # of a process that ends
+                most[0] = max(most[0], shared_out(server))
+
+    watcher = threading.Thread(target=watch)
+    watcher.start()
+    try:
+        yield most
+    finally:
+        is_over.set()
+        watcher.join()
+
+
+def shared_out(process: int) -> int:
+    """MB of a process and of those that it began now; what several have in common is shared out among them."""
+    lines = Path(f"/proc/{process}/smaps_rollup").read_text().splitlines()
+    own = next((int(line.split()[1]) for line in lines if line.startswith("Pss:")), 0) // 1000
+    return own + sum(map(shared_out, children(process)))
+
+
+def row(size: str, what: str, value: float, goal: float | None) -> str:
+    goal_stated = "" if goal is None else f"at most {goal:,.0f}"
+    return f"| {size} | {what} | {value:,.0f} | {goal_stated} |"
 
 
 def main() -> None:
@@ -147,12 +204,12 @@ def main() -> None:
         parser.add_argument(f"--{size}", type=Path)
     parser.add_argument("--clicks", type=int, default=20)
     parser.add_argument("--program")
-    asked = parser.parse_args()
+    args = parser.parse_args()
     print("| Feed | What | Figure | Goal |\n|---|---|---:|---|", flush=True)
     for size in GOALS:
-        folder = getattr(asked, size)
+        folder = getattr(args, size)
         if folder is not None:
-            for line in measure(size, folder, asked.clicks, asked.program):
+            for line in measure(size, folder, args.clicks, args.program):
                 print(line, flush=True)
 
 

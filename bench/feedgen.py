@@ -56,10 +56,10 @@ def footpaths(stops: Sequence[Stop]) -> Iterator[str]:
     for number, stop in enumerate(stops):
         x, y = int(stop.east // FARTHEST), int(stop.north // FARTHEST)
         around = ((u, v) for u in (x - 1, x, x + 1) for v in (y - 1, y, y + 1))
-        for other in sorted(it for tile in around for it in tiles.get(tile, ()) if it != number):
+        for other in sorted(place for tile in around for place in tiles.get(tile, ()) if place != number):
             metres = math.hypot(stops[other].east - stop.east, stops[other].north - stop.north)
             if metres <= FARTHEST:
-                yield "%s,%s,%d" % (stop.name, stops[other].name, int(metres * 0.96) + 5)
+                yield f"{stop.name},{stops[other].name},{int(metres * 0.96) + 5}"
 
 
 # Files.
@@ -68,13 +68,13 @@ def footpaths(stops: Sequence[Stop]) -> Iterator[str]:
 def write_places(folder: str, stops: Stops, change: int) -> None:
     """Writes stops.txt, where stations come first, and transfers.txt, with a change time of each stop that isn't 0."""
     stations = [stops.stations[node].name for node in sorted(stops.stations)]
-    rows = ['%s,"Station, %s",,,1,' % (name, name) for name in stations]
-    for it in stops.stops:
-        latitude, longitude = 51.5 + it.north / 111320, -0.1 + it.east / 69300
-        rows.append("%s,%s,%.6f,%.6f,0,%s" % (it.name, it.label, latitude, longitude, it.station))
+    rows = [f'{name},"Station, {name}",,,1,' for name in stations]
+    for stop in stops.stops:
+        latitude, longitude = 51.5 + stop.north / 111320, -0.1 + stop.east / 69300
+        rows.append(f"{stop.name},{stop.label},{latitude:.6f},{longitude:.6f},0,{stop.station}")
     write_lines(folder, "stops.txt", "stop_id,stop_name,stop_lat,stop_lon,location_type,parent_station", rows)
-    changes = ["%s,%s,2,90" % (name, name) for name in stations]
-    changes += ["%s,%s,2,%d" % (it.name, it.name, change) for it in stops.stops if change]
+    changes = [f"{name},{name},2,90" for name in stations]
+    changes += [f"{stop.name},{stop.name},2,{change}" for stop in stops.stops if change]
     write_lines(folder, "transfers.txt", "from_stop_id,to_stop_id,transfer_type,min_transfer_time", changes)
 
 
@@ -90,33 +90,33 @@ def weekdays_between(first: str, last: str) -> Iterator[str]:
 def write_routes_and_days(folder: str, lines: Sequence[Line]) -> None:
     """Writes routes.txt, and the calendar: trips of each day, of weekdays but for Christmas, and of school days."""
     types = ((route, 1 if line.is_rail else 3) for line, route in zip(lines, routes_of(lines)))
-    routes = ("%s,%s,%d" % (route, route[1:], kind) for route, kind in types)
+    routes = (f"{route},{route[1:]},{kind}" for route, kind in types)
     write_lines(folder, "routes.txt", "route_id,route_short_name,route_type", routes)
     days = "monday,tuesday,wednesday,thursday,friday,saturday,sunday"
     services = ["ALL,1,1,1,1,1,1,1,20260101,20261231", "WD,1,1,1,1,1,0,0,20260101,20261231"]
     exceptions = ["WD,20261225,2"]
     if any(line.is_for_school for line in lines):
-        services.append("SCHOOL,1,1,1,1,1,0,0,%s" % SCHOOL_YEAR)
-        exceptions += ["SCHOOL,%s,2" % day for holidays in HOLIDAYS for day in weekdays_between(*holidays)]
-    write_lines(folder, "calendar.txt", "service_id,%s,start_date,end_date" % days, services)
+        services.append(f"SCHOOL,1,1,1,1,1,0,0,{SCHOOL_YEAR}")
+        exceptions += [f"SCHOOL,{day},2" for holidays in HOLIDAYS for day in weekdays_between(*holidays)]
+    write_lines(folder, "calendar.txt", f"service_id,{days},start_date,end_date", services)
     write_lines(folder, "calendar_dates.txt", "service_id,date,exception_type", exceptions)
 
 
 def write_own_files(folder: str, stops: Sequence[Stop], most_origins: int, rnd: random.Random) -> None:
     """Draws and writes opportunities and origins."""
-    counts = ["%s,%d" % (it.name, int(rnd.expovariate(1 / 800))) for it in stops]
+    counts = [f"{stop.name},{int(rnd.expovariate(1 / 800))}" for stop in stops]
     write_lines(folder, "opportunities.csv", "stop_id,opportunities", counts)
     origins = [stops[number].name for number in rnd.sample(range(len(stops)), min(len(stops), most_origins))]
     write_lines(folder, "origins.csv", "stop_id", origins[:20])
-    write_lines(folder, "origins%d.csv" % most_origins, "stop_id", origins)
+    write_lines(folder, f"origins{most_origins}.csv", "stop_id", origins)
 
 
 def write_scenarios(folder: str, routes: Sequence[str], trips: Sequence[str], rnd: random.Random) -> None:
     """Draws and writes scenarios: one without a fiftieth of the routes, one where a fiftieth of the trips is late."""
-    removed = ["remove_route,%s," % it for it in rnd.sample(routes, max(1, len(routes) // 50))]
+    removed = [f"remove_route,{route}," for route in rnd.sample(routes, max(1, len(routes) // 50))]
     write_lines(folder, "cut.csv", "action,id,seconds", removed)
     chosen = rnd.sample(trips, max(1, len(trips) // 50))
-    shifted = ["shift_trip,%s,%d" % (it.split(",")[2], rnd.randrange(30, 600)) for it in chosen]
+    shifted = [f"shift_trip,{item.split(',')[2]},{rnd.randrange(30, 600)}" for item in chosen]
     write_lines(folder, "late.csv", "action,id,seconds", shifted)
 
 
@@ -129,8 +129,8 @@ def draw_place(name: str, rnd: random.Random) -> tuple[Streets, list[Line]]:
 
 
 def write_feed(name: str, seed: int, folder: str, change: int = 0) -> str:
-    """Draws and writes a feed with all that belongs to it, and tells its counts."""
-    rnd = random.Random("ttm-%s-%d" % (name, seed))
+    """Draws and writes a feed with all that belongs to it, and says its counts."""
+    rnd = random.Random(f"ttm-{name}-{seed}")
     os.makedirs(folder, exist_ok=True)
     streets, lines = draw_place(name, rnd)
     stops = stops_of(streets, (node for line in lines if line.is_rail for node in line.nodes))
@@ -145,22 +145,22 @@ def write_feed(name: str, seed: int, folder: str, change: int = 0) -> str:
     write_scenarios(folder, routes_of(lines), trips.records, rnd)
     counts = {"stops": len(stops.stops), "stations": len(stops.stations), "routes": len(lines)}
     counts.update({"trips": len(trips.records), "stop_times": trips.events, "direct footpaths": len(walks)})
-    told = ", ".join("%s %d" % it for it in counts.items())
-    return "size %s seed %d: %s\n" % (name, seed, told)
+    counts_stated = ", ".join(f"{what} {count}" for what, count in counts.items())
+    return f"size {name} seed {seed}: {counts_stated}\n"
 
 
 def main() -> None:
-    words = parser_of(__doc__)
-    words.add_argument("size", choices=[*SIZES, REGION], metavar="SIZE", help="town, city, metro or region")
-    words.add_argument("folder", metavar="FOLDER", help="where the feed is written; made if it isn't there")
-    words.add_argument("seed", metavar="SEED", nargs="?", type=int, default=1, help="a whole number; 1 by default")
-    words.add_argument(
+    parser = parser_of(__doc__)
+    parser.add_argument("size", choices=[*SIZES, REGION], metavar="SIZE", help="town, city, metro or region")
+    parser.add_argument("folder", metavar="FOLDER", help="where the feed is written; made if it isn't there")
+    parser.add_argument("seed", metavar="SEED", nargs="?", type=int, default=1, help="a whole number; 1 by default")
+    parser.add_argument(
         "--changes", metavar="SECONDS", type=int, default=0, help="of a change at each stop (default: 0)"
     )
-    asked = words.parse_args()
-    told = write_feed(asked.size, asked.seed, asked.folder, asked.changes)
-    write_lines(asked.folder, "SIZE.txt", told.rstrip("\n"), [])
-    sys.stdout.write(told)
+    args = parser.parse_args()
+    sentence = write_feed(args.size, args.seed, args.folder, args.changes)
+    write_lines(args.folder, "SIZE.txt", sentence.rstrip("\n"), [])
+    sys.stdout.write(sentence)
 
 
 if __name__ == "__main__":

@@ -29,7 +29,7 @@ import re
 import subprocess
 import tempfile
 from dataclasses import dataclass, replace
-from typing import Any, Callable, Iterator, Optional, Sequence
+from typing import Any, Callable, Iterator, Sequence
 
 import ratios
 from shared import DATE, Study, built, parser_of, print_head, print_row, run_into, there, write_origins
@@ -57,33 +57,33 @@ class Figure:
     value: float
     goal: float
     at_least: bool = True
-    aim: Optional[float] = None
+    aim: float | None = None
 
     def cells(self) -> list[str]:
         """The cells of its row."""
         met = self.value >= self.goal if self.at_least else self.value <= self.goal
-        goal = "%s %g" % ("at least" if self.at_least else "at most", self.goal)
-        aim = ", aim %g" % self.aim if self.aim else ""
-        return [self.what, self.feed, "%.2f" % self.value, goal + aim, "yes" if met else "no"]
+        goal = f"{'at least' if self.at_least else 'at most'} {self.goal:g}"
+        aim = f", aim {self.aim:g}" if self.aim else ""
+        return [self.what, self.feed, f"{self.value:.2f}", goal + aim, "yes" if met else "no"]
 
 
 @dataclass(frozen=True)
-class Asked:
+class GoalOptions:
     """What the command line asks for, and a folder for what is made meanwhile."""
 
     folders: dict[str, str]  # of the feeds, by their sizes
-    peers: Optional[str]
-    beside: Optional[str]
+    peers: str | None
+    beside: str | None
     parts: Sequence[str]
-    origins: Optional[int]
+    origins: int | None
     times: int
     place: str = ""
 
-    def of(self, size: str, **more: Any) -> ratios.Asked:
+    def of(self, size: str, **more: Any) -> ratios.RatioOptions:
         """What `ratios.py` is asked of a feed: with neither peers nor RAPTORs, unless `more` says so."""
         file, first = FILES[size]
         first = min(first, self.origins or first)
-        plain = ratios.Asked(self.times, file, first, 120, 4, 600, DATE, None, None, True, [self.folders[size]])
+        plain = ratios.RatioOptions(self.times, file, first, 120, 4, 600, DATE, None, None, True, [self.folders[size]])
         return replace(plain, **more)
 
     def origins_of(self, size: str) -> list[str]:
@@ -92,71 +92,71 @@ class Asked:
 
     def means(self, size: str, folder: str, **more: Any) -> dict[str, float]:
         """The mean milliseconds of a feed's origins, by the names of the programs; the feed is that of a folder."""
-        asked = self.of(size, **more)
+        options = self.of(size, **more)
         with tempfile.TemporaryDirectory(dir=self.place) as place:
-            return ratios.means_of(folder, asked, ratios.programs_of(asked, place), place)
+            return ratios.means_of(folder, options, ratios.programs_of(options, place), place)
 
 
 def beside_peers(
-    asked: Asked, size: str, feed: str, folder: str, goals: dict[str, tuple[float, Optional[float]]]
+    options: GoalOptions, size: str, feed: str, folder: str, goals: dict[str, tuple[float, float | None]]
 ) -> Iterator[Figure]:
     """Durations of a feed beside each peer, or other program, that there is a goal for."""
-    if not asked.peers and not asked.beside:
+    if not options.peers and not options.beside:
         return
-    mean = asked.means(size, folder, peers=asked.peers, beside=asked.beside)
+    mean = options.means(size, folder, peers=options.peers, beside=options.beside)
     for name, (goal, aim) in goals.items():
         if name in mean:
-            yield Figure("times as fast as `%s`" % name, feed, mean[name] / mean["ttm"], goal, aim=aim)
+            yield Figure(f"times as fast as `{name}`", feed, mean[name] / mean["ttm"], goal, aim=aim)
 
 
-def peers(asked: Asked) -> Iterator[Figure]:
+def peers(options: GoalOptions) -> Iterator[Figure]:
     """Durations of the feeds as made, beside the peers and beside another program."""
-    yield from beside_peers(asked, "town", "town", asked.folders["town"], {"b": (2.4, 3.0), "beside": (1.0, None)})
+    yield from beside_peers(options, "town", "town", options.folders["town"], {"b": (2.4, 3.0), "beside": (1.0, None)})
     goals = {"a": (8.5, 10.0), "b": (2.4, 3.0), "beside": (1.0, None)}
-    yield from beside_peers(asked, "city", "city", asked.folders["city"], goals)
+    yield from beside_peers(options, "city", "city", options.folders["city"], goals)
     goals = {"a": (7.0, 10.0), "b": (3.2, None), "beside": (1.0, None)}
-    yield from beside_peers(asked, "metropolis", "metropolis", asked.folders["metropolis"], goals)
+    yield from beside_peers(options, "metropolis", "metropolis", options.folders["metropolis"], goals)
 
 
-def sparse(asked: Asked) -> Iterator[Figure]:
+def sparse(options: GoalOptions) -> Iterator[Figure]:
     """Durations of feeds with long headways, beside the same."""
-    goals: dict[str, tuple[float, Optional[float]]] = {"b": (1.8, 2.5), "beside": (1.0, None)}
-    for size in ("town", "city") if asked.peers or asked.beside else ():
-        thinned = every_third_trip(asked.folders[size], asked.place)
-        yield from beside_peers(asked, size, size + ", every third trip", thinned, goals)
-    if asked.folders["region"]:
-        yield from beside_peers(asked, "region", "region", asked.folders["region"], goals)
+    goals: dict[str, tuple[float, float | None]] = {"b": (1.8, 2.5), "beside": (1.0, None)}
+    for size in ("town", "city") if options.peers or options.beside else ():
+        thinned = every_third_trip(options.folders[size], options.place)
+        yield from beside_peers(options, size, size + ", every third trip", thinned, goals)
+    if options.folders["region"]:
+        yield from beside_peers(options, "region", "region", options.folders["region"], goals)
 
 
-def in_turns(asked: Asked, size: str, folders: Sequence[str]) -> list[float]:
+def in_turns(options: GoalOptions, size: str, folders: Sequence[str]) -> list[float]:
     """The mean milliseconds of variants of a feed, each the least of its runs, in turns."""
-    runs = [[asked.means(size, it, times=1)["ttm"] for it in folders] for _ in range(asked.times)]
-    return [min(it) for it in zip(*runs)]
+    runs = [[options.means(size, folder, times=1)["ttm"] for folder in folders] for _ in range(options.times)]
+    return [min(item) for item in zip(*runs)]
 
 
-def order(asked: Asked) -> Iterator[Figure]:
+def order(options: GoalOptions) -> Iterator[Figure]:
     """A drawn order of stops, over the order as made."""
     for size in ("city", "metropolis"):
-        folder = asked.folders[size]
-        made, drawn = in_turns(asked, size, [folder, with_drawn_order(folder, asked.place)])
-        yield Figure("stops in a drawn order, over the order as made", size, drawn / made, 1.05, False)
+        folder = options.folders[size]
+        given, drawn = in_turns(options, size, [folder, with_drawn_order(folder, options.place)])
+        yield Figure("stops in a drawn order, over the order as made", size, drawn / given, 1.05, False)
 
 
-def windows(asked: Asked) -> Iterator[Figure]:
+def windows(options: GoalOptions) -> Iterator[Figure]:
     """Short windows, no slower than by another program, and a whole day."""
     goals = [("city", minutes, 1.0) for minutes in (1, 4, 16)] + [("region", WHOLE_DAY, 2.5)]
-    for size, minutes, goal in goals if asked.beside else ():
-        if asked.folders[size]:
-            mean = asked.means(size, asked.folders[size], minutes=minutes, beside=asked.beside)
-            what = "times as fast as `beside`, %d minutes" % minutes
+    for size, minutes, goal in goals if options.beside else ():
+        if options.folders[size]:
+            mean = options.means(size, options.folders[size], minutes=minutes, beside=options.beside)
+            what = f"times as fast as `beside`, {minutes} minutes"
             yield Figure(what, size, mean["beside"] / mean["ttm"], goal)
 
 
-def changes(asked: Asked) -> Iterator[Figure]:
+def changes(options: GoalOptions) -> Iterator[Figure]:
     """Change times at each stop, over none."""
-    folder = asked.folders["city"]
-    none, some = in_turns(asked, "city", [with_changes(folder, asked.place, seconds) for seconds in (0, CHANGE)])
-    yield Figure("change times of %d s at each stop, over none" % CHANGE, "city", some / none, 1.3, False)
+    folder = options.folders["city"]
+    none, some = in_turns(options, "city", [with_changes(folder, options.place, seconds) for seconds in (0, CHANGE)])
+    yield Figure(f"change times of {CHANGE} s at each stop, over none", "city", some / none, 1.3, False)
 
 
 @dataclass
@@ -167,66 +167,66 @@ class Rows:
     peak: int  # in MB
 
 
-def rows_of(asked: Asked, size: str, studies: Sequence[tuple[Study, int]]) -> list[Rows]:
+def rows_of(options: GoalOptions, size: str, studies: Sequence[tuple[Study, int]]) -> list[Rows]:
     """Each study, by so many workers, in turns: its rows' part is the run less that of the same without origins."""
-    origins, none, matrix = (os.path.join(asked.place, name) for name in ("origins.csv", "none.csv", "matrix.csv"))
-    write_origins(origins, asked.origins_of(size))
+    origins, none, matrix = (os.path.join(options.place, name) for name in ("origins.csv", "none.csv", "matrix.csv"))
+    write_origins(origins, options.origins_of(size))
     write_origins(none, [])
     whole = [float("inf")] * len(studies)
     rest = list(whole)
     peak = [0] * len(studies)
-    for _ in range(asked.times):
+    for _ in range(options.times):
         for i, (study, workers) in enumerate(studies):
-            ran = run_into([built("ttm"), *study.words(asked.folders[size], origins, workers)], matrix)
-            without = run_into([built("ttm"), *study.words(asked.folders[size], none, workers)], matrix)
+            ran = run_into([built("ttm"), *study.arguments(options.folders[size], origins, workers)], matrix)
+            without = run_into([built("ttm"), *study.arguments(options.folders[size], none, workers)], matrix)
             whole[i], rest[i] = min(whole[i], ran.seconds), min(rest[i], without.seconds)
             peak[i] = max(peak[i], ran.peak)
     return [Rows(a - b, most) for a, b, most in zip(whole, rest, peak)]
 
 
-def printed(words: Sequence[str]) -> dict[str, int]:
+def printed(arguments: Sequence[str]) -> dict[str, int]:
     """The figures that a program prints, by the words before each colon."""
-    text = subprocess.run(words, stdout=subprocess.PIPE, text=True, check=True).stdout
+    text = subprocess.run(arguments, stdout=subprocess.PIPE, text=True, check=True).stdout
     return {what: int(figure) for what, figure in re.findall(r"^(.*): (\d+)$", text, re.M)}
 
 
-def apart(asked: Asked, size: str, kinds: Sequence[str]) -> list[dict[str, int]]:
+def apart(options: GoalOptions, size: str, kinds: Sequence[str]) -> list[dict[str, int]]:
     """The least of each figure of `measure`'s kinds of rows, each kind in turns."""
-    folder = asked.folders[size]
-    feed = ratios.linked(folder, asked.origins_of(size), asked.place, False)
-    words = [feed, DATE, *FROM_ON, *(there(folder, "footpaths.csv") or ["-"]), os.path.join(feed, "origins.csv")]
-    runs = [[printed([built("measure"), kind, *words]) for kind in kinds] for _ in range(asked.times)]
+    folder = options.folders[size]
+    feed = ratios.linked(folder, options.origins_of(size), options.place, False)
+    arguments = [feed, DATE, *FROM_ON, *(there(folder, "footpaths.csv") or ["-"]), os.path.join(feed, "origins.csv")]
+    runs = [[printed([built("measure"), kind, *arguments]) for kind in kinds] for _ in range(options.times)]
     return [{what: min(run[what] for run in of_kind) for what in of_kind[0]} for of_kind in zip(*runs)]
 
 
-def days(asked: Asked) -> Iterator[Figure]:
+def days(options: GoalOptions) -> Iterator[Figure]:
     """Three service days in the network."""
-    one, three = (it[DURATIONS] + it[CELLS] for it in apart(asked, "city", ["rows", "days"]))
+    one, three = (item[DURATIONS] + item[CELLS] for item in apart(options, "city", ["rows", "days"]))
     yield Figure("rows with three service days, over one", "city", three / one, 1.1, False)
 
 
-def workers(asked: Asked) -> Iterator[Figure]:
+def workers(options: GoalOptions) -> Iterator[Figure]:
     """Four workers, and what each of the three more holds."""
-    one, four = rows_of(asked, "metropolis", [(Study(), 1), (Study(), 4)])
+    one, four = rows_of(options, "metropolis", [(Study(), 1), (Study(), 4)])
     yield Figure("rows by four workers, times as fast as by one", "metropolis", one.seconds / four.seconds, 3.5)
     yield Figure("MB of each worker more", "metropolis", (four.peak - one.peak) / 3, 60, False)
 
 
-def cells(asked: Asked) -> Iterator[Figure]:
+def cells(options: GoalOptions) -> Iterator[Figure]:
     """Cells with access, and text, of rows, over the durations of the same."""
-    of_rows = apart(asked, "metropolis", ["rows"])[0]
+    of_rows = apart(options, "metropolis", ["rows"])[0]
     rest = of_rows[CELLS] + 1000 * of_rows["text, ms"]
     yield Figure("cells and text, over durations", "metropolis", rest / of_rows[DURATIONS], 0.1, False)
 
 
-def reading(asked: Asked) -> Iterator[Figure]:
+def reading(options: GoalOptions) -> Iterator[Figure]:
     """Reading beside the `csv` crate."""
-    runs = [printed([built("measure"), asked.folders["metropolis"]]) for _ in range(asked.times)]
+    runs = [printed([built("measure"), options.folders["metropolis"]]) for _ in range(options.times)]
     csv, read = (min(run[what] for run in runs) for what in ("csv alone, ms", "read_feed, ms"))
     yield Figure("`read_feed`, over the `csv` crate's pass", "metropolis", read / csv, 2.0, False)
 
 
-PARTS: dict[str, Callable[[Asked], Iterator[Figure]]] = {
+PARTS: dict[str, Callable[[GoalOptions], Iterator[Figure]]] = {
     "peers": peers,
     "sparse": sparse,
     "order": order,
@@ -239,7 +239,7 @@ PARTS: dict[str, Callable[[Asked], Iterator[Figure]]] = {
 }
 
 
-def asked_of(words: Optional[Sequence[str]] = None) -> Asked:
+def options_of(arguments: Sequence[str] | None = None) -> GoalOptions:
     """What the arguments ask for."""
     parser = parser_of(__doc__)
     for size in FILES:
@@ -249,20 +249,20 @@ def asked_of(words: Optional[Sequence[str]] = None) -> Asked:
     parser.add_argument("--parts", default=",".join(PARTS), help="which parts, divided by commas (default: all)")
     parser.add_argument("--origins", metavar="N", type=int, help="at most so many origins of each feed")
     parser.add_argument("--times", metavar="N", type=int, default=3, help="runs of each program (default: 3)")
-    given = parser.parse_args(words)
+    given = parser.parse_args(arguments)
     parts = given.parts.split(",")
     if unknown := [name for name in parts if name not in PARTS]:
-        parser.error("no such part: %s" % ", ".join(unknown))
+        parser.error(f"no such part: {', '.join(unknown)}")
     folders = {size: getattr(given, size) for size in FILES}
-    return Asked(folders, given.peers, given.beside, parts, given.origins, given.times)
+    return GoalOptions(folders, given.peers, given.beside, parts, given.origins, given.times)
 
 
 def main() -> None:
-    asked = asked_of()
+    options = options_of()
     print_head(["figure", "feed", "measured", "goal", "met"])
     with tempfile.TemporaryDirectory() as place:
-        for part in asked.parts:
-            for figure in PARTS[part](replace(asked, place=place)):
+        for part in options.parts:
+            for figure in PARTS[part](replace(options, place=place)):
                 print_row(figure.cells())
 
 

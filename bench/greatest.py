@@ -35,8 +35,8 @@ def footpaths(pairs: int) -> Iterator[str]:
     for size in group_sizes(pairs):
         for k in range(size if size > 1 else 0):
             a, b = first + k, first + (k + 1) % size
-            yield "%d,%d,1" % (a, b)
-            yield "%d,%d,1" % (b, a)
+            yield f"{a},{b},1"
+            yield f"{b},{a},1"
         first += size
 
 
@@ -45,34 +45,34 @@ def patterns() -> list[str]:
     texts = []
     for run in range(TRIPS_OF_A_LINE):
         times = [clock(4 * 3600 + run * 590 + k * 120) for k in range(CALLS)]
-        texts.append("\n".join("{0},%s,%s,{%d},%d" % (time, time, k + 1, k) for k, time in enumerate(times)))
+        texts.append("\n".join(f"{{0}},{time},{time},{{{k + 1}}},{k}" for k, time in enumerate(times)))
     return texts
 
 
 def calls(trips: int) -> Iterator[str]:
     """The stop times of trips in lines of their own stops, those of a trip at once."""
-    made = patterns()
+    rows = patterns()
     for trip in range(trips):
         line, run = divmod(trip, TRIPS_OF_A_LINE)
         if run == 0:
             stops = [(line * 37 + k * 331) % STOPS for k in range(CALLS)]
-        yield made[run].format(trip, *stops)
+        yield rows[run].format(trip, *stops)
 
 
 def main() -> None:
-    words = parser_of(__doc__)
-    words.add_argument("folder")
-    words.add_argument("--past", choices=["stops", "trips", "stop_times", "walks"])
-    asked = words.parse_args()
-    folder, past = asked.folder, asked.past
+    parser = parser_of(__doc__)
+    parser.add_argument("folder")
+    parser.add_argument("--past", choices=["stops", "trips", "stop_times", "walks"])
+    args = parser.parse_args()
+    folder, past = args.folder, args.past
     os.makedirs(folder, exist_ok=True)
-    trips = ("R,D,%d" % trip for trip in range(TRIPS + (past == "trips")))
+    trips = (f"R,D,{trip}" for trip in range(TRIPS + (past == "trips")))
     times = "trip_id,arrival_time,departure_time,stop_id,stop_sequence"
     more = ["0,28:00:00,28:00:00,0,9"] if past == "stop_times" else []
     walks = footpaths(PAIRS + 2 * (past == "walks"))
     write_lines(folder, "stops.txt", "stop_id", map(str, range(STOPS + (past == "stops"))))
     write_lines(folder, "routes.txt", "route_id", ["R"])
-    write_lines(folder, "calendar_dates.txt", "service_id,date,exception_type", ["D,%s,1" % DATE])
+    write_lines(folder, "calendar_dates.txt", "service_id,date,exception_type", [f"D,{DATE},1"])
     write_lines(folder, "trips.txt", "route_id,service_id,trip_id", trips)
     write_lines(folder, "stop_times.txt", times, itertools.chain(calls(TRIPS), more))
     write_lines(folder, "footpaths.csv", "from_stop_id,to_stop_id,seconds", walks)

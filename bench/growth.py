@@ -21,11 +21,11 @@ LIMITS = [3600, 4200, 4800, 5400, 6000, 6600, 7200, 7800]
 
 # what is varied, and by its values which fields of a study are set
 VARIED: dict[str, dict[int, dict[str, Any]]] = {
-    "minutes": {it: {"minutes": it} for it in (1, 16, 60, 120, 240)},
-    "trips": {it: {"trips": it} for it in (1, 2, 3, 4, 5, 6, 7, 8)},
-    "walk": {it: {"walk": it} for it in (0, 300, 600, 900)},
-    "days around": {it: {"days_around": it} for it in (0, 1)},
-    "shares and limits": {it: {"shares": SHARES[:it], "limits": LIMITS[:it]} for it in (1, 8)},
+    "minutes": {number: {"minutes": number} for number in (1, 16, 60, 120, 240)},
+    "trips": {number: {"trips": number} for number in (1, 2, 3, 4, 5, 6, 7, 8)},
+    "walk": {number: {"walk": number} for number in (0, 300, 600, 900)},
+    "days around": {number: {"days_around": number} for number in (0, 1)},
+    "shares and limits": {number: {"shares": SHARES[:number], "limits": LIMITS[:number]} for number in (1, 8)},
 }
 
 
@@ -41,8 +41,8 @@ class Trial:
 
     def least(self, study: Study, origins: str, runs: int) -> float:
         """The least seconds of a study."""
-        words = [self.program] + study.words(self.folder, origins, 1)
-        return min(run_into(words, self.matrix).seconds for _ in range(runs))
+        arguments = [self.program] + study.arguments(self.folder, origins, 1)
+        return min(run_into(arguments, self.matrix).seconds for _ in range(runs))
 
     def millis(self, study: Study, runs: int) -> float:
         """The milliseconds of an origin."""
@@ -56,15 +56,15 @@ def main() -> None:
     parser.add_argument("--runs", type=int, default=3)
     parser.add_argument("--date", default=DATE)
     parser.add_argument("folder", nargs="+")
-    asked = parser.parse_args()
-    program, plain = built("ttm"), Study(date=asked.date)
+    args = parser.parse_args()
+    program, plain = built("ttm"), Study(date=args.date)
     print_head(["feed", "varied", "milliseconds an origin"])
     with tempfile.TemporaryDirectory() as place:
-        for folder in asked.folder:
-            trial = Trial(program, folder, asked.origins, place)
+        for folder in args.folder:
+            trial = Trial(program, folder, args.origins, place)
             for name, values in VARIED.items():
-                times = {value: trial.millis(replace(plain, **fields), asked.runs) for value, fields in values.items()}
-                print_row([name_of(folder), name, ", ".join("%d: %.1f" % it for it in times.items())])
+                times = {value: trial.millis(replace(plain, **fields), args.runs) for value, fields in values.items()}
+                print_row([name_of(folder), name, ", ".join(f"{value}: {time:.1f}" for value, time in times.items())])
 
 
 if __name__ == "__main__":

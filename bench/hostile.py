@@ -6,9 +6,9 @@ one byte at a time; each file cut short after every byte.
 
 Over four small studies, the last of several shares and limits: the text of the matrix comes whole and right, or a line
 and the status that belong to what was refused, and nothing else. With the built program of crates/growth_trials each
-public call that takes memory is refused each growth in turn, too: it gives the right value, or tells out of memory and
+public call that takes memory is refused each growth in turn, too: it gives the right value, or says out of memory and
 gives it when made again. In a conversation (`ttm --ask`) each growth, start, open, read and write is refused in turn,
-too: one answer alone tells it, or the conversation ends before its first answer; where its own input can't be read or
+too: one answer alone says it, or the conversation ends before its first answer; where its own input can't be read or
 an answer can't be written, it ends behind the answers before. What it tried is counted, and the last line is 'N passed,
 M failed'. It wants a C compiler (`cc`), which builds bench/refuse.c. Standard library only.
 """
@@ -20,7 +20,7 @@ import subprocess
 import sys
 import tempfile
 from pathlib import Path
-from typing import Mapping, Optional, Sequence
+from typing import Mapping, Sequence
 
 import plain
 import small
@@ -63,9 +63,9 @@ BAD_TRIPS = b"answer 2 15\nttm: bad trips\n"
 NO_MEMORY = (3, r"ttm: (out of memory|no worker started)\n")
 NOT_READ = (5, r"ttm: (\./)?[a-z_]+\.(txt|csv): read fault\n")
 NOT_WRITTEN = (5, r"ttm: write fault\n")
-# what may be told where something is refused
+# what may be reported where something is refused
 TOLD = {"growth": NO_MEMORY, "start": NO_MEMORY, "open": NOT_READ, "read": NOT_READ, "write": NOT_WRITTEN}
-NO_QUESTION = "ttm: standard input: read fault\n"  # told by a conversation
+NO_QUESTION = "ttm: standard input: read fault\n"  # reported by a conversation
 
 Answer = tuple[int, str, str]  # a status and both outputs
 
@@ -75,7 +75,7 @@ class Trial:
 
     def __init__(self, program: str, room: str) -> None:
         self.program, self.room, self.passed, self.failed = os.path.abspath(program), Path(room), 0, 0
-        self.asked: Optional[bytes] = None  # what the program reads from its standard input
+        self.given: bytes | None = None  # what the program reads from its standard input
         self.library = str(self.room / "refuse.so")
         source = os.path.join(HERE, "refuse.c")
         subprocess.run(["cc", "-O2", "-shared", "-fPIC", "-o", self.library, source], check=True)
@@ -86,35 +86,35 @@ class Trial:
 
     def run(
         self,
-        words: Sequence[str],
-        program: Optional[str] = None,
-        environment: Optional[Mapping[str, str]] = None,
+        arguments: Sequence[str],
+        program: str | None = None,
+        environment: Mapping[str, str] | None = None,
         handles: Sequence[int] = (),
     ) -> Answer:
         """The status and both outputs, of the program or of another one."""
         ran = subprocess.run(
-            [program or self.program, *words],
+            [program or self.program, *arguments],
             cwd=self.folder,
             env=environment,
             pass_fds=handles,
-            input=self.asked,
+            input=self.given,
             capture_output=True,
             timeout=120,
         )
         return ran.returncode, ran.stdout.decode(), ran.stderr.decode()
 
     def run_refused(
-        self, words: Sequence[str], what: str, number: int, program: Optional[str] = None, slow: bool = False
+        self, arguments: Sequence[str], what: str, number: int, program: str | None = None, slow: bool = False
     ) -> tuple[Answer, bool]:
         """The same where one call is refused, and whether it came to that; slow: by one byte at a time."""
         ours, its = os.pipe()
         refusal = {**os.environ, "LD_PRELOAD": self.library, "REFUSE": f"{what}:{number}", "REFUSE_FD": str(its)}
         if slow:
             refusal["ONE_BYTE"] = "1"
-        answer = self.run(words, program, refusal, [its])
+        answer = self.run(arguments, program, refusal, [its])
         os.close(its)
-        with os.fdopen(ours, "rb") as told:
-            return answer, told.read() != b""
+        with os.fdopen(ours, "rb") as errors:
+            return answer, errors.read() != b""
 
     def judge(self, what: str, right: bool, answer: Answer) -> None:
         self.passed += right
@@ -122,24 +122,24 @@ class Trial:
         if not right:
             print(f"wrong: {what}: status {answer[0]}, told {answer[2]!r}\n{answer[1]}", flush=True)
 
-    def matrix(self, words: Sequence[str]) -> Optional[str]:
+    def matrix(self, arguments: Sequence[str]) -> str | None:
         """What the plain second program gives; none where it can't read the files."""
         text, here = io.StringIO(), os.getcwd()
         os.chdir(self.folder)
         try:
-            plain.write_matrix(words, text)
+            plain.write_matrix(arguments, text)
             return text.getvalue()
         except Exception:
             return None
         finally:
             os.chdir(here)
 
-    def refuse_each(self, words: Sequence[str], what: str, slow: bool = False) -> int:
+    def refuse_each(self, arguments: Sequence[str], what: str, slow: bool = False) -> int:
         """Refuses the first call of a kind, the second, and so on, until a run has fewer; gives how many there were."""
-        wanted, (status, line) = self.matrix(words), TOLD[what]
+        wanted, (status, line) = self.matrix(arguments), TOLD[what]
         assert wanted is not None
         for number in itertools.count(1):
-            answer, came = self.run_refused(words, what, number, slow=slow)
+            answer, came = self.run_refused(arguments, what, number, slow=slow)
             if not came:
                 self.judge(f"{what} {number}, none refused", answer == (0, wanted, ""), answer)
                 break
@@ -150,9 +150,9 @@ class Trial:
 
     def refuse_call(self, program: str, name: str) -> tuple[int, int]:
         """Refuses a trial of growth_trials its first growth, its second, and so on, until a run has fewer; gives how
-        many there were once its inputs were made, and of how many of them the call told."""
+        many there were once its inputs were made, and of how many of them the call reported."""
         right, again = (0, f"{name}: right\n", ""), (0, f"{name}: refused, and right when asked again\n", "")
-        growths = told = 0
+        growths = count = 0
         for number in itertools.count(1):
             answer, came = self.run_refused([name], "growth", number, program)
             if not came:
@@ -160,8 +160,8 @@ class Trial:
                 break
             if answer not in ((0, "inputs\n", ""), (0, f"{name}: inputs\n", "")):
                 self.judge(f"{name}: growth {number} refused", answer in (right, again), answer)
-                growths, told = growths + 1, told + (answer == again)
-        return growths, told
+                growths, count = growths + 1, count + (answer == again)
+        return growths, count
 
     def refuse_calls(self, program: str) -> None:
         """The same for each trial, one after another."""
@@ -170,18 +170,18 @@ class Trial:
         right = bool(names) and answer == (0, "".join(f"{name}: right\n" for name in names), "")
         self.judge("all calls, none refused", right, answer)
         for name in names:
-            growths, told = self.refuse_call(program, name)
-            print(f"call {name}: {growths} growths refused in turn, of which it told {told}", flush=True)
+            growths, count = self.refuse_call(program, name)
+            print(f"call {name}: {growths} growths refused in turn, of which it told {count}", flush=True)
 
-    def cut_each(self, words: Sequence[str]) -> tuple[int, int]:
+    def cut_each(self, arguments: Sequence[str]) -> tuple[int, int]:
         """Cuts each file short after every byte; gives how many prefixes there were, and how many were accepted."""
         tried = accepted = 0
         for name, text in FILES.items():
             for count in range(len(text)):
                 (self.folder / name).write_text(text[:count])
-                answer = self.run(words)
+                answer = self.run(arguments)
                 refused = answer[0] == 2 and answer[1] == "" and re.fullmatch(r"ttm: .+\n", answer[2])
-                right = answer == (0, self.matrix(words), "") if answer[0] == 0 else bool(refused)
+                right = answer == (0, self.matrix(arguments), "") if answer[0] == 0 else bool(refused)
                 self.judge(f"{name} cut after {count} bytes", right, answer)
                 tried, accepted = tried + 1, accepted + (answer[0] == 0)
             (self.folder / name).write_text(text)
@@ -194,25 +194,25 @@ class Talk(Trial):
     def __init__(self, program: str, room: str) -> None:
         super().__init__(program, room)
         blocks = ["".join(f"{word}\n" for word in question.split()) for question in QUESTIONS]
-        self.asked = "\n".join([*blocks, ""]).encode()
+        self.given = "\n".join([*blocks, ""]).encode()
         self.answers = [self.answer_to(question.split()) for question in QUESTIONS]
 
     def answer_to(self, question: Sequence[str]) -> bytes:
         """What the plain second program gives for a question, as an answer."""
         if question[:1] == ["--trips"]:
             return BAD_TRIPS
-        words = TALK.replace("--ask ", "").split()
-        replaced = [words.index(it) for it in question[::2] if it in words]
-        kept = [word for at, word in enumerate(words) if at not in replaced and at - 1 not in replaced]
+        arguments = TALK.replace("--ask ", "").split()
+        replaced = [arguments.index(item) for item in question[::2] if item in arguments]
+        kept = [word for at, word in enumerate(arguments) if at not in replaced and at - 1 not in replaced]
         text = self.matrix([*question, *kept])
         assert text is not None
         return f"answer 0 {len(text)}\n{text}".encode()
 
-    def refuse_each(self, words: Sequence[str], what: str, slow: bool = False) -> int:
+    def refuse_each(self, arguments: Sequence[str], what: str, slow: bool = False) -> int:
         """Refuses the first call of a kind, the second, and so on, until a conversation has fewer."""
         wanted = (0, b"".join(self.answers).decode(), "")
         for number in itertools.count(1):
-            answer, came = self.run_refused(words, what, number, slow=slow)
+            answer, came = self.run_refused(arguments, what, number, slow=slow)
             right = answer == wanted or (came and self.is_right(what, answer))
             self.judge(f"conversation: {what} {number}{'' if came else ', none'} refused", right, answer)
             if not came:
@@ -234,20 +234,20 @@ class Talk(Trial):
         return out == "" and ended == status and re.fullmatch(line, err) is not None
 
     def tells_once(self, out: bytes, status: int, line: str) -> bool:
-        """Whether the answers are the right ones but for one, which tells what was refused."""
+        """Whether the answers are the right ones but for one, which says what was refused."""
         for number, answer in enumerate(self.answers):
             before, behind = b"".join(self.answers[:number]), b"".join(self.answers[number + 1 :])
-            told = out[len(before) : len(out) - len(behind)].decode()
-            if out == before + told.encode() + behind and told != answer.decode():
-                head, _, body = told.partition("\n")
+            block = out[len(before) : len(out) - len(behind)].decode()
+            if out == before + block.encode() + behind and block != answer.decode():
+                head, _, body = block.partition("\n")
                 return head == f"answer {status} {len(body)}" and re.fullmatch(line, body) is not None
         return False
 
 
-def tell_refusals(trial: Trial, name: str, words: Sequence[str]) -> None:
+def tell_refusals(trial: Trial, name: str, arguments: Sequence[str]) -> None:
     """Refuses each call of each kind, and prints how many there were."""
-    counts = [f"{trial.refuse_each(words, what)} of {what}" for what in TOLD]
-    slow = [f"{trial.refuse_each(words, what, slow=True)} of {what}" for what in ("read", "write")]
+    counts = [f"{trial.refuse_each(arguments, what)} of {what}" for what in TOLD]
+    slow = [f"{trial.refuse_each(arguments, what, slow=True)} of {what}" for what in ("read", "write")]
     print(f"{name}: refused in turn: {', '.join(counts)}; one byte at a time: {', '.join(slow)}", flush=True)
 
 

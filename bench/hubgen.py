@@ -11,20 +11,20 @@ from shared import DATE, parser_of, write_lines
 
 
 def main() -> None:
-    words = parser_of(__doc__)
-    words.add_argument("folder")
-    words.add_argument("stops", nargs="?", type=int, default=1974)
-    asked = words.parse_args()
-    folder = asked.folder
+    parser = parser_of(__doc__)
+    parser.add_argument("folder")
+    parser.add_argument("stops", nargs="?", type=int, default=1974)
+    args = parser.parse_args()
+    folder = args.folder
     os.makedirs(folder, exist_ok=True)
-    names = ["S%d" % number for number in range(asked.stops)]
+    names = [f"S{number}" for number in range(args.stops)]
     write_lines(folder, "stops.txt", "stop_id", ["HUB"] + names)
     write_lines(folder, "routes.txt", "route_id", ["R"])
-    write_lines(folder, "calendar_dates.txt", "service_id,date,exception_type", ["D,%s,1" % DATE])
+    write_lines(folder, "calendar_dates.txt", "service_id,date,exception_type", [f"D,{DATE},1"])
     write_lines(folder, "trips.txt", "route_id,service_id,trip_id", [])
     write_lines(folder, "stop_times.txt", "trip_id,stop_id,stop_sequence", [])
-    there = ["HUB,%s,60" % name for name in names]
-    back = ["%s,HUB,60" % name for name in names]
+    there = [f"HUB,{name},60" for name in names]
+    back = [f"{name},HUB,60" for name in names]
     write_lines(folder, "origins.csv", "stop_id", ["HUB"])
     write_lines(folder, "footpaths.csv", "from_stop_id,to_stop_id,seconds", there + back)
 

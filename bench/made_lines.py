@@ -3,7 +3,7 @@
 import math
 import random
 from dataclasses import dataclass
-from typing import Optional, Sequence
+from typing import Sequence
 
 from made_streets import Cell, Streets
 
@@ -63,7 +63,7 @@ class Line:
         return self.kind == "school"
 
 
-def draw_rail_line(streets: Streets, angle: float, rnd: random.Random) -> Optional[Line]:
+def draw_rail_line(streets: Streets, angle: float, rnd: random.Random) -> Line | None:
     """A straight line somewhere through the centre, a station every third cell; none where it has too few."""
     angle, radius = angle + rnd.uniform(-0.1, 0.1), streets.radius
     off = rnd.uniform(-0.25, 0.25) * radius
@@ -90,7 +90,7 @@ def distance(cell: Cell, goal: Cell) -> int:
     return abs(goal[0] - cell[0]) + abs(goal[1] - cell[1])
 
 
-def draw_next(cell: Cell, goal: Cell, way: Optional[Cell], bend: float, rnd: random.Random) -> Cell:
+def draw_next(cell: Cell, goal: Cell, way: Cell | None, bend: float, rnd: random.Random) -> Cell:
     """The next cell: two times of three in the direction of before, unless that leads away from the goal."""
     if way and rnd.random() < 0.66:
         ahead = (cell[0] + way[0], cell[1] + way[1])
@@ -154,7 +154,7 @@ def draw_headways(rnd: random.Random, classes: Sequence[tuple[float, Headways]] 
     return classes[-1][1]
 
 
-def draw_bus_line(streets: Streets, length: int, cover: Sequence[int], rnd: random.Random) -> Optional[Line]:
+def draw_bus_line(streets: Streets, length: int, cover: Sequence[int], rnd: random.Random) -> Line | None:
     """A line from one of the nodes that fewest lines serve; none where it is too short."""
     kind = rnd.random()
     most = max(8, int(rnd.gauss(length, length * 0.25)))

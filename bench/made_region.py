@@ -84,11 +84,13 @@ def way_to_town(region: Region, village: int, town: int) -> list[int]:
         here = region.centres[way[-1]]
         left = math.dist(here, goal)
         nearer = [
-            it for it in range(len(TOWNS), len(region.centres)) if math.dist(region.centres[it], goal) < left - APART
+            number
+            for number in range(len(TOWNS), len(region.centres))
+            if math.dist(region.centres[number], goal) < left - APART
         ]
         if not nearer:
             break
-        way.append(min(nearer, key=lambda it: (math.dist(region.centres[it], here), it)))
+        way.append(min(nearer, key=lambda item: (math.dist(region.centres[item], here), item)))
     return way
 
 
@@ -115,8 +117,8 @@ def draw_regional_line(region: Region, kind: str, cover: list[int], rnd: random.
     """A line from a village that few lines serve, through others, into a town."""
     villages = range(len(TOWNS), len(region.settlements))
     sample = rnd.sample(villages, 8)
-    start = min(sample, key=lambda it: (sum(cover[node] for node in region.settlements[it]), it))
-    near = min(range(len(TOWNS)), key=lambda it: math.dist(region.centres[it], region.centres[start]))
+    start = min(sample, key=lambda item: (sum(cover[node] for node in region.settlements[item]), item))
+    near = min(range(len(TOWNS)), key=lambda item: math.dist(region.centres[item], region.centres[start]))
     town = near if rnd.random() < 0.8 else 1 - near
     way = way_to_town(region, start, town)
     nodes = [node for village in way for node in calls_in(region.settlements[village], cover)]

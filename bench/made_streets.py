@@ -50,10 +50,10 @@ class Stops:
         if node in self.stations:
             return
         east, north = place
-        name = "ST%04d" % node
+        name = f"ST{node:04}"
         self.stations[node] = Station(name, (len(self.stops), len(self.stops) + 1))
-        self.stops.append(Stop(name + "P1", "Station %d" % node, east + 40, north + 30, name))
-        self.stops.append(Stop(name + "P2", "Station %d" % node, east + 45, north + 25, name))
+        self.stops.append(Stop(name + "P1", f"Station {node}", east + 40, north + 30, name))
+        self.stops.append(Stop(name + "P2", f"Station {node}", east + 45, north + 25, name))
 
 
 def draw_streets(count: int, rnd: random.Random) -> Streets:
@@ -72,8 +72,8 @@ def stops_of(streets: Streets, rail_nodes: Iterable[int]) -> Stops:
     """The stops of all nodes, and the stations at the nodes of rail lines."""
     stops = Stops([])
     for node, (east, north) in enumerate(streets.places):
-        stops.stops.append(Stop("B%05dN" % node, "Street %d" % node, east + 12, north + 9))
-        stops.stops.append(Stop("B%05dS" % node, "Street %d" % node, east - 12, north - 9))
+        stops.stops.append(Stop(f"B{node:05}N", f"Street {node}", east + 12, north + 9))
+        stops.stops.append(Stop(f"B{node:05}S", f"Street {node}", east - 12, north - 9))
     for node in rail_nodes:
         stops.add_station(node, streets.places[node])
     return stops

@@ -61,7 +61,7 @@ class Course:
             else:
                 last = 2 * len(self.stops) // 3
         factor = slowness(time) * rnd.uniform(0.97, 1.03)
-        name = "%s-%d-%03d" % (self.route, self.direction, number)
+        name = f"{self.route}-{self.direction}-{number:03}"
         service = "SCHOOL" if self.line.is_for_school else "WD" if number % 7 == 3 else "ALL"
         return Trip(self, name, service, range(first, last + 1), time, factor)
 
@@ -79,7 +79,7 @@ class Trip:
 
     def record(self) -> str:
         """Its record in trips.txt."""
-        return "%s,%s,%s,%d" % (self.course.route, self.service, self.name, self.course.direction)
+        return f"{self.course.route},{self.service},{self.name},{self.course.direction}"
 
     def stop_times(self) -> Iterator[str]:
         """Its records in stop_times.txt."""
@@ -89,8 +89,8 @@ class Trip:
         for at in self.calls:
             arrival = int(now)
             departure = arrival + (dwell if first < at < last else 0)
-            ends = (CLOCK[arrival], CLOCK[departure], self.course.stops[at], at + 1, int(at == last), int(at == first))
-            yield "%s,%s,%s,%s,%d,%d,%d\n" % (self.name, *ends)
+            times, stop = f"{CLOCK[arrival]},{CLOCK[departure]}", self.course.stops[at]
+            yield f"{self.name},{times},{stop},{at + 1},{int(at == last)},{int(at == first)}\n"
             if at < last:
                 now = departure + legs[at] * self.factor
 
@@ -140,10 +140,10 @@ class Trips:
 def write_stop_times(file: TextIO, courses: Iterable[Course], rnd: random.Random) -> Trips:
     """Draws all trips, and writes their stop times as they come."""
     file.write("trip_id,arrival_time,departure_time,stop_id,stop_sequence,pickup_type,drop_off_type\n")
-    made = Trips()
+    trips = Trips()
     for course in courses:
         for trip in course.trips(rnd):
             file.write("".join(trip.stop_times()))
-            made.records.append(trip.record())
-            made.events += len(trip.calls)
-    return made
+            trips.records.append(trip.record())
+            trips.events += len(trip.calls)
+    return trips

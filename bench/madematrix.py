@@ -44,8 +44,8 @@ def cells_of(origin: int, scenario: str, places: npt.NDArray[np.float64], shares
     times = np.stack([middle * (0.7 + share / 170) for share in shares]).astype(np.int64)
     times[:, empty] = -1
     times[:, origin] = 0
-    made: Cells = times
-    return made
+    cells: Cells = times
+    return cells
 
 
 def write(

@@ -6,16 +6,8 @@
 # usage: bench/many_machines.sh FOLDER        (after `rt run` in crates/ttm; as root; Debian: apt-get install python3-numpy parallel slurm-wlm openssh-server)
 set -eu
 [ $# -eq 1 ] || { echo "usage: $0 FOLDER" >&2; exit 2; }
-here=$(cd "$(dirname "$0")/.." && pwd)
+. "$(dirname "$0")/room.sh"
 feed=$(cd "$1" && pwd)
-room=$(mktemp -d)
-server=
-end() {
-    [ -z "$server" ] || kill "$server"
-    rm -rf "$room"
-}
-trap end EXIT
-trap 'exit 1' HUP INT TERM
 cd "$room"
 export PATH="$here/crates/ttm/out:$PATH"
 study="--feed $feed --date 20260504 --from 08:00 --to 08:09 --trips 4 --walk 600 --share 50 --within 1800 --tries 1 --workers 1"
@@ -55,15 +47,7 @@ same "GNU parallel on one machine, one part begun again"
 
 # The same over hosts that share the folder.
 if [ -x /usr/sbin/sshd ]; then
-    mkdir -p /run/sshd
-    ssh-keygen -q -t ed25519 -N "" -f host_key
-    ssh-keygen -q -t ed25519 -N "" -f key
-    cp key.pub known
-    chmod 700 "$room"
-    printf 'Port 22022\nListenAddress 127.0.0.1\nHostKey %s\nAuthorizedKeysFile %s\nPidFile none\nPermitRootLogin yes\nStrictModes no\nUsePAM no\n' "$room/host_key" "$room/known" > sshd_config
-    /usr/sbin/sshd -D -f "$room/sshd_config" 2> sshd.log &
-    server=$!
-    printf 'Host one two\n  HostName 127.0.0.1\n  Port 22022\n  User root\n  IdentityFile %s\n  UserKnownHostsFile %s\n  StrictHostKeyChecking accept-new\n' "$room/key" "$room/hosts" > ssh_config
+    two_hosts 22022
     parallel --ssh "ssh -F $room/ssh_config" --sshlogin 2/one,2/two --workdir "$room" --env PATH --joblog parts/log --resume-failed ./one_part.sh {} ::: parts/part_*.csv
     cut -f 2 parts/log | sort | uniq -c
     same "GNU parallel over two hosts"
@@ -74,7 +58,7 @@ fi
 # A Slurm job array; the third part's matrix is lost, and its task begun again.
 cat > parts.sbatch <<END
 #!/bin/sh
-#SBATCH --array=1-7 --requeue --cpus-per-task=1 --output=parts/told_%a.txt
+#SBATCH --array=1-7 --requeue --cpus-per-task=1 --output=parts/output_%a.txt
 ./one_part.sh "parts/part_\$(printf '%04d' "\$SLURM_ARRAY_TASK_ID").csv"
 END
 cat > array.sh <<'END'

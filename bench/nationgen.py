@@ -55,10 +55,10 @@ def block(pieces: list[Any], count: int) -> bytes:
     """Lines of fields of a fixed width."""
     parts = [np.broadcast_to(np.asarray(piece, dtype=np.bytes_), (count,)) for piece in pieces]
     kinds = [(str(place), part.dtype) for place, part in enumerate(parts)]
-    made = np.empty(count, dtype=kinds)
+    records = np.empty(count, dtype=kinds)
     for place, part in enumerate(parts):
-        made[str(place)] = part
-    return made.tobytes()
+        records[str(place)] = part
+    return records.tobytes()
 
 
 def write_calls(folder: Path, stops: int, lines: int, trips: int) -> None:
@@ -85,14 +85,14 @@ def main() -> None:
     parser.add_argument("folder", type=Path)
     parser.add_argument("--stops", type=int, default=500_000)
     parser.add_argument("--trips", type=int, default=1_000_000)
-    asked = parser.parse_args()
-    asked.folder.mkdir(parents=True, exist_ok=True)
-    lines = max(asked.stops // CALLS, 1)
-    write_stops(asked.folder, asked.stops)
-    write_trips(asked.folder, lines, asked.trips)
-    write_calls(asked.folder, asked.stops, lines, asked.trips)
-    size = os.path.getsize(asked.folder / "stop_times.txt")
-    print(f"{asked.stops} stops, {asked.trips} trips, {asked.trips * CALLS} stop times in {size} bytes")
+    args = parser.parse_args()
+    args.folder.mkdir(parents=True, exist_ok=True)
+    lines = max(args.stops // CALLS, 1)
+    write_stops(args.folder, args.stops)
+    write_trips(args.folder, lines, args.trips)
+    write_calls(args.folder, args.stops, lines, args.trips)
+    size = os.path.getsize(args.folder / "stop_times.txt")
+    print(f"{args.stops} stops, {args.trips} trips, {args.trips * CALLS} stop times in {size} bytes")
 
 
 if __name__ == "__main__":

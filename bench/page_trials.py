@@ -54,18 +54,18 @@ def started() -> Any:
     return driver
 
 
-def opened(driver: Any, path: Path, words: str = "") -> float:
+def opened(driver: Any, path: Path, arguments: str = "") -> float:
     """Opens a page; the milliseconds from asking for the file until all was shown."""
     driver.get("about:blank")
-    driver.get(path.resolve().as_uri() + (f"#{words}" if words else ""))
-    made = "begun.then(() => arguments[0](performance.getEntriesByName('shown')[0].startTime))"
-    return float(driver.execute_async_script(made))
+    driver.get(path.resolve().as_uri() + (f"#{arguments}" if arguments else ""))
+    script = "begun.then(() => arguments[0](performance.getEntriesByName('shown')[0].startTime))"
+    return float(driver.execute_async_script(script))
 
 
 def processor_time(driver: Any) -> float:
     """The milliseconds of processor time that the process of the page took so far, all its threads together."""
     found = driver.execute_cdp_cmd("Performance.getMetrics", {})["metrics"]
-    return 1000 * float(next(it["value"] for it in found if it["name"] == "ProcessTime"))
+    return 1000 * float(next(item["value"] for item in found if item["name"] == "ProcessTime"))
 
 
 def clicked(driver: Any, count: int) -> list[list[float]]:
@@ -73,7 +73,7 @@ def clicked(driver: Any, count: int) -> list[list[float]]:
     names = driver.execute_script("return Array.from(numbers.rows).filter(isPlaced).map((it) => head.identifiers[it])")
     drawn = random.Random(1).sample(names, min(count, len(names)))
     found = [driver.execute_async_script(CLICK, name) for name in drawn]
-    if faults := [it for it in found if isinstance(it, str)]:
+    if faults := [item for item in found if isinstance(item, str)]:
         sys.exit(faults[0])
     return found
 
@@ -94,11 +94,11 @@ def main() -> None:
     parser.add_argument("--picture", help="where a picture is written")
     parser.add_argument("--look", default="", help="what the picture shows")
     parser.add_argument("words", nargs="*", help="the words of ttm-tools page")
-    asked = parser.parse_args()
+    args = parser.parse_args()
     with tempfile.TemporaryDirectory(prefix="ttm page ") as folder:
-        path = Path(asked.keep) if asked.keep else Path(folder) / "a page.html"
-        if asked.words:
-            print(f"made in {timed([PYTHON, str(TOOLS), 'page', *asked.words, '--out', str(path)])}", flush=True)
+        path = Path(args.keep) if args.keep else Path(folder) / "a page.html"
+        if args.words:
+            print(f"made in {timed([PYTHON, str(TOOLS), 'page', *args.words, '--out', str(path)])}", flush=True)
         if not path.is_file():
             sys.exit("no page was made")
         print(f"{path.stat().st_size / 1e6:.2f} MB", flush=True)
@@ -107,18 +107,18 @@ def main() -> None:
             driver.execute_cdp_cmd("Performance.enable", {})
             times, busy = [opened(driver, path)], processor_time(driver)
             times += [opened(driver, path) for _ in range(4)]
-            print(f"shown after {', '.join(f'{it:.0f}' for it in sorted(times))} ms", flush=True)
+            print(f"shown after {', '.join(f'{span:.0f}' for span in sorted(times))} ms", flush=True)
             print(f"processor time of the first opening and its process: {busy:.0f} ms")
             begin = processor_time(driver)
-            clicks = clicked(driver, asked.clicks)
+            clicks = clicked(driver, args.clicks)
             busy = (processor_time(driver) - begin) / max(1, len(clicks))
             print(f"processor time of a click: {busy:.0f} ms")
             for place, what in enumerate(("shown", "drawn")):
-                of = sorted(it[place] for it in clicks)
+                of = sorted(click[place] for click in clicks)
                 print(f"a click is {what} after {of[len(of) // 2]:.0f} ms, at most {of[-1]:.0f} ({len(of)} clicks)")
-            if asked.picture:
-                opened(driver, path, asked.look)
-                save_picture(driver, asked.picture)
+            if args.picture:
+                opened(driver, path, args.look)
+                save_picture(driver, args.picture)
         finally:
             driver.quit()
 

@@ -16,7 +16,7 @@ import datetime
 import heapq
 import os
 import sys
-from typing import Iterable, NamedTuple, Optional, Sequence, TextIO, cast
+from typing import Iterable, NamedTuple, Sequence, TextIO, cast
 
 NEVER = 10**9
 DAY = 86400
@@ -53,7 +53,7 @@ def number(row: Row, column: str) -> int:
 
 def times_of(calls: Sequence[Row]) -> list[Pair]:
     """Both times of each record of a trip: one gives the other; without any it lies evenly between those around it."""
-    times: list[Optional[Pair]] = []
+    times: list[Pair | None] = []
     for r in calls:
         arrive, depart = ((r.get(kind + "_time") or "").strip() for kind in ("arrival", "departure"))
         times.append((seconds(arrive or depart), seconds(depart or arrive)) if arrive or depart else None)
@@ -147,7 +147,7 @@ class Feed:
                     changes[self.stop_no[stop]] = max(changes[self.stop_no[stop]], int(r["min_transfer_time"]))
         return changes
 
-    def direct_footpaths(self, own: Optional[str]) -> dict[Pair, int]:
+    def direct_footpaths(self, own: str | None) -> dict[Pair, int]:
         """The least seconds of each pair of different stops that a row gives."""
         least: dict[Pair, int] = {}
         walks = [(r["from_stop_id"], r["to_stop_id"], r["min_transfer_time"]) for r in self.transfers()]
@@ -179,7 +179,7 @@ def closed_footpaths(stops: int, direct: dict[Pair, int], limit: int) -> Feet:
     return closed
 
 
-def network(feed: Feed, options: argparse.Namespace, scenario: Optional[str]) -> list[list[Event]]:
+def network(feed: Feed, options: argparse.Namespace, scenario: str | None) -> list[list[Event]]:
     """The events of each run that the scenario keeps, on the axis of times."""
     removed: set[tuple[str, str]] = set()
     shifts: dict[str, int] = collections.Counter()
@@ -221,7 +221,7 @@ def walked(ride: list[int], stayed: list[int], feet: Feet) -> list[int]:
 
 def durations(
     runs: list[list[Event]], feet: Feet, changes: Sequence[int], origin: int, departure: int, rides: int
-) -> list[Optional[int]]:
+) -> list[int | None]:
     """The least duration to each stop over journeys of at most so many rides."""
     ride = [NEVER] * len(feet)
     ride[origin] = departure
@@ -239,28 +239,26 @@ def durations(
     return [time - departure if time < NEVER else None for time in walked(ride, ride, feet)]
 
 
-def cell(times: Sequence[Optional[int]], share: int) -> Optional[int]:
+def cell(times: Sequence[int | None], share: int) -> int | None:
     """The least duration that the share of all minutes attains."""
     reached = sorted(t for t in times if t is not None)
     rank = -(-share * len(times) // 100)
     return reached[rank - 1] if rank <= len(reached) else None
 
 
-def access_of(
-    cells: Iterable[Optional[int]], stops: Iterable[str], counts: Optional[dict[str, int]], limit: int
-) -> int:
+def access_of(cells: Iterable[int | None], stops: Iterable[str], counts: dict[str, int] | None, limit: int) -> int:
     """The opportunities at the stops whose cell is within the limit, one at each where there are no counts."""
     near = [s for s, c in zip(stops, cells) if c is not None and c <= limit]
     return len(near) if counts is None else sum(counts.get(s, 0) for s in near)
 
 
-def options(words: Sequence[str]) -> argparse.Namespace:
+def options(arguments: Sequence[str]) -> argparse.Namespace:
     parser = argparse.ArgumentParser(usage=__doc__)
     names = ["feed", "date", "from", "to", "trips", "walk", "share", "within", "workers", "tries", "back", "ahead"]
     for name in names + ["origins", "opportunities", "destinations", "footpaths"]:
         parser.add_argument("--" + name, default="1" if name in ("back", "ahead") else None)
     parser.add_argument("scenario", nargs="*")
-    chosen = parser.parse_args(words)
+    chosen = parser.parse_args(arguments)
     for name in ["trips", "walk", "back", "ahead"]:
         setattr(chosen, name, int(getattr(chosen, name)))
     for name in ["share", "within"]:
@@ -271,27 +269,29 @@ def options(words: Sequence[str]) -> argparse.Namespace:
     return chosen
 
 
-def write_matrix(words: Sequence[str], file: TextIO) -> None:
+def write_matrix(arguments: Sequence[str], file: TextIO) -> None:
     """Writes the matrix that these arguments ask for."""
-    asked = options(words)
-    feed = Feed(asked.feed)
-    feet = closed_footpaths(len(feed.stops), feed.direct_footpaths(asked.footpaths), asked.walk)
+    args = options(arguments)
+    feed = Feed(args.feed)
+    feet = closed_footpaths(len(feed.stops), feed.direct_footpaths(args.footpaths), args.walk)
     changes = feed.change_times()
-    origins = [r["stop_id"] for r in rows(asked.origins)] if asked.origins else feed.stops
-    counts = {r["stop_id"]: int(r["opportunities"]) for r in rows(asked.opportunities)} if asked.opportunities else None
-    columns = [r["stop_id"] for r in rows(asked.destinations)] if asked.destinations else feed.stops
+    origins = [r["stop_id"] for r in rows(args.origins)] if args.origins else feed.stops
+    counts = {r["stop_id"]: int(r["opportunities"]) for r in rows(args.opportunities)} if args.opportunities else None
+    columns = [r["stop_id"] for r in rows(args.destinations)] if args.destinations else feed.stops
     out = csv.writer(file, lineterminator="\n")
-    out.writerow(["scenario", "origin", "share"] + ["access_%d" % limit for limit in asked.within] + columns)
-    for scenario in [None] + asked.scenario:
+    out.writerow(["scenario", "origin", "share"] + [f"access_{limit}" for limit in args.within] + columns)
+    for scenario in [None] + args.scenario:
         name = os.path.basename(scenario).removesuffix(".csv") if scenario else "base"
-        runs = network(feed, asked, scenario)
+        runs = network(feed, args, scenario)
         for origin in origins:
-            table = [durations(runs, feet, changes, feed.stop_no[origin], d, asked.trips) for d in asked.departures]
-            for share in asked.share:
+            table = [durations(runs, feet, changes, feed.stop_no[origin], d, args.trips) for d in args.departures]
+            for share in args.share:
                 cells = [cell([times[stop] for times in table], share) for stop in range(len(feed.stops))]
-                access = [access_of(cells, feed.stops, counts, limit) for limit in asked.within]
-                told = ["" if cells[feed.stop_no[stop]] is None else cells[feed.stop_no[stop]] for stop in columns]
-                out.writerow([name, origin, share] + access + told)
+                access = [access_of(cells, feed.stops, counts, limit) for limit in args.within]
+                cells_shown = [
+                    "" if cells[feed.stop_no[stop]] is None else cells[feed.stop_no[stop]] for stop in columns
+                ]
+                out.writerow([name, origin, share] + access + cells_shown)
 
 
 if __name__ == "__main__":

@@ -41,11 +41,11 @@ def main() -> int:
     parser.add_argument("program")
     parser.add_argument("--feeds", type=int, default=200)
     parser.add_argument("--damages", type=int, default=2000)
-    asked = parser.parse_args()
-    program = str(Path(asked.program).resolve())
-    failed = tried(right_feed_differs, program, asked.feeds)
-    failed += tried(damage_stays, program, asked.damages) + tried(first_fault_differs, program, asked.damages)
-    print(f"{asked.feeds + 2 * asked.damages - failed} passed, {failed} failed")
+    args = parser.parse_args()
+    program = str(Path(args.program).resolve())
+    failed = tried(right_feed_differs, program, args.feeds)
+    failed += tried(damage_stays, program, args.damages) + tried(first_fault_differs, program, args.damages)
+    print(f"{args.feeds + 2 * args.damages - failed} passed, {failed} failed")
     return 1 if failed else 0
 
 

@@ -1,11 +1,12 @@
 #!/usr/bin/env python3
 """Times r5py's names beside a run of `ttm` with the same words, in a place of feedgen.py and streetgen.py.
 
-    r5py_times.py PROGRAM FEED STREETS [--cells N] [--clinics N] [--workers N] [--rounds N] [--seed N]
+    r5py_times.py PROGRAM FEED STREETS [--walk MINUTES] [--cells N] [--clinics N] [--workers N] [--rounds N] [--seed N]
 
 Cells and clinics are drawn near the feed's stops. A matrix is asked for with two percentiles and 60 departures; its
-walks are made first, and are in neither time. Each round asks the network that is kept, and then runs `ttm`; the least
-time of each is printed, with their ratio. It needs a PROGRAM with --ask, geopandas, pyosmium and scipy.
+walks, of 15 minutes at most or as many as are said, are made first, and are in neither time. Each round asks the
+network that is kept, and then runs `ttm`; the least time of each is printed, with their ratio. It needs a PROGRAM with
+--ask, geopandas, pyosmium and scipy.
 """
 
 import datetime
@@ -25,9 +26,11 @@ from shared import parser_of
 sys.path.insert(0, str(Path(__file__).resolve().parent.parent / "tools" / "src"))
 from ttm_tools import r5py  # noqa: E402
 from ttm_tools.gtfs.stops import read_stops  # noqa: E402
+from ttm_tools.r5py.long_walks import reached_directly  # noqa: E402
+from ttm_tools.r5py.split import LONGEST  # noqa: E402
 
 DEPARTURE = datetime.datetime(2026, 5, 4, 8, 0)
-HOUR, WALK = datetime.timedelta(minutes=60), datetime.timedelta(minutes=15)
+HOUR = datetime.timedelta(minutes=60)
 WINDOW = ["--date", "20260504", "--from", "08:00", "--to", "08:59"]
 
 
@@ -43,16 +46,16 @@ def draw(feed: str, count: int, name: str, random: np.random.Generator) -> Any:
     """Points some 300 metres from a stop, or nearer."""
     stops = read_stops(feed)
     chosen = random.choice(np.flatnonzero(stops.placed & (stops.kinds == 0)), count)
-    east, north = (it[chosen] + random.uniform(-0.003, 0.003, count) for it in (stops.longitudes, stops.latitudes))
+    east, north = (item[chosen] + random.uniform(-0.003, 0.003, count) for item in (stops.longitudes, stops.latitudes))
     return frame(name, east, north)
 
 
-def timed_run(program: str, doors: Path, workers: int) -> tuple[float, pandas.DataFrame]:
+def timed_run(program: str, doors: Path, workers: int, walk: int) -> tuple[float, pandas.DataFrame]:
     """The seconds of a run of `ttm` from the same folder, and its matrix."""
     files = [
         word for name in ("origins", "destinations", "footpaths") for word in (f"--{name}", str(doors / f"{name}.csv"))
     ]
-    words = [
+    command = [
         program,
         "--feed",
         str(doors / "feed"),
@@ -61,20 +64,24 @@ def timed_run(program: str, doors: Path, workers: int) -> tuple[float, pandas.Da
         "--trips",
         "8",
         "--walk",
-        "900",
+        str(walk if reached_directly(doors) is None else LONGEST),
         "--share",
         "25,75",
     ]
     begun = time.monotonic()
     with open(doors / "matrix.csv", "wb") as out:
-        subprocess.run([*words, "--within", "1800", "--workers", str(workers), "--tries", "1"], stdout=out, check=True)
+        subprocess.run(
+            [*command, "--within", "1800", "--workers", str(workers), "--tries", "1"], stdout=out, check=True
+        )
     return time.monotonic() - begun, pandas.read_csv(doors / "matrix.csv")
 
 
-def same(mine: Any, theirs: pandas.DataFrame) -> bool:
+def same(mine: Any, theirs: pandas.DataFrame, doors: Path) -> bool:
     """Whether both have the same minutes, below two hours."""
+    direct = reached_directly(doors)
     for share in (25, 75):
         seconds = theirs[theirs.share == share].iloc[:, 4:].to_numpy(np.float64).ravel()
+        seconds = seconds if direct is None else np.fmin(seconds, direct.ravel())
         minutes = np.where(seconds < 7200, np.floor(seconds / 60), np.nan)
         if not np.array_equal(minutes, mine[f"travel_time_p{share}"].to_numpy(), equal_nan=True):
             return False
@@ -85,26 +92,32 @@ def main() -> None:
     parser = parser_of(__doc__)
     for name in ("program", "feed", "streets"):
         parser.add_argument(name)
-    for name, usual in (("cells", 3000), ("clinics", 12), ("workers", len(os.sched_getaffinity(0))), ("rounds", 3)):
+    for name, usual in (
+        ("walk", 15),
+        ("cells", 3000),
+        ("clinics", 12),
+        ("workers", len(os.sched_getaffinity(0))),
+        ("rounds", 3),
+    ):
         parser.add_argument(f"--{name}", type=int, default=usual)
     parser.add_argument("--seed", type=int, default=1)
-    words = parser.parse_args()
-    random = np.random.default_rng(words.seed)
-    cells, clinics = draw(words.feed, words.cells, "cell", random), draw(words.feed, words.clinics, "clinic", random)
+    args = parser.parse_args()
+    random, walk = np.random.default_rng(args.seed), datetime.timedelta(minutes=args.walk)
+    cells, clinics = draw(args.feed, args.cells, "cell", random), draw(args.feed, args.clinics, "clinic", random)
     least = [float("inf"), float("inf")]
     with tempfile.TemporaryDirectory() as cache:
         os.environ["TTM_CACHE"] = cache
-        with r5py.TransportNetwork(words.streets, words.feed, program=words.program) as network:
-            asked: Any = {"departure": DEPARTURE, "departure_time_window": HOUR, "max_time_walking": WALK}
-            r5py.TravelTimeMatrix(network, cells, clinics, **asked)
+        with r5py.TransportNetwork(args.streets, args.feed, program=args.program) as network:
+            options: Any = {"departure": DEPARTURE, "departure_time_window": HOUR, "max_time_walking": walk}
+            r5py.TravelTimeMatrix(network, cells, clinics, **options)
             doors = next(Path(cache, "doors").iterdir()) / "doors"
-            for _ in range(words.rounds):
+            for _ in range(args.rounds):
                 begun = time.monotonic()
-                mine = r5py.TravelTimeMatrix(network, cells, clinics, percentiles=[25, 75], **asked)
+                mine = r5py.TravelTimeMatrix(network, cells, clinics, percentiles=[25, 75], **options)
                 least[0] = min(least[0], time.monotonic() - begun)
-                seconds, theirs = timed_run(words.program, doors, words.workers)
+                seconds, theirs = timed_run(args.program, doors, args.workers, 60 * args.walk)
                 least[1] = min(least[1], seconds)
-                assert same(mine, theirs), "the minutes differ"
+                assert same(mine, theirs, doors), "the minutes differ"
     print(f"r5py's names {least[0]:.2f} s, ttm {least[1]:.2f} s: {least[0] / least[1]:.2f} times")
 
 

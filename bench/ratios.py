@@ -22,7 +22,7 @@ import subprocess
 import sys
 import tempfile
 from dataclasses import dataclass
-from typing import Optional, Sequence
+from typing import Sequence
 
 from shared import DATE, HERE, built, first_origins, name_of, parser_of, print_head, print_row, stops_of, there
 from shared import write_lines, write_origins
@@ -35,18 +35,18 @@ Millis = dict[str, list[float]]  # of each origin, by the names of the algorithm
 
 
 @dataclass(frozen=True)
-class Asked:
+class RatioOptions:
     """What the command line asks for."""
 
     times: int
     origins: str  # how many, or a file
-    first: Optional[int]
+    first: int | None
     minutes: int
     trips: int
     walk: int  # seconds
     date: str
-    peers: Optional[str]
-    beside: Optional[str]
+    peers: str | None
+    beside: str | None
     alone: bool
     folder: list[str]
 
@@ -56,7 +56,7 @@ class Asked:
             return first_origins(folder, int(self.origins))[: self.first]
         paths = [path for path in (os.path.join(folder, self.origins), self.origins) if os.path.exists(path)]
         if not paths:
-            sys.exit("%s: no such file, in %s or by itself" % (self.origins, folder))
+            sys.exit(f"{self.origins}: no such file, in {folder} or by itself")
         return stops_of(paths[0])[: self.first or COUNT]
 
 
@@ -64,23 +64,23 @@ class Asked:
 class Program:
     """A program that prints the milliseconds of each origin and a sum, and what stands for the names that it prints."""
 
-    words: list[str]
+    command: list[str]
     names: dict[str, str]  # by the printed names, in the order of the columns
 
-    def run(self, words: Sequence[str]) -> tuple[Millis, dict[str, str]]:
+    def run(self, arguments: Sequence[str]) -> tuple[Millis, dict[str, str]]:
         """The milliseconds of each origin and the sums of all durations."""
-        text = subprocess.run([*self.words, *words], stdout=subprocess.PIPE, text=True, check=True).stdout
+        text = subprocess.run([*self.command, *arguments], stdout=subprocess.PIPE, text=True, check=True).stdout
         millis: Millis = {}
         for name, unit, time in re.findall(r"^(\w+), origin \d+, (ms|us): ([\d.]+)$", text, re.M):
             millis.setdefault(self.names[name], []).append(float(time) / (1 if unit == "ms" else 1000))
         sums = re.findall(r"^(\w+), checksum: (\d+)$", text, re.M)
-        return millis, {self.names[name]: made for name, made in sums}
+        return millis, {self.names[name]: total for name, total in sums}
 
 
 def compiled(source: str, program: str, *more: str) -> str:
     """Compiles a Rust program for the processor that Rattle compiles for."""
-    words = ["rustc", "--edition", "2021", "-C", "codegen-units=1", "-C", "target-cpu=x86-64-v2", *more]
-    subprocess.run([*words, source, "-o", program], check=True)
+    command = ["rustc", "--edition", "2021", "-C", "codegen-units=1", "-C", "target-cpu=x86-64-v2", *more]
+    subprocess.run([*command, source, "-o", program], check=True)
     return program
 
 
@@ -95,17 +95,17 @@ def compiled_peers(folder: str, place: str) -> str:
     return compiled(main, os.path.join(place, "peers"), *flags)
 
 
-def programs_of(asked: Asked, place: str) -> list[Program]:
+def programs_of(options: RatioOptions, place: str) -> list[Program]:
     """All that is run in turns; `ttm`'s own part comes last."""
     own = built("measure")
     programs = []
-    if not asked.alone:
+    if not options.alone:
         raptor = compiled(os.path.join(HERE, "raptor.rs"), os.path.join(place, "raptor"), "-O")
         programs.append(Program([raptor], {"textbook": "textbook", "range": "range"}))
-    if asked.peers:
-        programs.append(Program([compiled_peers(asked.peers, place)], {"a": "a", "b": "b"}))
-    if asked.beside:
-        programs.append(Program([os.path.abspath(asked.beside), OWN], {OWN: BESIDE}))
+    if options.peers:
+        programs.append(Program([compiled_peers(options.peers, place)], {"a": "a", "b": "b"}))
+    if options.beside:
+        programs.append(Program([os.path.abspath(options.beside), OWN], {OWN: BESIDE}))
     return programs + [Program([own, OWN], {OWN: "ttm"})]
 
 
@@ -114,7 +114,7 @@ def least(runs: Sequence[Millis]) -> dict[str, float]:
     best: Millis = {}
     for millis in runs:
         for name, times in millis.items():
-            best[name] = [min(it) for it in zip(times, best.get(name, times))]
+            best[name] = [min(item) for item in zip(times, best.get(name, times))]
     return {name: sum(times) / len(times) for name, times in best.items()}
 
 
@@ -132,20 +132,20 @@ def linked(folder: str, origins: Sequence[str], place: str, for_peers: bool) -> 
     return feed
 
 
-def means_of(folder: str, asked: Asked, programs: Sequence[Program], place: str) -> dict[str, float]:
+def means_of(folder: str, options: RatioOptions, programs: Sequence[Program], place: str) -> dict[str, float]:
     """The mean over a feed's origins of each origin's least time, by the names of the programs."""
-    feed = linked(folder, asked.origins_of(folder), place, bool(asked.peers))
-    window = [asked.date, "07:00:00", str(asked.minutes), str(asked.trips), str(asked.walk)]
-    words = [feed, *window, *(there(folder, "footpaths.csv") or ["-"]), os.path.join(feed, "origins.csv")]
+    feed = linked(folder, options.origins_of(folder), place, bool(options.peers))
+    window = [options.date, "07:00:00", str(options.minutes), str(options.trips), str(options.walk)]
+    arguments = [feed, *window, *(there(folder, "footpaths.csv") or ["-"]), os.path.join(feed, "origins.csv")]
     runs: list[Millis] = []
     sums: dict[str, str] = {}
-    for _ in range(asked.times):
+    for _ in range(options.times):
         for program in programs:
-            millis, made = program.run(words)
+            millis, results = program.run(arguments)
             runs.append(millis)
-            sums.update(made)
+            sums.update(results)
     if set(sums) != set(names_of(programs)) or len(set(sums.values())) != 1:
-        sys.exit("%s: the durations differ: %s" % (folder, sums))
+        sys.exit(f"{folder}: the durations differ: {sums}")
     return least(runs)
 
 
@@ -154,15 +154,15 @@ def names_of(programs: Sequence[Program]) -> list[str]:
     return [name for program in programs for name in program.names.values()]
 
 
-def row_of(folder: str, asked: Asked, programs: Sequence[Program], place: str) -> list[str]:
+def row_of(folder: str, options: RatioOptions, programs: Sequence[Program], place: str) -> list[str]:
     """The cells of a feed."""
     names = names_of(programs)
-    mean = means_of(folder, asked, programs, place)
-    ratios = ["%.2f" % (mean[name] / mean["ttm"]) for name in names[:-1]]
-    return [name_of(folder), str(len(asked.origins_of(folder)))] + ["%.1f" % mean[name] for name in names] + ratios
+    mean = means_of(folder, options, programs, place)
+    ratios = [f"{mean[name] / mean['ttm']:.2f}" for name in names[:-1]]
+    return [name_of(folder), str(len(options.origins_of(folder)))] + [f"{mean[name]:.1f}" for name in names] + ratios
 
 
-def asked_of(words: Optional[Sequence[str]] = None) -> Asked:
+def options_of(arguments: Sequence[str] | None = None) -> RatioOptions:
     """What the arguments ask for."""
     parser = parser_of(__doc__)
     which = "how many origins, of the folder's origins.csv or else of its stops; or a file of origins, in each folder"
@@ -172,22 +172,22 @@ def asked_of(words: Optional[Sequence[str]] = None) -> Asked:
     parser.add_argument("--minutes", type=int, default=120, help="departures, from 07:00 on (default: 120)")
     parser.add_argument("--trips", type=int, default=4, help="most rides of a journey, 1 to 8 (default: 4)")
     parser.add_argument("--walk", type=int, default=600, help="longest walk, in seconds (default: 600)")
-    parser.add_argument("--date", default=DATE, help="YYYYMMDD (default: %s)" % DATE)
+    parser.add_argument("--date", default=DATE, help=f"YYYYMMDD (default: {DATE})")
     parser.add_argument("--peers", metavar="FOLDER", help="a folder of Rust peers with src/net.rs and src/scalar.rs")
     parser.add_argument("--beside", metavar="PROGRAM", help="the program of crates/measure as another commit builds it")
     parser.add_argument("--alone", action="store_true", help="without bench/raptor.rs")
     parser.add_argument("folder", nargs="+", metavar="FOLDER", help="an unpacked feed")
-    return Asked(**vars(parser.parse_args(words)))
+    return RatioOptions(**vars(parser.parse_args(arguments)))
 
 
 def main() -> None:
-    asked = asked_of()
+    options = options_of()
     with tempfile.TemporaryDirectory() as place:
-        programs = programs_of(asked, place)
+        programs = programs_of(options, place)
         names = names_of(programs)
         print_head(["feed", "origins"] + [name + ", ms" for name in names] + ["over " + name for name in names[:-1]])
-        for folder in asked.folder:
-            print_row(row_of(folder, asked, programs, place))
+        for folder in options.folder:
+            print_row(row_of(folder, options, programs, place))
 
 
 if __name__ == "__main__":

@@ -1,13 +1,13 @@
 #!/usr/bin/env python3
 """Times `ttm-tools scenarios` with a plan of ten scenarios over a feed of `feedgen.py`, with its processor time and
-peak memory, and tells what was written.
+peak memory, and says what was written.
 
     scenario_times.py FEED OUT [ROUTES]
 
 Each scenario has three actions: a new line along twenty stops of a route; ROUTES routes (20 by default) every five
 minutes all day; and one that differs (a bus lane on so many routes, stops, routes and trips taken out or shifted, a
 route cut or extended).
-OUT has the plan then, what was told, and in OUT/feed what was written.
+OUT has the plan then, what was reported, and in OUT/feed what was written.
 """
 
 import csv
@@ -74,10 +74,10 @@ def plan_of(folder: Path, count: int) -> str:
         way = next(way for way in list(ways.values())[number * 13 :] if len(way) >= 20)
         some, other = part(routes, number * count, count), part(routes, 200 + number * count, count)
         first = other[0]
-        words = {"stops": quoted(ways[first][2:12]), "routes": quoted(other), "first": first}
-        words |= {"middle": ways[first][len(ways[first]) // 2], "last": ways[first][-1]}
+        fields = {"stops": quoted(ways[first][2:12]), "routes": quoted(other), "first": first}
+        fields |= {"middle": ways[first][len(ways[first]) // 2], "last": ways[first][-1]}
         actions = [LINE.format(number=number, stops=quoted(way[:20])), HEADWAY.format(routes=quoted(some))]
-        actions.append(OTHERS[number % len(OTHERS)].format(**words))
+        actions.append(OTHERS[number % len(OTHERS)].format(**fields))
         lines += [f'[[scenario]]\nname = "s{number}"\n', *(f"[[scenario.action]]\n{action}" for action in actions)]
     return "\n".join(lines)
 
@@ -87,8 +87,8 @@ def main() -> None:
     out.mkdir(exist_ok=True)
     (out / "plan.toml").write_text(plan_of(feed, int(more[0]) if more else 20))
     begin = time.monotonic()
-    words = [PYTHON, str(TOOLS), "scenarios", str(feed), str(out / "plan.toml"), "--out", str(out / "feed")]
-    with open(out / "told.txt", "w") as told, subprocess.Popen(words, stdout=told, stderr=told) as run:
+    command = [PYTHON, str(TOOLS), "scenarios", str(feed), str(out / "plan.toml"), "--out", str(out / "feed")]
+    with open(out / "told.txt", "w") as log, subprocess.Popen(command, stdout=log, stderr=log) as run:
         _, status, used = os.wait4(run.pid, 0)
         run.returncode = os.waitstatus_to_exitcode(status)
     busy = used.ru_utime + used.ru_stime

@@ -27,9 +27,9 @@ def main() -> int:
     parser.add_argument("program")
     parser.add_argument("--count", type=int, default=500)
     parser.add_argument("--seed", type=int, default=0)
-    asked = parser.parse_args()
-    program, failed = str(Path(asked.program).resolve()), 0
-    for seed in range(asked.seed, asked.seed + asked.count):
+    args = parser.parse_args()
+    program, failed = str(Path(args.program).resolve()), 0
+    for seed in range(args.seed, args.seed + args.count):
         said = io.TextIOWrapper(io.BytesIO())
         with tempfile.TemporaryDirectory(prefix="ttm-plan-") as room:
             with contextlib.redirect_stderr(said), contextlib.redirect_stdout(said):
@@ -37,7 +37,7 @@ def main() -> int:
         if wrong:
             failed += 1
             print(wrong, flush=True)
-    print(f"{asked.count - failed} passed, {failed} failed")
+    print(f"{args.count - failed} passed, {failed} failed")
     return 1 if failed else 0
 
 

@@ -7,13 +7,13 @@ import subprocess
 import sys
 import time
 from dataclasses import dataclass
-from typing import Any, Iterable, Optional, Sequence
+from typing import Any, Iterable, Sequence
 
 HERE = os.path.dirname(os.path.abspath(__file__))
 DATE = "20260504"  # a Monday on which all trips of the made feeds run
 
 
-def parser_of(text: Optional[str]) -> argparse.ArgumentParser:
+def parser_of(text: str | None) -> argparse.ArgumentParser:
     """A parser whose help shows a script's own text as it stands."""
     return argparse.ArgumentParser(description=text, formatter_class=argparse.RawDescriptionHelpFormatter)
 
@@ -22,7 +22,7 @@ def built(crate: str) -> str:
     """The path of a crate's program; ends the script where `rt run` didn't build it yet."""
     program = os.path.join(HERE, "..", "crates", crate, "out", crate)
     if not os.path.exists(program):
-        sys.exit("%s is not built: run 'rt run' in crates/%s first" % (os.path.normpath(program), crate))
+        sys.exit(f"{os.path.normpath(program)} is not built: run 'rt run' in crates/{crate} first")
     return program
 
 
@@ -31,7 +31,7 @@ def built(crate: str) -> str:
 
 def clock(seconds: int) -> str:
     """A time as GTFS writes it, HH:MM:SS."""
-    return "%02d:%02d:%02d" % (seconds // 3600, seconds // 60 % 60, seconds % 60)
+    return f"{seconds // 3600:02}:{seconds // 60 % 60:02}:{seconds % 60:02}"
 
 
 def write_lines(folder: str, name: str, header: str, rows: Iterable[str]) -> None:
@@ -46,7 +46,7 @@ def stops_of(path: str) -> list[str]:
     if not os.path.exists(path):
         return []
     with open(path, newline="", encoding="utf-8-sig") as file:
-        return [it["stop_id"] for it in csv.DictReader(file) if (it.get("location_type") or "").strip() in ("", "0")]
+        return [row["stop_id"] for row in csv.DictReader(file) if (row.get("location_type") or "").strip() in ("", "0")]
 
 
 def first_origins(folder: str, count: int, all_of_them: bool = False) -> list[str]:
@@ -87,15 +87,15 @@ class Study:
     shares: Sequence[int] = (50,)
     limits: Sequence[int] = (3600,)  # seconds
 
-    def words(self, folder: str, origins: str, workers: int) -> list[str]:
+    def arguments(self, folder: str, origins: str, workers: int) -> list[str]:
         """The arguments; the folder's `footpaths.csv` is taken where it has one."""
-        last = "%02d:%02d" % divmod(7 * 60 + self.minutes - 1, 60)
-        words = ["--feed", folder, "--date", self.date, "--from", "07:00", "--to", last]
-        words += ["--trips", str(self.trips), "--walk", str(self.walk)]
-        words += ["--share", ",".join(map(str, self.shares)), "--within", ",".join(map(str, self.limits))]
-        words += ["--back", str(self.days_around), "--ahead", str(self.days_around)]
-        words += ["--origins", origins, "--workers", str(workers), "--tries", "1"]
-        return words + [word for path in there(folder, "footpaths.csv") for word in ("--footpaths", path)]
+        hours, minutes = divmod(7 * 60 + self.minutes - 1, 60)
+        arguments = ["--feed", folder, "--date", self.date, "--from", "07:00", "--to", f"{hours:02}:{minutes:02}"]
+        arguments += ["--trips", str(self.trips), "--walk", str(self.walk)]
+        arguments += ["--share", ",".join(map(str, self.shares)), "--within", ",".join(map(str, self.limits))]
+        arguments += ["--back", str(self.days_around), "--ahead", str(self.days_around)]
+        arguments += ["--origins", origins, "--workers", str(workers), "--tries", "1"]
+        return arguments + [word for path in there(folder, "footpaths.csv") for word in ("--footpaths", path)]
 
 
 @dataclass(frozen=True)
@@ -115,13 +115,13 @@ def wait_for(program: subprocess.Popen[Any], began: float) -> Ran:
     return Ran(program.returncode, seconds, usage.ru_maxrss // 1024)
 
 
-def run_into(words: Sequence[str], path: str) -> Ran:
+def run_into(arguments: Sequence[str], path: str) -> Ran:
     """Runs a program whose standard output goes into a file; ends the script where it isn't a success."""
     with open(path, "wb") as out:
         began = time.monotonic()
-        ran = wait_for(subprocess.Popen(words, stdout=out), began)
+        ran = wait_for(subprocess.Popen(arguments, stdout=out), began)
     if ran.status != 0:
-        sys.exit("status %d: %s" % (ran.status, " ".join(words[1:])))
+        sys.exit(f"status {ran.status}: {' '.join(arguments[1:])}")
     return ran
 
 
@@ -131,10 +131,10 @@ def sum_of(path: str) -> str:
         return hashlib.file_digest(file, "sha256").hexdigest()
 
 
-def peak_so_far(process: int) -> Optional[int]:
+def peak_so_far(process: int) -> int | None:
     """The most memory that a process held until now, in MB; none once it has ended."""
     try:
-        with open("/proc/%d/status" % process) as file:
+        with open(f"/proc/{process}/status") as file:
             found = [line.split()[1] for line in file if line.startswith("VmHWM:")]
     except OSError:
         return None

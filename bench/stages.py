@@ -23,10 +23,10 @@ STAGES = ["reading", "days", "walks", "networks", "durations", "text"]
 SIZES = ["direct footpaths", "closed pairs", "runs", "rows", "bytes of text"]
 
 
-def measured(program: str, words: list[str]) -> tuple[dict[str, str], list[int]]:
+def measured(program: str, command: list[str]) -> tuple[dict[str, str], list[int]]:
     """What the program prints, by the words before each colon, and the peak memory at the end of each stage, in MB."""
     began = time.monotonic()
-    started = subprocess.Popen([program] + words, stdout=subprocess.PIPE, text=True)
+    started = subprocess.Popen([program] + command, stdout=subprocess.PIPE, text=True)
     assert started.stdout is not None
     figures: dict[str, str] = {}
     peaks: dict[str, int] = {}
@@ -37,7 +37,7 @@ def measured(program: str, words: list[str]) -> tuple[dict[str, str], list[int]]
             peaks[what.removesuffix(", ms")] = peak_so_far(started.pid) or 0
     ran = wait_for(started, began)
     if ran.status != 0 or "bytes of text" not in figures:
-        sys.exit("%s: no measurement (status %d)\n%s" % (words[0], ran.status, figures))
+        sys.exit(f"{command[0]}: no measurement (status {ran.status})\n{figures}")
     return figures, [peaks.get(stage) or ran.peak for stage in STAGES]
 
 
@@ -47,12 +47,12 @@ def row_of(program: str, folder: str, date: str) -> list[str]:
     with tempfile.TemporaryDirectory() as place:
         origins = os.path.join(place, "origins.csv")
         write_origins(origins, first_origins(folder, ORIGINS))
-        words = [folder, date, "08:00:00", "10", "4", "600", *(walks or ["-"]), origins]
-        figures, peaks = measured(program, words + scenarios)
-    times = ["%s (%d MB)" % (figures[stage + ", ms"], peak) for stage, peak in zip(STAGES, peaks)]
-    sizes = ["{:,}".format(int(figures[size])) for size in SIZES]
-    rate = "{:,}".format(int(figures["stop events per second"]))
-    events = "{:,}".format(int(figures["stop events"]))
+        arguments = [folder, date, "08:00:00", "10", "4", "600", *(walks or ["-"]), origins]
+        figures, peaks = measured(program, arguments + scenarios)
+    times = [f"{figures[stage + ', ms']} ({peak} MB)" for stage, peak in zip(STAGES, peaks)]
+    sizes = [f"{int(figures[size]):,}" for size in SIZES]
+    rate = f"{int(figures['stop events per second']):,}"
+    events = f"{int(figures['stop events']):,}"
     return [name_of(folder), events] + times + [rate] + sizes
 
 
@@ -60,11 +60,11 @@ def main() -> None:
     parser = parser_of(__doc__)
     parser.add_argument("--date", default=DATE)
     parser.add_argument("folder", nargs="+")
-    asked = parser.parse_args()
+    args = parser.parse_args()
     program = built("measure")
     print_head(["feed", "stop events"] + STAGES + ["events per second"] + SIZES)
-    for folder in asked.folder:
-        print_row(row_of(program, folder, asked.date))
+    for folder in args.folder:
+        print_row(row_of(program, folder, args.date))
 
 
 if __name__ == "__main__":

@@ -105,11 +105,11 @@ def main() -> None:
     parser.add_argument("file", type=Path)
     parser.add_argument("--nodes", type=int, default=600_000)
     parser.add_argument("--seed", type=int, default=1)
-    asked = parser.parse_args()
-    draw = np.random.default_rng(asked.seed)
-    grid = grid_of(ground_of(asked.feed), asked.nodes, draw)
-    ways = write(asked.file, grid, draw)
-    print(f"{asked.file}: {grid.rows * grid.columns} nodes, {ways} ways")
+    args = parser.parse_args()
+    draw = np.random.default_rng(args.seed)
+    grid = grid_of(ground_of(args.feed), args.nodes, draw)
+    ways = write(args.file, grid, draw)
+    print(f"{args.file}: {grid.rows * grid.columns} nodes, {ways} ways")
 
 
 if __name__ == "__main__":

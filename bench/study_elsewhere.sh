@@ -7,16 +7,8 @@
 # As root; Debian: apt-get install python3-numpy python3-pandas python3-h5py python3-matplotlib parallel slurm-wlm
 #          openssh-server
 set -eu
-here=$(cd "$(dirname "$0")/.." && pwd)
+. "$(dirname "$0")/room.sh"
 program=$(realpath "${1:-$here/crates/ttm/out/ttm}")
-room=$(mktemp -d)
-server=
-end() {
-    [ -z "$server" ] || kill "$server"
-    rm -rf "$room"
-}
-trap end EXIT
-trap 'exit 1' HUP INT TERM
 cd "$room"
 PATH=/usr/bin:$PATH # the Python that has Debian's packages
 export PATH
@@ -64,17 +56,7 @@ study --out parallel --hosts 2/: 2> log || { cat log parallel/parts/hosts.txt; e
 same parallel "GNU parallel on this machine"
 
 if [ -x /usr/sbin/sshd ]; then
-    mkdir -p /run/sshd
-    ssh-keygen -q -t ed25519 -N "" -f host_key
-    ssh-keygen -q -t ed25519 -N "" -f key
-    cp key.pub known
-    chmod 700 "$room"
-    printf 'Port 22023\nListenAddress 127.0.0.1\nHostKey %s\nAuthorizedKeysFile %s\nPidFile none\nPermitRootLogin yes\nStrictModes no\nUsePAM no\n' \
-        "$room/host_key" "$room/known" > sshd_config
-    /usr/sbin/sshd -D -f "$room/sshd_config" 2> sshd.log &
-    server=$!
-    printf 'Host one two\n  HostName 127.0.0.1\n  Port 22023\n  User root\n  IdentityFile %s\n  UserKnownHostsFile %s\n  StrictHostKeyChecking accept-new\n' \
-        "$room/key" "$room/hosts" > ssh_config
+    two_hosts 22023
     study --out hosts --hosts 2/one,2/two --option "ssh=ssh -F $room/ssh_config" 2> log || { cat log; exit 1; }
     same hosts "GNU parallel over two hosts"
 else

@@ -78,7 +78,7 @@ class Pieces:
 
     def __init__(self, path: Path) -> None:
         self.path = path
-        self.all = [Piece(**it) for it in json.loads(text_of(path) or "[]")]
+        self.all = [Piece(**entry) for entry in json.loads(text_of(path) or "[]")]
 
     def begin(self) -> Piece:
         with open(PROGRAM, "rb") as file:
@@ -87,24 +87,24 @@ class Pieces:
         return self.all[-1]
 
     def keep(self) -> None:
-        made = self.path.with_suffix(".new")
-        made.write_text(json.dumps([asdict(it) for it in self.all], indent=1), encoding="utf-8")
-        made.replace(self.path)
+        aside = self.path.with_suffix(".new")
+        aside.write_text(json.dumps([asdict(item) for item in self.all], indent=1), encoding="utf-8")
+        aside.replace(self.path)
 
     def that(self, *ends: str) -> list[Piece]:
-        return [it for it in self.all if it.ended in ends]
+        return [item for item in self.all if item.ended in ends]
 
 
 def members_of(group: int) -> list[Path]:
     """The folders of /proc of the processes of a group."""
-    made = []
+    members = []
     for path in Path("/proc").glob("[0-9]*"):
         try:
             if os.getpgid(int(path.name)) == group:
-                made.append(path)
+                members.append(path)
         except OSError:
             continue
-    return made
+    return members
 
 
 def taken_by(group: int) -> tuple[int, float]:
@@ -137,18 +137,18 @@ def parts_done(folder: Path) -> float:
     """Which share of the parts is done."""
     there = list((folder / "parts").glob("[0-9]*"))
     cut = re.search(r'"parts": ([0-9]+)', text_of(folder / "stages" / "cut.json"))
-    return sum((it / "key").is_file() for it in there) / int(cut[1]) if cut else 0.0
+    return sum((item / "key").is_file() for item in there) / int(cut[1]) if cut else 0.0
 
 
 def text_of(path: Path) -> str:
     return path.read_text(encoding="utf-8") if path.is_file() else ""
 
 
-def run(words: list[str], folder: Path, until: float, pieces: Pieces, end: str = DONE) -> None:
+def run(command: list[str], folder: Path, until: float, pieces: Pieces, end: str = DONE) -> None:
     """Runs a command until it ends, or until so many of the parts are done."""
     piece, begin, used = pieces.begin(), time.monotonic(), processors_of_ended()
     die_with_this = ["setpriv", "--pdeathsig", "KILL", "--"]
-    process = subprocess.Popen([*die_with_this, PYTHON, TOOLS, "study", *words], start_new_session=True)
+    process = subprocess.Popen([*die_with_this, PYTHON, TOOLS, "study", *command], start_new_session=True)
     for look in count():
         piece.seconds, piece.parts = time.monotonic() - begin, max(piece.parts, parts_done(folder))
         if process.poll() is not None:
@@ -183,7 +183,7 @@ def processors_of_ended() -> float:
 
 
 def tell_stages(folder: Path) -> None:
-    """Tells what the folder notes of its parts and stages; the matrix as the last of the commands made it."""
+    """Reports what the folder notes of its parts and stages; the matrix as the last of the commands made it."""
     notes = json.loads(text_of(folder / "study.json"))
     times = notes["times"]
     print(f"parts: {notes['parts']}, in all {times['seconds_of_parts']:,.0f} s by their clocks")
@@ -191,16 +191,18 @@ def tell_stages(folder: Path) -> None:
 
 
 def tell(what: str, pieces: Pieces, folder: Path) -> None:
-    """Tells what all took."""
-    made, again = pieces.that(GOES_ON, KILLED, DONE), pieces.that(VERIFIED)[-1]
+    """Reports what all took."""
+    piece, again = pieces.that(GOES_ON, KILLED, DONE), pieces.that(VERIFIED)[-1]
     print(f"{what}, killed {len(pieces.that(KILLED))} times, this script {len(pieces.that(GOES_ON))} times")
-    for it in made:
-        told = f"{it.seconds:,.0f} s, processors {it.processors:,.0f} s, {100 * it.parts:.0f} of 100 parts there"
-        print(f"{it.began}, {it.ended}, ttm {it.program}: {told}")
-    seconds, processors = sum(it.seconds for it in made), sum(it.processors for it in made)
+    for item in piece:
+        sentence = (
+            f"{item.seconds:,.0f} s, processors {item.processors:,.0f} s, {100 * item.parts:.0f} of 100 parts there"
+        )
+        print(f"{item.began}, {item.ended}, ttm {item.program}: {sentence}")
+    seconds, processors = sum(item.seconds for item in piece), sum(item.processors for item in piece)
     print(f"in all {seconds:,.0f} s; processors {processors:,.0f} s")
     tell_stages(folder)
-    memory, disk = max(it.memory for it in pieces.all), max(it.disk for it in pieces.all)
+    memory, disk = max(item.memory for item in pieces.all), max(item.disk for item in pieces.all)
     print(f"at most {memory / GB:.2f} GB of memory and {disk / GB:.2f} GB of disk; left {disk_of(folder) / GB:.2f}")
     print(f"verification, ttm {again.program}: {again.seconds:,.0f} s; processors {again.processors:,.0f} s")
 
@@ -215,24 +217,24 @@ def make_feed(size: str, folder: Path) -> None:
 
 
 def main() -> None:
-    words = argparse.ArgumentParser(description=__doc__, formatter_class=argparse.RawDescriptionHelpFormatter)
-    words.add_argument("size", choices=("town", "city", "metro"))
-    words.add_argument("folder", type=Path)
-    words.add_argument("--workers", default=str(len(os.sched_getaffinity(0))), help="parts at once")
-    words.add_argument("--memory", type=int, default=6400, help="MB that all of them may take")
-    asked = words.parse_args()
-    asked.folder.mkdir(parents=True, exist_ok=True)
-    make_feed(asked.size, asked.folder)
-    path, out = asked.folder / "study.toml", asked.folder / "study"
-    path.write_text(STUDY.format(size=asked.size, memory=asked.memory), encoding="utf-8")
-    pieces = Pieces(asked.folder / "pieces.json")
-    named = [str(path), "--workers", asked.workers]
+    parser = argparse.ArgumentParser(description=__doc__, formatter_class=argparse.RawDescriptionHelpFormatter)
+    parser.add_argument("size", choices=("town", "city", "metro"))
+    parser.add_argument("folder", type=Path)
+    parser.add_argument("--workers", default=str(len(os.sched_getaffinity(0))), help="parts at once")
+    parser.add_argument("--memory", type=int, default=6400, help="MB that all of them may take")
+    args = parser.parse_args()
+    args.folder.mkdir(parents=True, exist_ok=True)
+    make_feed(args.size, args.folder)
+    path, out = args.folder / "study.toml", args.folder / "study"
+    path.write_text(STUDY.format(size=args.size, memory=args.memory), encoding="utf-8")
+    pieces = Pieces(args.folder / "pieces.json")
+    named = [str(path), "--workers", args.workers]
     while not pieces.that(DONE):
         killed = len(pieces.that(KILLED))
         run(named, out, KILLED_AT[killed] if killed < len(KILLED_AT) else 2.0, pieces)
     if not pieces.that(VERIFIED):
-        run(["--verify", str(out), "--workers", asked.workers], out, 2.0, pieces, VERIFIED)
-    tell(f"{asked.size}, {asked.workers} processes", pieces, out)
+        run(["--verify", str(out), "--workers", args.workers], out, 2.0, pieces, VERIFIED)
+    tell(f"{args.size}, {args.workers} processes", pieces, out)
 
 
 if __name__ == "__main__":

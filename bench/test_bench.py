@@ -23,12 +23,12 @@ def write_stops(folder: Path, name: str, *stops: str) -> None:
 
 
 def test_the_town_has_the_same_bytes_for_ever(tmp_path: Path) -> None:
-    told = feedgen.write_feed("town", 1, str(tmp_path))
-    assert told == (
+    printed = feedgen.write_feed("town", 1, str(tmp_path))
+    assert printed == (
         "size town seed 1: stops 482, stations 6, routes 37, trips 4993, stop_times 61617, direct footpaths 3444\n"
     )
     files = sorted(tmp_path.iterdir())
-    sums = "".join("%s %s\n" % (hashlib.sha256(it.read_bytes()).hexdigest(), it.name) for it in files)
+    sums = "".join(f"{hashlib.sha256(file.read_bytes()).hexdigest()} {file.name}\n" for file in files)
     assert len(files) == 13 and hashlib.sha256(sums.encode()).hexdigest() == TOWN
 
 
@@ -36,15 +36,15 @@ def test_change_times_are_in_the_transfers_alone(tmp_path: Path) -> None:
     plain, changed = tmp_path / "plain", tmp_path / "changed"
     feedgen.write_feed("town", 1, str(plain))
     feedgen.write_feed("town", 1, str(changed), 120)
-    other = [it.name for it in sorted(plain.iterdir()) if it.read_bytes() != (changed / it.name).read_bytes()]
+    other = [path.name for path in sorted(plain.iterdir()) if path.read_bytes() != (changed / path.name).read_bytes()]
     assert other == ["transfers.txt"]
     rows = (changed / "transfers.txt").read_text().splitlines()
-    assert len([it for it in rows if it.endswith(",2,120")]) == 482 and "B00000N,B00000N,2,120" in rows
+    assert len([row for row in rows if row.endswith(",2,120")]) == 482 and "B00000N,B00000N,2,120" in rows
 
 
 def test_another_seed_makes_another_town(tmp_path: Path) -> None:
-    told = [feedgen.write_feed("town", seed, str(tmp_path / str(seed))) for seed in (1, 2, 2)]
-    assert told[0] != told[1] == told[2]
+    printed = [feedgen.write_feed("town", seed, str(tmp_path / str(seed))) for seed in (1, 2, 2)]
+    assert printed[0] != printed[1] == printed[2]
 
 
 def test_origins_are_the_folders_own_or_its_first_stops(tmp_path: Path) -> None:
@@ -59,11 +59,11 @@ def test_origins_of_ratios_are_so_many_or_those_of_a_file(tmp_path: Path) -> Non
     write_stops(tmp_path, "stops.txt", "A,0", "B,0", "C,0")
     write_stops(tmp_path, "mine.csv", "C,", "A,")
     folder = str(tmp_path)
-    assert ratios.asked_of(["--origins", "2", folder]).origins_of(folder) == ["A", "B"]
-    assert ratios.asked_of(["--origins", "mine.csv", folder]).origins_of(folder) == ["C", "A"]
-    assert ratios.asked_of(["--origins", folder + "/mine.csv", "--first", "1", folder]).origins_of(folder) == ["C"]
+    assert ratios.options_of(["--origins", "2", folder]).origins_of(folder) == ["A", "B"]
+    assert ratios.options_of(["--origins", "mine.csv", folder]).origins_of(folder) == ["C", "A"]
+    assert ratios.options_of(["--origins", folder + "/mine.csv", "--first", "1", folder]).origins_of(folder) == ["C"]
     with pytest.raises(SystemExit):
-        ratios.asked_of(["--origins", "none.csv", folder]).origins_of(folder)
+        ratios.options_of(["--origins", "none.csv", folder]).origins_of(folder)
 
 
 def test_a_programs_times_are_read_in_milliseconds() -> None:
@@ -73,8 +73,8 @@ def test_a_programs_times_are_read_in_milliseconds() -> None:
     assert program.run([]) == ({"ttm": [1.5]}, {"ttm": "7"})
 
 
-def goals_of(*more: str) -> goals.Asked:
-    return goals.asked_of(["--town", "t", "--city", "c", "--metropolis", "m", *more])
+def goals_of(*more: str) -> goals.GoalOptions:
+    return goals.options_of(["--town", "t", "--city", "c", "--metropolis", "m", *more])
 
 
 def test_a_goal_is_met_from_its_least_or_up_to_its_most() -> None:
@@ -101,43 +101,43 @@ def test_a_feed_gets_a_change_time_at_each_stop(tmp_path: Path) -> None:
     feed.mkdir()
     write_stops(feed, "stops.txt", "G,1", "A,0", "B,")
     write_stops(feed, "transfers.txt")
-    made = Path(variants.with_changes(str(feed), str(tmp_path), 90))
-    rows = (made / "transfers.txt").read_text().splitlines()
+    folder = Path(variants.with_changes(str(feed), str(tmp_path), 90))
+    rows = (folder / "transfers.txt").read_text().splitlines()
     assert rows == ["from_stop_id,to_stop_id,transfer_type,min_transfer_time", "A,A,2,90", "B,B,2,90"]
-    assert (made / "stops.txt").read_bytes() == (feed / "stops.txt").read_bytes()
+    assert (folder / "stops.txt").read_bytes() == (feed / "stops.txt").read_bytes()
 
 
 def test_every_third_trip_keeps_its_stop_times(tmp_path: Path) -> None:
     feed = tmp_path / "feed"
     feed.mkdir()
-    shared.write_lines(str(feed), "trips.txt", "route_id,service_id,trip_id", ["R,S,T%d" % it for it in range(5)])
-    times = ["T%d,08:00:00" % trip for trip in range(5) for _ in range(2)]
+    shared.write_lines(str(feed), "trips.txt", "route_id,service_id,trip_id", [f"R,S,T{number}" for number in range(5)])
+    times = [f"T{trip},08:00:00" for trip in range(5) for _ in range(2)]
     shared.write_lines(str(feed), "stop_times.txt", "trip_id,arrival_time", times)
-    made = Path(variants.every_third_trip(str(feed), str(tmp_path)))
-    assert (made / "trips.txt").read_text().splitlines()[1:] == ["R,S,T0", "R,S,T3"]
-    assert [it[:2] for it in (made / "stop_times.txt").read_text().splitlines()[1:]] == ["T0", "T0", "T3", "T3"]
+    folder = Path(variants.every_third_trip(str(feed), str(tmp_path)))
+    assert (folder / "trips.txt").read_text().splitlines()[1:] == ["R,S,T0", "R,S,T3"]
+    assert [line[:2] for line in (folder / "stop_times.txt").read_text().splitlines()[1:]] == ["T0", "T0", "T3", "T3"]
 
 
 def test_a_drawn_order_has_the_same_stops(tmp_path: Path) -> None:
     feed = tmp_path / "feed"
     feed.mkdir()
-    write_stops(feed, "stops.txt", *("S%d,0" % it for it in range(20)))
+    write_stops(feed, "stops.txt", *(f"S{number},0" for number in range(20)))
     drawn = [Path(variants.with_drawn_order(str(feed), str(tmp_path))) / "stops.txt" for _ in range(2)]
     header, *stops = drawn[0].read_text().splitlines()
     assert header == "stop_id,location_type" and drawn[0].read_bytes() == drawn[1].read_bytes()
-    assert sorted(stops) == sorted("S%d,0" % it for it in range(20)) and stops[:3] != ["S0,0", "S1,0", "S2,0"]
+    assert sorted(stops) == sorted(f"S{number},0" for number in range(20)) and stops[:3] != ["S0,0", "S1,0", "S2,0"]
 
 
 def test_a_region_has_long_headways_and_school_days(tmp_path: Path) -> None:
-    told = feedgen.write_feed("region", 1, str(tmp_path))
-    assert told.startswith("size region seed 1: stops 3006, stations 3, routes 149, trips 9010, stop_times 179005")
-    services = [it.split(",")[1] for it in (tmp_path / "trips.txt").read_text().splitlines()[1:]]
+    printed = feedgen.write_feed("region", 1, str(tmp_path))
+    assert printed.startswith("size region seed 1: stops 3006, stations 3, routes 149, trips 9010, stop_times 179005")
+    services = [line.split(",")[1] for line in (tmp_path / "trips.txt").read_text().splitlines()[1:]]
     assert services.count("SCHOOL") == 3 * 20 and set(services) == {"ALL", "WD", "SCHOOL"}
     days = (tmp_path / "calendar.txt").read_text().splitlines()[1:]
-    assert [it.split(",")[0] for it in days] == ["ALL", "WD", "SCHOOL"]  # a service has one record
+    assert [day.split(",")[0] for day in days] == ["ALL", "WD", "SCHOOL"]  # a service has one record
     exceptions = (tmp_path / "calendar_dates.txt").read_text().splitlines()
     assert {"SCHOOL,20260330,2", "SCHOOL,20260501,2", "SCHOOL,20260831,2"} < set(exceptions)
-    assert sum(it.startswith("SCHOOL,") for it in exceptions) == 10 + 1 + 31
+    assert sum(exception.startswith("SCHOOL,") for exception in exceptions) == 10 + 1 + 31
 
 
 def test_figures_are_read_by_their_words() -> None:
@@ -149,11 +149,11 @@ def test_figures_are_read_by_their_words() -> None:
 
 def test_the_words_of_a_study_name_footpaths_that_are_there(tmp_path: Path) -> None:
     folder = str(tmp_path)
-    words = shared.Study(minutes=61, shares=(50, 90)).words(folder, "origins.csv", 2)
-    assert words[words.index("--to") + 1] == "08:00" and words[words.index("--share") + 1] == "50,90"
-    assert "--footpaths" not in words
+    arguments = shared.Study(minutes=61, shares=(50, 90)).arguments(folder, "origins.csv", 2)
+    assert arguments[arguments.index("--to") + 1] == "08:00" and arguments[arguments.index("--share") + 1] == "50,90"
+    assert "--footpaths" not in arguments
     write_stops(tmp_path, "footpaths.csv")
-    assert shared.Study().words(folder, "origins.csv", 2)[-2:] == ["--footpaths", folder + "/footpaths.csv"]
+    assert shared.Study().arguments(folder, "origins.csv", 2)[-2:] == ["--footpaths", folder + "/footpaths.csv"]
 
 
 def test_streets_are_drawn_alike_and_cross_the_river_by_bridges_alone() -> None:
@@ -182,7 +182,7 @@ def test_what_a_study_took_stays_when_its_trial_is_itself_ended(
     pieces.keep()
     again = study_times.Pieces(tmp_path / "pieces.json")
     again.begin().ended = study_times.KILLED
-    assert [it.seconds for it in again.that(study_times.GOES_ON)] == [7.0]
+    assert [item.seconds for item in again.that(study_times.GOES_ON)] == [7.0]
     assert len(again.that(study_times.KILLED)) == 1 and not again.that(study_times.DONE)
 
 
@@ -193,11 +193,11 @@ def test_what_a_group_of_processes_takes_is_seen() -> None:
 
 def test_questions_are_of_origins_that_a_seed_draws(tmp_path: Path) -> None:
     write_stops(tmp_path, "stops.txt", "G,1", "A,0", "B,", "C,0")
-    words = ["--city", str(tmp_path), "--program", "ttm", "--parts", "first,many"]
-    setting, parts = ask.setting_of(words)
+    arguments = ["--city", str(tmp_path), "--program", "ttm", "--parts", "first,many"]
+    setting, parts = ask.setting_of(arguments)
     setting = replace(setting, place=str(tmp_path))
     drawn = setting.drawn("city", 40)
     assert parts == ["first", "many"] and setting.drawn("city", 40) == drawn
-    assert {Path(it).read_text() for it in drawn} == {"stop_id\nA\n", "stop_id\nB\n", "stop_id\nC\n"}
+    assert {Path(item).read_text() for item in drawn} == {"stop_id\nA\n", "stop_id\nB\n", "stop_id\nC\n"}
     with pytest.raises(SystemExit):
-        ask.setting_of([*words[:-1], "nothing"])
+        ask.setting_of([*arguments[:-1], "nothing"])

@@ -21,10 +21,10 @@ PYTHON = "/usr/bin/python3" if Path("/usr/bin/python3").exists() else sys.execut
 SECONDS = 600  # after which a script is ended
 
 
-def timed(words: list[str]) -> str:
+def timed(command: list[str]) -> str:
     """Runs a command, and says what it took."""
     begin = time.monotonic()
-    with subprocess.Popen(words, stderr=subprocess.DEVNULL) as run:
+    with subprocess.Popen(command, stderr=subprocess.DEVNULL) as run:
         try:
             while os.waitid(os.P_PID, run.pid, os.WEXITED | os.WNOHANG | os.WNOWAIT) is None:
                 if time.monotonic() - begin > SECONDS:
@@ -35,9 +35,11 @@ def timed(words: list[str]) -> str:
         except BaseException:
             run.kill()
             raise
-    told = "" if run.returncode == 0 else f", status {run.returncode}"
+    status_stated = "" if run.returncode == 0 else f", status {run.returncode}"
     busy = used.ru_utime + used.ru_stime
-    return f"{time.monotonic() - begin:.1f} s, {busy:.1f} s of processor time, {used.ru_maxrss // 1000} MB{told}"
+    return (
+        f"{time.monotonic() - begin:.1f} s, {busy:.1f} s of processor time, {used.ru_maxrss // 1000} MB{status_stated}"
+    )
 
 
 def commands(feed: str, matrix: str, origin: str, share: list[str], counts: str) -> list[tuple[str, str, list[str]]]:
@@ -83,14 +85,14 @@ def main() -> None:
         file.readline()
         first, second = (file.readline().split(",", 3)[:3] for _ in range(2))
         several = first[:2] == second[:2]  # the same origin twice, for two shares
-    with tempfile.TemporaryDirectory(prefix="ttm-times-", dir=Path(matrix).resolve().parent) as made:
-        counts = str(made_counts(matrix, Path(made) / "counts.csv"))
-        for name, out, words in commands(feed, matrix, first[1], ["--share", "50"] if several else [], counts):
-            new, before = Path(made) / out, Path(made) / f"old_{out}"
-            print(f"{name} {out}: {timed([PYTHON, str(TOOLS), name, *words, '--out', str(new)])}", flush=True)
+    with tempfile.TemporaryDirectory(prefix="ttm-times-", dir=Path(matrix).resolve().parent) as folder:
+        counts = str(made_counts(matrix, Path(folder) / "counts.csv"))
+        for name, out, arguments in commands(feed, matrix, first[1], ["--share", "50"] if several else [], counts):
+            new, before = Path(folder) / out, Path(folder) / f"old_{out}"
+            print(f"{name} {out}: {timed([PYTHON, str(TOOLS), name, *arguments, '--out', str(new)])}", flush=True)
             script = Path(old[0]) / f"{name}.py" if old else None
             if script is not None and script.is_file():
-                print(f"  before: {timed([PYTHON, str(script), *words, '--out', str(before)])}", flush=True)
+                print(f"  before: {timed([PYTHON, str(script), *arguments, '--out', str(before)])}", flush=True)
                 if out.endswith(".csv") and before.is_file():
                     print(f"  the same bytes: {filecmp.cmp(new, before, shallow=False)}", flush=True)
             new.unlink(missing_ok=True)

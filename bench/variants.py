@@ -37,7 +37,12 @@ def every_third_trip(folder: str, place: str) -> str:
         return chosen
 
     rewrite(folder, copy, "trips.txt", trips)
-    rewrite(folder, copy, "stop_times.txt", lambda records: (it for it in records if it[: it.index(",")] in kept))
+    rewrite(
+        folder,
+        copy,
+        "stop_times.txt",
+        lambda records: (record for record in records if record[: record.index(",")] in kept),
+    )
     return copy
 
 
@@ -57,6 +62,6 @@ def with_changes(folder: str, place: str, seconds: int) -> str:
     """The feed in which a change between two vehicles at any stop takes so many seconds."""
     copy = copy_but(folder, place, "transfers.txt")
     stops = stops_of(os.path.join(folder, "stops.txt"))
-    rows = ["%s,%s,2,%d" % (stop, stop, seconds) for stop in stops]
+    rows = [f"{stop},{stop},2,{seconds}" for stop in stops]
     write_lines(copy, "transfers.txt", "from_stop_id,to_stop_id,transfer_type,min_transfer_time", rows)
     return copy

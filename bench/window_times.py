@@ -45,22 +45,26 @@ nearest = [1000]
 def write_addresses(feed: Path, path: Path) -> None:
     """Jobs and residents at the stops."""
     with open(feed / "opportunities.csv", newline="") as file:
-        jobs = {it["stop_id"]: it["opportunities"] for it in csv.DictReader(file)}
+        jobs = {row["stop_id"]: row["opportunities"] for row in csv.DictReader(file)}
     with open(feed / "stops.txt", newline="") as file, open(path, "w", newline="") as out:
         writer = csv.writer(out, lineterminator="\n")
         writer.writerow(["id", "lat", "lon", "jobs", "residents"])
-        there = [it for it in csv.DictReader(file) if it["stop_id"] in jobs]
+        there = [row for row in csv.DictReader(file) if row["stop_id"] in jobs]
         writer.writerows(
-            [it["stop_id"], it["stop_lat"], it["stop_lon"], jobs[it["stop_id"]], 50 + 37 * number % 90]
-            for number, it in enumerate(there)
+            [item["stop_id"], item["stop_lat"], item["stop_lon"], jobs[item["stop_id"]], 50 + 37 * number % 90]
+            for number, item in enumerate(there)
         )
 
 
-def main(words: list[str]) -> int:
-    if len(words) not in (2, 3):
+def main(arguments: list[str]) -> int:
+    if len(arguments) not in (2, 3):
         print(__doc__, file=sys.stderr)
         return 2
-    feed, folder, metres = Path(words[0]).resolve(), Path(words[1]), words[2] if len(words) > 2 else "425"
+    feed, folder, metres = (
+        Path(arguments[0]).resolve(),
+        Path(arguments[1]),
+        arguments[2] if len(arguments) > 2 else "425",
+    )
     folder.mkdir(parents=True, exist_ok=True)
     write_addresses(feed, folder / "addresses.csv")
     (folder / "windows.toml").write_text(STUDY.format(feed=feed, metres=metres), encoding="utf-8")

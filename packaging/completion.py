@@ -16,8 +16,8 @@ FOLDER = re.compile(r"<?(DIR|FOLDER)>?", re.I)
 FILE = re.compile(r"\[?<?(F|FILE|PATH|MATRIX|SCENARIO|PLAN|CSV|FEED|ZIP)S?>?\]?(\.\.\.)?( .*)?", re.I)
 
 
-def quoted(words: Iterable[str]) -> str:
-    return '"%s"' % " ".join(words)
+def quoted(texts: Iterable[str]) -> str:
+    return '"' + " ".join(texts) + '"'
 
 
 def choices_of(item: Item) -> list[str]:
@@ -43,12 +43,13 @@ def cases(help_: Help) -> list[str]:
             values.setdefault(found_by(item), []).extend(item.names)
     lines = ['case "$before" in']
     for finds, names in values.items():
-        lines.append("    %s) %sreturn ;;" % (" | ".join(names), "_ttm_find %s; " % finds if finds else ""))
+        found = f"_ttm_find {finds}; " if finds else ""
+        lines.append(f"    {' | '.join(names)}) {found}return ;;")
     names = [name for item in help_.options for name in item.names]
-    words = [word for item in help_.arguments for word in choices_of(item)]
-    others = "-f -W %s" % quoted(words) if words else "-f"
-    lines += ["esac", 'case "$word" in', "    -*) _ttm_find -W %s ;;" % quoted(names)]
-    return lines + ["    *) _ttm_find %s ;;" % others, "esac"]
+    choices = [word for item in help_.arguments for word in choices_of(item)]
+    others = f"-f -W {quoted(choices)}" if choices else "-f"
+    lines += ["esac", 'case "$word" in', f"    -*) _ttm_find -W {quoted(names)} ;;"]
+    return lines + [f"    *) _ttm_find {others} ;;", "esac"]
 
 
 def indented(lines: Iterable[str], by: int) -> list[str]:
@@ -62,20 +63,20 @@ def script(name: str, program: Sequence[str]) -> str:
     if commands:
         chosen = ['case "${COMP_WORDS[1]}" in']
         for command in commands:
-            words = cases(read_help(text_of(program, command)))
-            chosen += ["    %s)" % command, *indented(words, 8), "        ;;"]
+            choices = cases(read_help(text_of(program, command)))
+            chosen += [f"    {command})", *indented(choices, 8), "        ;;"]
         first = [
             'if [ "$COMP_CWORD" = 1 ]; then',
-            "    _ttm_find -W %s" % quoted([*commands, "--help"]),
+            f"    _ttm_find -W {quoted([*commands, '--help'])}",
             "    return",
             "fi",
         ]
         body = first + chosen + ["esac"]
     function = "_" + re.sub(r"\W", "_", name)
-    lines = ["# Completion of %s for bash, made from its --help." % name, "_ttm_find() {"]
+    lines = [f"# Completion of {name} for bash, made from its --help.", "_ttm_find() {"]
     lines += ['    mapfile -t COMPREPLY < <(compgen "$@" -- "${COMP_WORDS[COMP_CWORD]}")', "}", function + "() {"]
     lines += ["    local word=${COMP_WORDS[COMP_CWORD]} before=${COMP_WORDS[COMP_CWORD - 1]}", "    COMPREPLY=()"]
-    return "\n".join(lines + indented(body, 4) + ["}", "complete -o filenames -F %s %s" % (function, name)]) + "\n"
+    return "\n".join(lines + indented(body, 4) + ["}", f"complete -o filenames -F {function} {name}"]) + "\n"
 
 
 def main() -> None:

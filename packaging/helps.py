@@ -37,10 +37,10 @@ class Help:
     more: list[str] = field(default_factory=list)  # paragraphs behind the options
 
 
-def text_of(program: Sequence[str], *words: str) -> str:
+def text_of(program: Sequence[str], *command: str) -> str:
     """What a program's help prints."""
     environment = {**os.environ, "COLUMNS": WIDE, "LC_ALL": "C.UTF-8"}
-    ran = subprocess.run([*program, *words, "--help"], env=environment, capture_output=True, text=True, check=True)
+    ran = subprocess.run([*program, *command, "--help"], env=environment, capture_output=True, text=True, check=True)
     return ran.stdout
 
 
@@ -59,22 +59,22 @@ def items_of(lines: Sequence[str]) -> list[Item]:
 
 def read_help(text: str) -> Help:
     """Reads the help of clap or argparse: paragraphs, one of which is the usage, and sections of items with a title."""
-    made = Help()
+    help_read = Help()
     for block in re.split(r"\n\s*\n", text.strip("\n")):
         lines = block.splitlines()
         title = re.fullmatch(r"([A-Za-z][\w ]*):", lines[0])
         if re.match("usage:", block, re.I):
-            made.usage = " ".join(block.split()[1:])
+            help_read.usage = " ".join(block.split()[1:])
         elif title:
             items = items_of(lines[1:])
-            made.options += [it for it in items if it.names]
-            made.arguments += [it for it in items if not it.names]
+            help_read.options += [item for item in items if item.names]
+            help_read.arguments += [item for item in items if not item.names]
         else:
-            (made.more if made.options or made.arguments else made.about).append(block)
-    return made
+            (help_read.more if help_read.options or help_read.arguments else help_read.about).append(block)
+    return help_read
 
 
 def commands_of(own: Help) -> list[str]:
     """The commands that a help lists, behind the argument COMMAND."""
-    heads = [it.head for it in own.arguments]
+    heads = [argument.head for argument in own.arguments]
     return heads[heads.index("COMMAND") + 1 :] if "COMMAND" in heads else []

@@ -60,7 +60,7 @@ def contents(docs: Path) -> Iterator[str]:
     """The tables of contents, which the sidebar shows."""
     groups = {"Start": ["tutorial"]}
     for caption, folder in GROUPS.items():
-        groups[caption] = sorted(str(it.relative_to(docs).with_suffix("")) for it in (docs / folder).glob("*.md"))
+        groups[caption] = sorted(str(path.relative_to(docs).with_suffix("")) for path in (docs / folder).glob("*.md"))
     groups["Project"] = [f"../{name}" for name in PROJECT]
     for caption, names in groups.items():
         yield "\n".join(["```{toctree}", ":hidden:", f":caption: {caption}", "", *names, "```"])
@@ -70,7 +70,7 @@ def write_sources(program: Path, room: Path) -> None:
     """The pages as Sphinx reads them, with the helps and the tables of contents."""
     for folder in FOLDERS:
         for path in (ROOT / folder).rglob("*"):
-            if path.suffix in (".md", ".png"):
+            if path.suffix in (".md", ".png", ".toml"):
                 copy = room / path.relative_to(ROOT)
                 copy.parent.mkdir(parents=True, exist_ok=True)
                 shutil.copyfile(path, copy)
@@ -86,8 +86,8 @@ def write_sources(program: Path, room: Path) -> None:
 def build(room: Path, out: Path) -> None:
     """Runs Sphinx, and removes what the pages don't need."""
     environment = {**os.environ, "PYTHONHASHSEED": "0", "LC_ALL": "C.UTF-8", "TZ": "UTC"}
-    words: Sequence[str] = [PYTHON, "-m", "sphinx", "-q", "-b", "html", "-d", str(room / "kept"), str(room), str(out)]
-    subprocess.run(words, env=environment, check=True)
+    command: Sequence[str] = [PYTHON, "-m", "sphinx", "-q", "-b", "html", "-d", str(room / "kept"), str(room), str(out)]
+    subprocess.run(command, env=environment, check=True)
     for path in out.rglob("*"):
         if path.name in (".buildinfo", "objects.inv") or path.name.startswith(UNUSED):
             path.unlink()
@@ -102,8 +102,8 @@ def main() -> int:
         print(__doc__, file=sys.stderr)
         return 2
     program, out = Path(sys.argv[1]).resolve(), Path(sys.argv[2]).resolve()
-    with tempfile.TemporaryDirectory(prefix="ttm-html-") as made:
-        room = Path(made) / "pages"
+    with tempfile.TemporaryDirectory(prefix="ttm-html-") as folder:
+        room = Path(folder) / "pages"
         room.mkdir()
         write_sources(program, room)
         build(room, out)

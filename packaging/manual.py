@@ -52,7 +52,7 @@ def code(lines: Sequence[str]) -> list[str]:
 
 def list_of(lines: Sequence[str]) -> list[str]:
     """A list, of which each item begins with its marker."""
-    made: list[str] = []
+    listed: list[str] = []
     items: list[list[str]] = []
     for line in lines:
         if MARKER.match(line):
@@ -63,8 +63,8 @@ def list_of(lines: Sequence[str]) -> list[str]:
         marker = MARKER.match(item[0])
         assert marker is not None
         text = inline(" ".join(item)[marker.end() :])
-        made += [".IP \\(bu 2" if marker[1] == "-" else ".IP %s 4" % marker[1], text]
-    return made
+        listed += [".IP \\(bu 2" if marker[1] == "-" else f".IP {marker[1]} 4", text]
+    return listed
 
 
 def table(lines: Sequence[str]) -> list[str]:
@@ -73,13 +73,13 @@ def table(lines: Sequence[str]) -> list[str]:
     A table of options is left out: they are those of the help.
     """
     rows = [[cell.strip() for cell in re.split(r"(?<!\\)\|", line)[1:-1]] for line in lines]
-    made: list[str] = []
+    text_lines: list[str] = []
     if rows[0][0] == "Option":
-        return made
+        return text_lines
     for first, *cells in rows[2:]:
         named = [f"{name} {cell}" if cell.isdecimal() else cell for name, cell in zip(rows[0][1:], cells)]
-        made += [".TP", inline(first), inline("; ".join(it for it in named if it))]
-    return made
+        text_lines += [".TP", inline(first), inline("; ".join(item for item in named if item))]
+    return text_lines
 
 
 def section(text: str) -> Iterator[str]:
@@ -108,10 +108,11 @@ def sections(docs: Path) -> Iterator[str]:
         except OSError as why:
             sys.exit(f"{docs / page}: {why.strerror}")
         before, *parts = re.split(r"^## (.*)\n", text, flags=re.M)
-        yield '.SH "%s"' % name
+        yield f'.SH "{name}"'
         yield from section(before.split("\n", 1)[1])
         for heading, part in zip(parts[::2], parts[1::2]):
-            yield '.SS "%s"' % escaped(re.sub("[`*]", "", heading))
+            title = escaped(re.sub("[`*]", "", heading))
+            yield f'.SS "{title}"'
             yield from section(part)
 
 
@@ -119,7 +120,7 @@ def items(given: Iterable[Item]) -> Iterator[str]:
     """Options or arguments, each with its text."""
     for item in given:
         text = item.text or ("one of the commands below" if item.head == "COMMAND" else "")
-        yield from (".TP", "\\fB%s\\fR" % escaped(item.head), escaped(text))
+        yield from (".TP", f"\\fB{escaped(item.head)}\\fR", escaped(text))
 
 
 def paragraphs(blocks: Iterable[str]) -> Iterator[str]:
@@ -131,21 +132,21 @@ def paragraphs(blocks: Iterable[str]) -> Iterator[str]:
 
 def usage(name: str, own: Help) -> str:
     """How a program is called, by its installed name."""
-    return ".B %s\n%s" % (escaped(name), escaped(" ".join(own.usage.split()[1:])))
+    return f".B {escaped(name)}\n{escaped(' '.join(own.usage.split()[1:]))}"
 
 
 def head(name: str, about: str, version: str) -> Iterator[str]:
     """The lines that a manual page begins with."""
     date = time.strftime("%Y-%m-%d", time.gmtime(int(os.environ.get("SOURCE_DATE_EPOCH", "0"))))
-    yield '.TH %s 1 "%s" "ttm %s" "User Commands"' % (name.upper(), date, version)
+    yield f'.TH {name.upper()} 1 "{date}" "ttm {version}" "User Commands"'
     short = about.split(". ")[0].rstrip(".")
-    yield from (".SH NAME", "%s \\- %s" % (escaped(name), escaped(short[:1].lower() + short[1:])))
+    yield from (".SH NAME", f"{escaped(name)} \\- {escaped(short[:1].lower() + short[1:])}")
 
 
 def command(program: Sequence[str], name: str) -> Iterator[str]:
     """The part of a command of the tools."""
     own = read_help(text_of(program, name))
-    yield from ('.SS "%s"' % name, ".PP", "\\fBUsage:\\fR " + escaped(own.usage))
+    yield from (f'.SS "{name}"', ".PP", "\\fBUsage:\\fR " + escaped(own.usage))
     yield from paragraphs(own.about)
     yield from items(own.arguments + own.options)
     yield from paragraphs(own.more)
@@ -157,25 +158,25 @@ def manual(name: str, program: Sequence[str], version: str, docs: str) -> Iterat
     yield from head(name, " ".join(own.about[:1]).replace("\n", " "), version)
     yield from (".SH SYNOPSIS", usage(name, own), ".SH DESCRIPTION", *paragraphs(own.about))
     commands = commands_of(own)
-    arguments = [it for it in own.arguments if it.head not in commands]
+    arguments = [argument for argument in own.arguments if argument.head not in commands]
     yield from (".SH OPTIONS", *items(arguments + own.options), *paragraphs(own.more))
     if commands:
         yield ".SH COMMANDS"
-    for it in commands:
-        yield from command(program, it)
+    for subcommand in commands:
+        yield from command(program, subcommand)
     if docs:
         yield from sections(Path(docs))
     other = "ttm\\-tools" if name == "ttm" else "ttm"
-    yield from (".SH SEE ALSO", ".BR %s (1)" % other, ".PP", "\\fI/usr/share/doc/ttm\\fR has the exact words of all")
+    yield from (".SH SEE ALSO", f".BR {other} (1)", ".PP", "\\fI/usr/share/doc/ttm\\fR has the exact words of all")
 
 
 def main() -> None:
-    words = argparse.ArgumentParser(description=__doc__, formatter_class=argparse.RawDescriptionHelpFormatter)
-    words.add_argument("name", help="of the program as it is installed")
-    words.add_argument("program", nargs="+", help="the program as it is run here, with its first words")
-    words.add_argument("--version", default="", help="the version that the page names")
-    words.add_argument("--docs", default="", help="the folder docs, whose pages the manual includes")
-    args = words.parse_args()
+    parser = argparse.ArgumentParser(description=__doc__, formatter_class=argparse.RawDescriptionHelpFormatter)
+    parser.add_argument("name", help="of the program as it is installed")
+    parser.add_argument("program", nargs="+", help="the program as it is run here, with its first words")
+    parser.add_argument("--version", default="", help="the version that the page names")
+    parser.add_argument("--docs", default="", help="the folder docs, whose pages the manual includes")
+    args = parser.parse_args()
     sys.stdout.write("\n".join(manual(args.name, args.program, args.version, args.docs)) + "\n")
 
 

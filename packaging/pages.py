@@ -35,7 +35,7 @@ class Command:
 
     def compared(self, lines: list[str]) -> list[str]:
         """The lines that are compared."""
-        return [it for it in lines if not it.startswith("ttm: ")] if "ttm --feed" in self.text else lines
+        return [line for line in lines if not line.startswith("ttm: ")] if "ttm --feed" in self.text else lines
 
 
 def commands(page: str) -> list[Command]:
@@ -76,11 +76,11 @@ def differences(page: list[Command], folder: Path, environment: dict[str, str]) 
     return found if len(said) == len(page) + 1 else [*found, f"{len(said) - 1} of {len(page)} commands ended"]
 
 
-def main(words: list[str]) -> int:
-    if not words:
+def main(arguments: list[str]) -> int:
+    if not arguments:
         print(__doc__, file=sys.stderr)
         return 2
-    texts = [Path(word).read_text(encoding="utf-8") for word in words]
+    texts = [Path(word).read_text(encoding="utf-8") for word in arguments]
     page = [command for text in texts for command in commands(text)]
     for text in texts:
         write_files(text, Path.cwd())

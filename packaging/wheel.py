@@ -43,7 +43,7 @@ File = tuple[str, bytes, int]  # its name in the wheel, its bytes, its mode
 
 def tag_of(program: bytes) -> str:
     """The wheel's tag: any Python 3, and the least glibc whose symbols the program names."""
-    minors = [int(it) for it in re.findall(rb"GLIBC_2\.(\d+)", program)]
+    minors = [int(match) for match in re.findall(rb"GLIBC_2\.(\d+)", program)]
     return f"py3-none-manylinux_2_{max([OLDEST_GLIBC, *minors])}_{MACHINE}"
 
 
@@ -57,11 +57,11 @@ def metadata_of(project: dict[str, Any]) -> str:
         f"Requires-Python: {project['requires-python']}",
         "Keywords: GTFS,travel time matrix,accessibility,public transport",
     ]
-    lines += [f"Classifier: {it}" for it in CLASSIFIERS]
-    lines += [f"Requires-Dist: {it}" for it in project["dependencies"]]
+    lines += [f"Classifier: {item}" for item in CLASSIFIERS]
+    lines += [f"Requires-Dist: {item}" for item in project["dependencies"]]
     for extra, needed in project["optional-dependencies"].items():
         lines.append(f"Provides-Extra: {extra}")
-        lines += [f'Requires-Dist: {it}; extra == "{extra}"' for it in needed]
+        lines += [f'Requires-Dist: {item}; extra == "{extra}"' for item in needed]
     lines += ["Description-Content-Type: text/markdown", "", (HERE / "README.md").read_text()]
     return "\n".join(lines)
 

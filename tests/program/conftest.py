@@ -23,7 +23,7 @@ def pytest_addoption(parser: pytest.Parser) -> None:
 def pytest_generate_tests(metafunc: pytest.Metafunc) -> None:
     if "program" in metafunc.fixturenames:
         named = str(metafunc.config.getoption("--program"))
-        built = [named] + [it for it in [f"{named}.by-rattle"] if os.path.isfile(it)]
+        built = [named] + [item for item in [f"{named}.by-rattle"] if os.path.isfile(item)]
         metafunc.parametrize("program", built, ids=os.path.basename, indirect=True, scope="session")
 
 
@@ -54,6 +54,6 @@ def trials(request: pytest.FixtureRequest) -> Path:
 @pytest.fixture
 def open_room() -> Iterator[Path]:
     """A folder that everybody may look into."""
-    with tempfile.TemporaryDirectory(prefix="ttm-study-") as made:
-        Path(made).chmod(0o755)
-        yield Path(made)
+    with tempfile.TemporaryDirectory(prefix="ttm-study-") as folder:
+        Path(folder).chmod(0o755)
+        yield Path(folder)

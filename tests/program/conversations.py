@@ -11,7 +11,6 @@ import re
 from collections.abc import Iterator, Sequence
 from dataclasses import dataclass
 from pathlib import Path
-from typing import Optional, Union
 
 from random_feeds import Drawn
 
@@ -64,7 +63,7 @@ class Question:
     """A question of a conversation."""
 
     words: tuple[bytes, ...]
-    line: Optional[bytes] = None  # by which it is refused, where a run with these words isn't or can't be
+    line: bytes | None = None  # by which it is refused, where a run with these words isn't or can't be
 
     @property
     def block(self) -> bytes:
@@ -80,19 +79,19 @@ class Answer:
     body: bytes
 
 
-def question(*words: Union[str, bytes]) -> Question:
+def question(*arguments: str | bytes) -> Question:
     """A question of these words."""
-    return Question(tuple(word.encode() if isinstance(word, str) else word for word in words))
+    return Question(tuple(word.encode() if isinstance(word, str) else word for word in arguments))
 
 
-def refused(line: str, *words: Union[str, bytes]) -> Question:
+def refused(line: str, *arguments: str | bytes) -> Question:
     """A question that is refused by this line, as no run has its words."""
-    return Question(question(*words).words, line.encode() + b"\n")
+    return Question(question(*arguments).words, line.encode() + b"\n")
 
 
-def unexpected(word: str, *words: Union[str, bytes]) -> Question:
+def unexpected(word: str, *arguments: str | bytes) -> Question:
     """A question with a word that no question has."""
-    return refused(f"error: unexpected argument '{word}' found", *words)
+    return refused(f"error: unexpected argument '{word}' found", *arguments)
 
 
 def answers_in(out: bytes) -> Iterator[Answer]:
@@ -106,15 +105,15 @@ def answers_in(out: bytes) -> Iterator[Answer]:
         yield Answer(int(head[1]), out[head.end() : at])
 
 
-def words_of_run(kept: Sequence[str], asked: Question) -> list[bytes]:
+def words_of_run(kept: Sequence[str], question: Question) -> list[bytes]:
     """The words of the run in a question's place: those of the command line, with the question's instead where it names
     an option. Scenario files come last.
     """
-    named = {word.partition(b"=")[0] for word in asked.words if word.startswith(b"--")}
-    words = [word.encode() for word in kept]
-    scenarios = words.index(b"--") if b"--" in words else len(words)
-    pairs = zip(words[:scenarios:2], words[1:scenarios:2])
-    return [word for pair in pairs if pair[0] not in named for word in pair] + [*asked.words, *words[scenarios:]]
+    named = {word.partition(b"=")[0] for word in question.words if word.startswith(b"--")}
+    arguments = [word.encode() for word in kept]
+    scenarios = arguments.index(b"--") if b"--" in arguments else len(arguments)
+    pairs = zip(arguments[:scenarios:2], arguments[1:scenarios:2])
+    return [word for pair in pairs if pair[0] not in named for word in pair] + [*question.words, *arguments[scenarios:]]
 
 
 class Talk:
@@ -125,9 +124,9 @@ class Talk:
         self.random = random.Random(10_000 + seed)
         self.drawn.put_into(folder)
         self.draw_files()
-        words = self.drawn.words(folder)
-        last = next((at for at in range(0, len(words), 2) if not words[at].startswith("--")), len(words))
-        self.kept = [*words[:last], "--", *words[last:]]
+        arguments = self.drawn.words(folder)
+        last = next((at for at in range(0, len(arguments), 2) if not arguments[at].startswith("--")), len(arguments))
+        self.kept = [*arguments[:last], "--", *arguments[last:]]
         self.questions = [self.question() for _ in range(self.random.randint(3, QUESTIONS))]
         if self.random.random() < 0.3:
             self.questions.append(self.questions[0])
@@ -161,8 +160,8 @@ class Talk:
 
     def pairs(self) -> dict[str, str]:
         """Some options with valid values."""
-        draw, words = self.random, self.drawn.words(self.folder)
-        values = {name[2:]: value for name, value in zip(words[::2], words[1::2]) if name.startswith("--")}
+        draw, arguments = self.random, self.drawn.words(self.folder)
+        values = {name[2:]: value for name, value in zip(arguments[::2], arguments[1::2]) if name.startswith("--")}
         values["workers"] = str(draw.randint(1, 3))
         names = [name for name in ("trips", "share", "within", "workers", "tries", *FILES) if name in values]
         chosen = draw.sample(names, draw.randint(0, len(names))) + (["from", "to"] if draw.random() < 0.6 else [])
@@ -207,8 +206,8 @@ class Talk:
             return question("--trips", "1", "--workers", "2", "--trips", draw.choice(["1", "2"]))
         if draw.random() < 0.3:
             return question("--workers", "1", draw.choice(["--tries", "--nothing", "--from"]))
-        words = draw.choice(STRANGE)
-        return unexpected(words[0], *valid, *words)
+        arguments = draw.choice(STRANGE)
+        return unexpected(arguments[0], *valid, *arguments)
 
     def hostile(self) -> Question:
         """Bytes that are no question, and some as long as a question may be."""
@@ -216,8 +215,8 @@ class Talk:
         long = [["--trips", "1" * (2 * MOST_BYTES)], ["--trips=1"] * MOST_BYTES, ["x" * 99] * 700]
         return self.random.choice(
             [
-                *(refused(NOT_TEXT, *words) for words in not_text),
-                *(refused(TOO_LONG, *words) for words in long),
+                *(refused(NOT_TEXT, *line) for line in not_text),
+                *(refused(TOO_LONG, *line) for line in long),
                 question("--trips=1", "--origins=" + "o" * (MOST_BYTES - 1000)),
                 unexpected("x", *["x"] * 30_000),
             ]

@@ -44,10 +44,10 @@ def faults(name: str, *rows: Fault) -> list[Case]:
 
 def absent(*files: str) -> Case:
     """A study of which files aren't there, and the first is told."""
-    return refused(f"without {', '.join(files)}", {it: None for it in files}, f"{files[0]}: missing file")
+    return refused(f"without {', '.join(files)}", {file: None for file in files}, f"{files[0]}: missing file")
 
 
-ABSENT = [absent(it) for it in ("stops.txt", "routes.txt", "calendar.txt", "trips.txt", "stop_times.txt")]
+ABSENT = [absent(name) for name in ("stops.txt", "routes.txt", "calendar.txt", "trips.txt", "stop_times.txt")]
 ABSENT.append(absent("routes.txt", "trips.txt", "stop_times.txt"))
 
 T2_AT_B = "T2,08:15:00,08:15:00,B,1\n"

@@ -31,13 +31,13 @@ class Drawn:
     def __init__(self, seed: int) -> None:
         self.random = random.Random(seed)
         self.files: dict[str, Records] = {}
-        self.stops = ["S%d" % n for n in range(self.random.randint(1, 7))]
+        self.stops = [f"S{n}" for n in range(self.random.randint(1, 7))]
         if self.random.random() < 0.2:
             self.stops[0] = 'a "b", c'
-        self.stations = ["G%d" % n for n in range(self.random.randint(0, 2))]
-        self.routes = ["R%d" % n for n in range(self.random.randint(1, 3))]
-        self.services = ["D%d" % n for n in range(self.random.randint(1, 3))]
-        self.trips = ["T%d" % n for n in range(self.random.randint(0, 16))]
+        self.stations = [f"G{n}" for n in range(self.random.randint(0, 2))]
+        self.routes = [f"R{n}" for n in range(self.random.randint(1, 3))]
+        self.services = [f"D{n}" for n in range(self.random.randint(1, 3))]
+        self.trips = [f"T{n}" for n in range(self.random.randint(0, 16))]
         self.draw_places()
         self.draw_days()
         self.draw_trips()
@@ -188,7 +188,7 @@ class Drawn:
         # windows of one batch of 16 or 32 departures, of one more departure, and of several batches
         first = self.any_of(0, 7 * 60, 7 * 60 + 50, 8 * 60, 8 * 60, 23 * 60)
         last = min(first + self.any_of(0, 0, 0, 1, 15, 16, 31, 32, 64), 24 * 60 - 1)
-        asked: dict[str, object] = {
+        options: dict[str, object] = {
             "feed": folder,
             "date": DATE.strftime("%Y%m%d"),
             "from": clock(60 * first)[:5],
@@ -200,12 +200,12 @@ class Drawn:
             "workers": self.random.randint(1, 3),
             "tries": 2,
         }
-        asked.update({name: self.random.randint(0, 2) for name in ("back", "ahead") if self.chance(0.5)})
+        options.update({name: self.random.randint(0, 2) for name in ("back", "ahead") if self.chance(0.5)})
         own = ("footpaths", "origins", "opportunities", "destinations")
-        asked.update({name: folder / (name + ".csv") for name in own if self.chance(0.6)})
+        options.update({name: folder / (name + ".csv") for name in own if self.chance(0.6)})
         scenarios = [folder / (name + ".csv") for name in ("cut", "late") if self.chance(0.4)]
-        return [str(word) for name, value in asked.items() for word in ("--" + name, value)] + [
-            str(it) for it in scenarios
+        return [str(word) for name, value in options.items() for word in ("--" + name, value)] + [
+            str(scenario) for scenario in scenarios
         ]
 
     def put_into(self, folder: Path) -> None:

@@ -102,14 +102,14 @@ class Run:
     changes: Sequence[Change] = ()
 
 
-def refused(name: str, words: str, line: str, *changes: Change) -> Run:
+def refused(name: str, arguments: str, line: str, *changes: Change) -> Run:
     """A run whose arguments or tables are refused by a line."""
-    return Run(name, words, err=f"ttm: {line}\n", status=2, changes=changes)
+    return Run(name, arguments, err=f"ttm: {line}\n", status=2, changes=changes)
 
 
-def unread(name: str, words: str, path: str, *changes: Change) -> Run:
+def unread(name: str, arguments: str, path: str, *changes: Change) -> Run:
     """A run that can't read what lies at a path."""
-    return Run(name, words, err=f"ttm: {path}: read fault\n", status=5, changes=changes)
+    return Run(name, arguments, err=f"ttm: {path}: read fault\n", status=5, changes=changes)
 
 
 RUNS = [

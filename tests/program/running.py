@@ -7,7 +7,7 @@ import subprocess
 import tempfile
 from collections.abc import Callable, Sequence
 from pathlib import Path
-from typing import IO, Any, Union
+from typing import IO, Any
 
 from run_cases import FEED, OWN, Change
 
@@ -15,8 +15,8 @@ NOBODY = 65534
 SECONDS = 120
 
 Left = tuple[str, str, int]  # both outputs and the status
-Words = Sequence[Union[str, bytes]]
-Output = Union[int, IO[bytes]]
+Words = Sequence[str | bytes]
+Output = int | IO[bytes]
 
 
 def as_nobody() -> dict[str, Any]:
@@ -26,17 +26,17 @@ def as_nobody() -> dict[str, Any]:
 
 def lay_out(room: Path) -> None:
     """Writes the feed and the own files."""
-    for name, text in {**{f"feed/{it}": text for it, text in FEED.items()}, **OWN}.items():
+    for name, text in {**{f"feed/{item}": text for item, text in FEED.items()}, **OWN}.items():
         (room / name).parent.mkdir(exist_ok=True)
         (room / name).write_text(text)
 
 
 def start(
-    program: str, words: Words, room: Path, stdout: Output = subprocess.PIPE, stderr: Output = subprocess.PIPE
+    program: str, arguments: Words, room: Path, stdout: Output = subprocess.PIPE, stderr: Output = subprocess.PIPE
 ) -> subprocess.Popen[bytes]:
     """Starts the program in a folder, with these outputs or with pipes."""
     return subprocess.Popen(
-        [program, *words],
+        [program, *arguments],
         cwd=room,
         stdin=subprocess.DEVNULL,
         stdout=stdout,
@@ -58,8 +58,8 @@ def left(started: subprocess.Popen[bytes]) -> Left:
 
 def in_a_room(changes: Sequence[Change], leaves: Callable[[Path], Left]) -> Left:
     """Gives what a run leaves in a fresh folder."""
-    with tempfile.TemporaryDirectory(prefix="ttm-runs-") as made:
-        room = Path(made)
+    with tempfile.TemporaryDirectory(prefix="ttm-runs-") as folder:
+        room = Path(folder)
         room.chmod(0o755)
         lay_out(room)
         for change in changes:
@@ -71,6 +71,6 @@ def in_a_room(changes: Sequence[Change], leaves: Callable[[Path], Left]) -> Left
                 change.undo(room)
 
 
-def left_by(program: str, words: Words, changes: Sequence[Change] = (), stdout: Output = subprocess.PIPE) -> Left:
+def left_by(program: str, arguments: Words, changes: Sequence[Change] = (), stdout: Output = subprocess.PIPE) -> Left:
     """What a run in a fresh folder leaves, with this output or with a pipe."""
-    return in_a_room(changes, lambda room: left(start(program, words, room, stdout)))
+    return in_a_room(changes, lambda room: left(start(program, arguments, room, stdout)))

@@ -9,10 +9,9 @@ from __future__ import annotations
 
 from collections.abc import Mapping, Sequence
 from dataclasses import dataclass, field
-from typing import Optional, Union
 
-Files = Mapping[str, Optional[str]]  # their texts by their names; none where there is no such file
-Asked = Mapping[str, Union[str, int]]  # texts of options by their names
+Files = Mapping[str, str | None]  # their texts by their names; none where there is no such file
+Asked = Mapping[str, str | int]  # texts of options by their names
 
 
 @dataclass(frozen=True)
@@ -381,9 +380,9 @@ A_LINE = Case(
 )
 
 
-def refused(name: str, files: Files, line: str, **asked: Union[str, int]) -> Case:
+def refused(name: str, files: Files, line: str, **value: str | int) -> Case:
     """A study that is refused by a line."""
-    return Case(name, files, asked, tells=f"ttm: {line}\n")
+    return Case(name, files, value, tells=f"ttm: {line}\n")
 
 
 LATE_DATE = "99991231"  # the day after it is past the calendar
@@ -428,10 +427,10 @@ TOO_MUCH = [
     refused(
         "more closed footpaths than there may be",
         {
-            "stops.txt": "stop_id\nA\nB\nC\nHUB\n" + "".join(f"S{it}\n" for it in HUB),
+            "stops.txt": "stop_id\nA\nB\nC\nHUB\n" + "".join(f"S{item}\n" for item in HUB),
             "stop_times.txt": "trip_id,stop_id,stop_sequence\n",
             "frequencies.txt": HEADWAYS,
-            "footpaths.csv": WALKS + "".join(f"HUB,S{it},60\nS{it},HUB,60\n" for it in HUB),
+            "footpaths.csv": WALKS + "".join(f"HUB,S{item},60\nS{item},HUB,60\n" for item in HUB),
         },
         "too many footpaths",
         walk=120,
@@ -453,12 +452,12 @@ TOO_MUCH = [
     ),
     refused(
         "a stop too many",
-        {"stops.txt": "stop_id\n" + "".join(f"{it}\n" for it in range(65_536))},
+        {"stops.txt": "stop_id\n" + "".join(f"{number}\n" for number in range(65_536))},
         "stops.txt: record 65537: too many",
     ),
     refused(
         "as many stops as there may be, and a time at another",
-        {"stops.txt": "stop_id\n" + "".join(f"{it}\n" for it in range(65_535))},
+        {"stops.txt": "stop_id\n" + "".join(f"{number}\n" for number in range(65_535))},
         "stop_times.txt: record 2: unknown stop",
     ),
 ]

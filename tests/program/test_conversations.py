@@ -37,16 +37,18 @@ FROM_B = (HEAD + "base,B,50,15,,0,1800\ncut,B,50,10,,0,\n").encode()
 QUESTIONS = 4000  # of one conversation
 OF_QUESTIONS = re.compile("--(origins|opportunities|destinations)")
 # runs that are refused by what a conversation reads before its first question
-FAULTS = [it for it in RUNS + REFUSED if it.status and (it.err[5:9] == "bad " or not OF_QUESTIONS.search(it.words))]
+FAULTS = [
+    item for item in RUNS + REFUSED if item.status and (item.err[5:9] == "bad " or not OF_QUESTIONS.search(item.words))
+]
 
 
 def begin(
-    program: str, words: Sequence[str], room: Path, stdout: int | IO[bytes] = subprocess.PIPE
+    program: str, arguments: Sequence[str], room: Path, stdout: int | IO[bytes] = subprocess.PIPE
 ) -> subprocess.Popen[bytes]:
     """Begins a conversation in a folder."""
     pipe = subprocess.PIPE
     return subprocess.Popen(
-        [program, *words],
+        [program, *arguments],
         cwd=room,
         stdin=pipe,
         stdout=stdout,
@@ -56,19 +58,21 @@ def begin(
     )
 
 
-def whole(program: str, words: Sequence[str], room: Path, asked: bytes) -> tuple[bytes, bytes, int]:
+def whole(program: str, arguments: Sequence[str], room: Path, text: bytes) -> tuple[bytes, bytes, int]:
     """What a conversation leaves whose questions are there from the start: both outputs and the status."""
-    with begin(program, words, room) as process:
-        out, err = process.communicate(asked, timeout=SECONDS)
+    with begin(program, arguments, room) as process:
+        out, err = process.communicate(text, timeout=SECONDS)
     return out, err, process.returncode
 
 
-def wanted(program: str, kept: Sequence[str], asked: Question, room: Path) -> Answer:
+def wanted(program: str, kept: Sequence[str], question: Question, room: Path) -> Answer:
     """What a run with a question's words leaves; of several lines about words the first. Some are no run's."""
-    if asked.line is not None:
-        return Answer(2, asked.line)
-    words: list[str | bytes] = [program, *words_of_run(kept, asked)]
-    ran = subprocess.run(words, cwd=room, capture_output=True, timeout=SECONDS, env={"LANG": "C.UTF-8"}, **as_nobody())
+    if question.line is not None:
+        return Answer(2, question.line)
+    arguments: list[str | bytes] = [program, *words_of_run(kept, question)]
+    ran = subprocess.run(
+        arguments, cwd=room, capture_output=True, timeout=SECONDS, env={"LANG": "C.UTF-8"}, **as_nobody()
+    )
     assert (ran.stdout == b"") == (ran.returncode != 0) == (ran.stderr != b"")
     return Answer(ran.returncode, ran.stdout or ran.stderr.splitlines(True)[0])
 
@@ -83,36 +87,40 @@ def room(open_room: Path) -> Path:
 @pytest.mark.parametrize("seed", range(1, CONVERSATIONS + 1))
 def test_each_answer_is_that_of_a_run(one_build: str, open_room: Path, seed: int) -> None:
     talk, runs = Talk(seed, open_room), dict[Question, Answer]()
-    out, err, status = whole(one_build, talk.command, open_room, b"".join(it.block for it in talk.questions))
+    out, err, status = whole(
+        one_build, talk.command, open_room, b"".join(question.block for question in talk.questions)
+    )
     assert (err, status) == (b"", 0)
     answers = list(answers_in(out))
     assert len(answers) == len(talk.questions)
-    for asked, answer in zip(talk.questions, answers):
-        if asked not in runs:
-            runs[asked] = wanted(one_build, talk.kept, asked, open_room)
-        assert answer == runs[asked], asked.words
+    for asked_question, answer in zip(talk.questions, answers):
+        if asked_question not in runs:
+            runs[asked_question] = wanted(one_build, talk.kept, asked_question, open_room)
+        assert answer == runs[asked_question], asked_question.words
 
 
 def test_answers_by_hand(program: str, room: Path) -> None:
     """Four answers and four faults, each of which changes nothing for the next."""
     few = "scenario,origin,share,access_600,C\nbase,C,50,15,0\nbase,A,50,10,\ncut,C,50,15,0\ncut,A,50,10,\n"
-    asked = [
+    questions = [
         question(),
         question("--origins", "b.csv"),
         question("--trips", "9"),
         question("--trips=1", "--from=08:01"),
     ]
-    asked += [
+    questions += [
         question("--within", "600", "--trips", "1", "--destinations", "c.csv"),
         unexpected("--walk", "--walk", "0"),
     ]
-    asked += [question("--origins", "x.csv"), question("--opportunities", "no.csv"), question()]
+    questions += [question("--origins", "x.csv"), question("--opportunities", "no.csv"), question()]
     (room / "x.csv").write_text("stop_id\nX\n")
     (room / "c.csv").write_text("stop_id\nC\n")
-    out, err, status = whole(program, ["--ask", *KEPT], room, b"".join(it.block for it in asked))
+    out, err, status = whole(
+        program, ["--ask", *KEPT], room, b"".join(question_asked.block for question_asked in questions)
+    )
     answers = list(answers_in(out))
-    assert [it.status for it in answers] == [0, 0, 2, 2, 0, 2, 2, 5, 0]
-    bodies = [it.body for it in answers]
+    assert [answer.status for answer in answers] == [0, 0, 2, 2, 0, 2, 2, 5, 0]
+    bodies = [answer.body for answer in answers]
     assert bodies[:4] == [OWN_ANSWER, FROM_B, b"ttm: bad trips\n", b"ttm: bad window\n"]
     assert bodies[4:6] == [few.encode(), b"error: unexpected argument '--walk' found\n"]
     assert bodies[6:] == [b"ttm: origins: record 2: unknown stop\n", b"ttm: no.csv: read fault\n", OWN_ANSWER]
@@ -120,7 +128,7 @@ def test_answers_by_hand(program: str, room: Path) -> None:
 
 
 @pytest.mark.parametrize(
-    "asked, bodies",
+    "text, bodies",
     [
         (b"", []),
         (b"\n", [OWN_ANSWER]),
@@ -133,48 +141,48 @@ def test_answers_by_hand(program: str, room: Path) -> None:
         (b"--origins\nb\xffcsv", [b"ttm: words that are not UTF-8\n"]),
     ],
 )
-def test_the_end_of_the_input_ends_a_question(program: str, room: Path, asked: bytes, bodies: list[bytes]) -> None:
+def test_the_end_of_the_input_ends_a_question(program: str, room: Path, text: bytes, bodies: list[bytes]) -> None:
     """An input that ends in a question asks it; one that ends behind an empty line asks nothing more."""
-    out, err, status = whole(program, ["--ask", *KEPT], room, asked)
-    assert ([it.body for it in answers_in(out)], err, status) == (bodies, b"", 0)
+    out, err, status = whole(program, ["--ask", *KEPT], room, text)
+    assert ([answer.body for answer in answers_in(out)], err, status) == (bodies, b"", 0)
 
 
-def questions_in(asked: bytes) -> list[Question]:
+def questions_in(text: bytes) -> list[Question]:
     """The questions of an input: what an empty line or the end of the input ends."""
-    *lines, last = asked.split(b"\n")
-    found, words = list[Question](), list[bytes]()
+    *lines, last = text.split(b"\n")
+    found, arguments = list[Question](), list[bytes]()
     for line in lines:
         if line:
-            words.append(line)
+            arguments.append(line)
         else:
-            found.append(question(*words))
-            words.clear()
-    words += [last] if last else []
-    return [*found, question(*words)] if words else found
+            found.append(question(*arguments))
+            arguments.clear()
+    arguments += [last] if last else []
+    return [*found, question(*arguments)] if arguments else found
 
 
-def in_a_run(asked: Question) -> Question:
+def in_a_run(given: Question) -> Question:
     """A question in words of a run, where `-` is a scenario file, and behind `--` there are only such."""
-    if asked.words[-1:] == (b"-",):
-        return unexpected("-", *asked.words)
-    return question(*asked.words[:-1]) if asked.words[-1:] == (b"--",) else asked
+    if given.words[-1:] == (b"-",):
+        return unexpected("-", *given.words)
+    return question(*given.words[:-1]) if given.words[-1:] == (b"--",) else given
 
 
 def test_an_input_may_end_after_any_byte(one_build: str, room: Path) -> None:
-    asked = b"--origins\nb.csv\n\n--trips=1\n--to\n08:01\n\n\n--within=60\n"
+    text = b"--origins\nb.csv\n\n--trips=1\n--to\n08:01\n\n\n--within=60\n"
     runs = dict[Question, Answer]()
-    for count in range(len(asked) + 1):
-        out, err, status = whole(one_build, ["--ask", *KEPT], room, asked[:count])
-        questions = [in_a_run(it) for it in questions_in(asked[:count])]
-        for it in questions:
-            runs.setdefault(it, wanted(one_build, KEPT, it, room))
-        assert (list(answers_in(out)), err, status) == ([runs[it] for it in questions], b"", 0), count
+    for count in range(len(text) + 1):
+        out, err, status = whole(one_build, ["--ask", *KEPT], room, text[:count])
+        questions = [in_a_run(question) for question in questions_in(text[:count])]
+        for one in questions:
+            runs.setdefault(one, wanted(one_build, KEPT, one, room))
+        assert (list(answers_in(out)), err, status) == ([runs[question] for question in questions], b"", 0), count
 
 
-def ask(process: subprocess.Popen[bytes], asked: Question) -> Answer:
+def ask(process: subprocess.Popen[bytes], question: Question) -> Answer:
     """The answer to a question, before anything else is asked."""
     assert process.stdin and process.stdout
-    process.stdin.write(asked.block)
+    process.stdin.write(question.block)
     process.stdin.flush()
     head = process.stdout.readline()
     length = int(head.split()[2])
@@ -189,12 +197,12 @@ def test_each_answer_is_out_before_the_next_question(one_build: str, room: Path)
         shutil.rmtree(room / "feed")
         (room / "cut.csv").unlink()
         (room / "own.csv").write_text("stop_id\nX\n")
-        asked = question("--origins", "own.csv")
-        assert ask(process, asked) == Answer(2, b"ttm: origins: record 2: unknown stop\n")
+        first_question = question("--origins", "own.csv")
+        assert ask(process, first_question) == Answer(2, b"ttm: origins: record 2: unknown stop\n")
         (room / "own.csv").write_text("stop_id\nB\n")
-        assert ask(process, asked) == Answer(0, FROM_B)
+        assert ask(process, first_question) == Answer(0, FROM_B)
         (room / "own.csv").unlink()
-        assert ask(process, asked) == Answer(5, b"ttm: own.csv: read fault\n")
+        assert ask(process, first_question) == Answer(5, b"ttm: own.csv: read fault\n")
         assert ask(process, question()) == Answer(0, OWN_ANSWER)
         assert process.communicate(timeout=SECONDS) == (b"", b"")
     assert process.returncode == 0
@@ -203,9 +211,9 @@ def test_each_answer_is_out_before_the_next_question(one_build: str, room: Path)
 @pytest.mark.parametrize("run", FAULTS, ids=attrgetter("name"))
 def test_a_fault_of_what_is_kept_ends_it_as_a_run(program: str, run: Run) -> None:
     """Before any question is answered, and also where none is asked."""
-    words = ["--ask", *run.words.split()]
-    for asked in (b"", b"--trips\n1\n\n\n"):
-        left = in_a_room(run.changes, lambda room: text_of(whole(program, words, room, asked)))
+    arguments = ["--ask", *run.words.split()]
+    for text in (b"", b"--trips\n1\n\n\n"):
+        left = in_a_room(run.changes, lambda room: text_of(whole(program, arguments, room, text)))
         assert left == ("", run.err, run.status)
 
 
@@ -226,8 +234,8 @@ def test_answers_that_cannot_be_written_end_it(program: str, room: Path) -> None
 def test_an_input_that_cannot_be_read_ends_it(program: str, room: Path) -> None:
     """As a folder can't."""
     folder = os.open(room, os.O_RDONLY)
-    words = [program, "--ask", *KEPT]
-    ran = subprocess.run(words, cwd=room, stdin=folder, capture_output=True, timeout=SECONDS, **as_nobody())
+    arguments = [program, "--ask", *KEPT]
+    ran = subprocess.run(arguments, cwd=room, stdin=folder, capture_output=True, timeout=SECONDS, **as_nobody())
     os.close(folder)
     assert (ran.stdout, ran.stderr, ran.returncode) == (b"", b"ttm: standard input: read fault\n", 5)
 
@@ -237,8 +245,8 @@ def test_a_question_may_have_so_many_bytes(program: str, room: Path) -> None:
     longest = question("--origins=" + "o" * (MOST_BYTES - len("--origins=\n")))
     longer = refused(TOO_LONG, longest.words[0] + b"o")
     own = Answer(0, OWN_ANSWER)
-    asked = [longest, longer, question(), refused(TOO_LONG, *["x" * 99] * 5000), question()]
-    out, err, status = whole(program, ["--ask", *KEPT], room, b"".join(it.block for it in asked))
+    questions = [longest, longer, question(), refused(TOO_LONG, *["x" * 99] * 5000), question()]
+    out, err, status = whole(program, ["--ask", *KEPT], room, b"".join(item.block for item in questions))
     answers = list(answers_in(out))
     refusal = Answer(2, TOO_LONG.encode() + b"\n")
     assert answers[0] == wanted(program, KEPT, longest, room) and answers[0].status == 5
@@ -247,16 +255,16 @@ def test_a_question_may_have_so_many_bytes(program: str, room: Path) -> None:
 
 def test_a_report_says_what_is_kept_and_a_line_for_each_question(program: str, room: Path) -> None:
     """What is answered is the same with a report and without."""
-    asked = [question(), question("--trips", "9"), question("--origins", "b.csv")]
-    plain = whole(program, ["--ask", *KEPT], room, b"".join(it.block for it in asked))
+    questions = [question(), question("--trips", "9"), question("--origins", "b.csv")]
+    plain = whole(program, ["--ask", *KEPT], room, b"".join(item.block for item in questions))
     lines = []
-    for count in range(len(asked) + 1):
-        blocks = b"".join(it.block for it in asked[:count])
+    for count in range(len(questions) + 1):
+        blocks = b"".join(item.block for item in questions[:count])
         out, err, status = whole(program, ["--ask", "--report", *KEPT], room, blocks)
         assert status == 0 and list(answers_in(out)) == list(answers_in(plain[0]))[:count]
         lines.append(err.decode().splitlines())
     assert "ttm: stops: 3" in lines[0] and "ttm: runs in scenario cut: 1" in lines[0]
-    assert [len(it) - len(lines[0]) for it in lines] == [0, 1, 2, 3]
+    assert [len(line) - len(lines[0]) for line in lines] == [0, 1, 2, 3]
 
 
 def resident(process: subprocess.Popen[bytes]) -> int:

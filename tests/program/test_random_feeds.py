@@ -20,8 +20,8 @@ FEEDS = 200
 def test_both_give_the_same_matrix(one_build: str, tmp_path: Path, seed: int) -> None:
     drawn = Drawn(seed)
     drawn.put_into(tmp_path)
-    words = drawn.words(tmp_path)
+    arguments = drawn.words(tmp_path)
     wanted = io.StringIO()
-    plain.write_matrix(words, wanted)
-    ran = subprocess.run([one_build, *words], stdout=subprocess.PIPE, stderr=subprocess.PIPE, timeout=60)
+    plain.write_matrix(arguments, wanted)
+    ran = subprocess.run([one_build, *arguments], stdout=subprocess.PIPE, stderr=subprocess.PIPE, timeout=60)
     assert (ran.returncode, ran.stderr.decode(), ran.stdout.decode()) == (0, "", wanted.getvalue())

@@ -47,11 +47,11 @@ def test_run(program: str, run: Run) -> None:
         assert was[1] in err and (len(err) > len(was[1]) or status != 0)
 
 
-def steady(told: str) -> str:
+def steady(report: str) -> str:
     """What a report tells, without what varies from run to run."""
     for varies, stays in VARYING:
-        told = varies.sub(stays, told)
-    return told
+        report = varies.sub(stays, report)
+    return report
 
 
 @pytest.mark.parametrize("report", REPORTS, ids=attrgetter("name"))
@@ -88,8 +88,8 @@ def test_the_version_names_the_toolchain_that_readme_does_of_the_logic_at_hand(p
     assert found, "README.md names no toolchain"
     named, logic = found.groups()
     at_hand = subprocess.run(["rt", "version"], stdout=subprocess.PIPE, text=True, check=True).stdout.split()[-1]
-    told = left_by(program, ["--version"])
-    assert (*told, at_hand) == (f"ttm 2.0.0\nproved with {named}\n", "", 0, logic)
+    version = left_by(program, ["--version"])
+    assert (*version, at_hand) == (f"ttm 2.0.0\nproved with {named}\n", "", 0, logic)
 
 
 def test_wrong_arguments_are_told_with_the_name_that_the_program_was_called_by(program: str) -> None:
@@ -99,8 +99,8 @@ def test_wrong_arguments_are_told_with_the_name_that_the_program_was_called_by(p
 
 def test_a_file_that_was_read_is_closed(program: str) -> None:
     """More are read than may be open at once."""
-    words = f"--feed feed {ASKED} 300 {OWN_WORDS} --destinations b.csv cut.csv late.csv".split()
-    limited = ["-c", f'ulimit -n {FEW}; exec "$0" "$@"', program, *words]
+    arguments = f"--feed feed {ASKED} 300 {OWN_WORDS} --destinations b.csv cut.csv late.csv".split()
+    limited = ["-c", f'ulimit -n {FEW}; exec "$0" "$@"', program, *arguments]
     wanted = "scenario,origin,share,access_1800,B\n" + "".join(
         f"{scenario},C,50,15,120\n{scenario},A,50,{access},{to_b}\n"
         for scenario, access, to_b in (("base", 15, 600), ("cut", 10, 600), ("late", 15, 900))
@@ -112,38 +112,38 @@ def test_arguments_that_are_no_utf_8_are_told(program: str) -> None:
     assert left_by(program, [b"--feed", b"\xff"]) == ("", "ttm: words that are not UTF-8\n", 2)
 
 
-def on_terminal(program: str, words: Words, room: Path) -> Left:
+def on_terminal(program: str, arguments: Words, room: Path) -> Left:
     """What a run leaves whose standard error is a terminal, which changes nothing of what it is sent."""
     reader, terminal = os.openpty()
     tty.setraw(terminal)
-    told = b""
+    printed = b""
     with os.fdopen(reader, "rb", buffering=0) as sent, tempfile.TemporaryFile() as out:
-        started = start(program, words, room, stdout=out, stderr=terminal)
+        started = start(program, arguments, room, stdout=out, stderr=terminal)
         os.close(terminal)
         limit = threading.Timer(SECONDS, started.kill)
         limit.start()
         try:
             while more := sent.read(1 << 16):
-                told += more
+                printed += more
         except OSError:
             pass  # so a terminal says that nobody writes any more
         status = started.wait()
         limit.cancel()
         out.seek(0)
-        return out.read().decode(errors="replace"), told.decode(errors="replace"), status
+        return out.read().decode(errors="replace"), printed.decode(errors="replace"), status
 
 
 def test_on_a_terminal_a_line_moves_until_the_rows_are_done(program: str) -> None:
     """Each line is at least as long as the text that it covers, and all else is told as elsewhere."""
-    words = f"--feed feed {HOUR} --report".split()
-    for more in (1 << it for it in range(6, 13)):
-        stops = Text("feed/stops.txt", FEED["stops.txt"] + "".join(f"{it},\n" for it in range(more)))
-        out, told, status = in_a_room([stops], lambda room: on_terminal(program, words, room))
-        moved = list(MOVING.finditer(told))
+    arguments = f"--feed feed {HOUR} --report".split()
+    for more in (1 << number for number in range(6, 13)):
+        stops = Text("feed/stops.txt", FEED["stops.txt"] + "".join(f"{number},\n" for number in range(more)))
+        out, printed, status = in_a_room([stops], lambda room: on_terminal(program, arguments, room))
+        moved = list(MOVING.finditer(printed))
         # it moves by the clock: where the rows were done too soon to see that, there are twice as many
         if len(moved) > 1:
             break
-    plain = left_by(program, words, [stops])
+    plain = left_by(program, arguments, [stops])
     assert len(moved) > 1
     assert all(len(over[0]) > len(under[1]) for under, over in zip(moved, moved[1:]))
-    assert (out, steady(MOVED.sub("", told)), status) == (plain[0], steady(plain[1]), plain[2])
+    assert (out, steady(MOVED.sub("", printed)), status) == (plain[0], steady(plain[1]), plain[2])

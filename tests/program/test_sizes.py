@@ -46,7 +46,7 @@ class Run:
 def small(room: Path, **files: str) -> None:
     """Writes the small feed and the analyst's own files; names have `_` for the dot before `txt` or `csv`."""
     (room / "feed").mkdir()
-    for name, text in {**FEED, **{it.replace("_txt", ".txt"): text for it, text in files.items()}}.items():
+    for name, text in {**FEED, **{item.replace("_txt", ".txt"): text for item, text in files.items()}}.items():
         (room / "feed" / name).write_text(text)
     for name, text in OWN.items():
         (room / name).write_text(text)
@@ -81,15 +81,15 @@ def all_options(room: Path) -> Run:
     """
     small(room)
     scenarios = [shifted(f"s{k}", k, "T1", room) for k in range(1, 16)]
-    words = "--feed feed --date 20260504 --from 08:00 --to 08:00 --trips 8 --walk 7200 --share 1,50".split()
-    words += "--within 900,1800 --workers 64 --tries 8 --back 6 --ahead 6 --origins a.csv".split()
-    words += "--opportunities chances.csv --footpaths walks.csv".split()
+    arguments = "--feed feed --date 20260504 --from 08:00 --to 08:00 --trips 8 --walk 7200 --share 1,50".split()
+    arguments += "--within 900,1800 --workers 64 --tries 8 --back 6 --ahead 6 --origins a.csv".split()
+    arguments += "--opportunities chances.csv --footpaths walks.csv".split()
     out = "scenario,origin,share,access_900,access_1800,A,B,C\n"
-    for k, name in enumerate(["base", *(it[:-4] for it in scenarios)]):
+    for k, name in enumerate(["base", *(scenario[:-4] for scenario in scenarios)]):
         near, far = 10 * (600 + 60 * k <= 900), 10 + 5 * (k <= 5)
         cells = f"0,{600 + 60 * k},{1800 if k <= 5 else ''}"
         out += "".join(f"{name},A,{share},{near},{far},{cells}\n" for share in (1, 50))
-    return Run("fifteen scenarios, and each option", words + scenarios, out)
+    return Run("fifteen scenarios, and each option", arguments + scenarios, out)
 
 
 def many_rows(room: Path) -> Run:
@@ -98,7 +98,7 @@ def many_rows(room: Path) -> Run:
     scenarios = [shifted(f"s{k}", k, "T", room) for k in range(1, 16)]
     head = "scenario,origin,share,access_1800," + ",".join(map(str, range(700))) + "\n"
     rows = [head]
-    for k, name in enumerate(["base", *(it[:-4] for it in scenarios)]):
+    for k, name in enumerate(["base", *(scenario[:-4] for scenario in scenarios)]):
         rows.append(f"{name},0,50,2,0{',' * 699}{600 + 60 * k}\n")
         rows += [f"{name},{stop},50,1{',' * (stop + 1)}0{',' * (699 - stop)}\n" for stop in range(1, 700)]
     return Run("sixteen scenarios of 700 origins", ["--feed", "feed", *ASKED, *scenarios], "".join(rows))
@@ -109,8 +109,8 @@ def window(room: Path, first: str, last: str, minutes: int, before: int, shares:
     takes the rank that it fills.
     """
     small(room)
-    words = f"--feed feed --date 20260504 --from {first} --to {last} --trips 2 --walk 0 --within 1800".split()
-    words += "--workers 1 --tries 1".split()
+    arguments = f"--feed feed --date 20260504 --from {first} --to {last} --trips 2 --walk 0 --within 1800".split()
+    arguments += "--workers 1 --tries 1".split()
     out = "scenario,origin,share,access_1800,A,B,C\n"
     for share in shares:
         rank = math.ceil(share * minutes / 100)
@@ -120,7 +120,7 @@ def window(room: Path, first: str, last: str, minutes: int, before: int, shares:
         access = 1 + (reached and to_b <= 1800) + (reached and to_b + 1200 <= 1800)
         out += f"base,A,{share},{access},{cells}\n"
     share_words = ["--share", ",".join(map(str, shares)), "--origins", "a.csv"]
-    return Run(f"a window of {minutes} minutes", words + share_words, out)
+    return Run(f"a window of {minutes} minutes", arguments + share_words, out)
 
 
 def over_an_hour(room: Path) -> Run:
@@ -136,10 +136,10 @@ def great_sums(room: Path) -> Run:
     small(room)
     most = 4_294_967_295
     (room / "chances.csv").write_text(f"stop_id,opportunities\nA,{most}\nB,{most}\nC,{most}\n")
-    words = ["--feed", "feed", *ASKED, "--opportunities", "chances.csv", "--origins", "a.csv"]
+    arguments = ["--feed", "feed", *ASKED, "--opportunities", "chances.csv", "--origins", "a.csv"]
     return Run(
         "a sum of access past 10^10",
-        words,
+        arguments,
         f"scenario,origin,share,access_1800,A,B,C\nbase,A,50,{3 * most},0,600,1800\n",
     )
 
@@ -185,9 +185,9 @@ def past_500_megabytes(room: Path) -> Run:
         for _ in range(520):
             file.write(row * 1000)
         file.write("A,C,2,77,\n")
-    words = ["--feed", "feed", *ASKED, "--origins", "a.csv"]
-    words[words.index("--walk") + 1] = "100"
-    return Run("a file past 500 MB", words, EXAMPLE.replace("1800\n", "77\n"))
+    arguments = ["--feed", "feed", *ASKED, "--origins", "a.csv"]
+    arguments[arguments.index("--walk") + 1] = "100"
+    return Run("a file past 500 MB", arguments, EXAMPLE.replace("1800\n", "77\n"))
 
 
 def access_alone(room: Path) -> Run:
@@ -196,8 +196,8 @@ def access_alone(room: Path) -> Run:
     line_of_stops(room, count)
     (room / "o.csv").write_text("stop_id\n0\n")
     (room / "d.csv").write_text("stop_id\n")
-    words = ["--feed", "feed", *ASKED, "--origins", "o.csv", "--destinations", "d.csv"]
-    return Run(f"{count} stops, and no destination", words, "scenario,origin,share,access_1800\nbase,0,50,2\n")
+    arguments = ["--feed", "feed", *ASKED, "--origins", "o.csv", "--destinations", "d.csv"]
+    return Run(f"{count} stops, and no destination", arguments, "scenario,origin,share,access_1800\nbase,0,50,2\n")
 
 
 def stops(room: Path, count: int) -> Run:
@@ -221,8 +221,8 @@ def past_a_gibibyte(room: Path) -> Run:
     """A file of one byte more than a file may have."""
     small(room)
     os.truncate(room / "feed/stops.txt", 1024 * MIB + 1)
-    words = ["--feed", "feed", *ASKED, "--origins", "a.csv"]
-    return Run("a file of 2^30 + 1 bytes", words, "", "ttm: feed/stops.txt: too long\n", 2)
+    arguments = ["--feed", "feed", *ASKED, "--origins", "a.csv"]
+    return Run("a file of 2^30 + 1 bytes", arguments, "", "ttm: feed/stops.txt: too long\n", 2)
 
 
 def walks(room: Path, count: int, footpaths: Iterator[str], origin: int, walk: int) -> list[str]:
@@ -230,9 +230,9 @@ def walks(room: Path, count: int, footpaths: Iterator[str], origin: int, walk: i
     line_of_stops(room, count)
     (room / "footpaths.csv").write_text("from_stop_id,to_stop_id,seconds\n" + "".join(footpaths))
     (room / "o.csv").write_text(f"stop_id\n{origin}\n")
-    words = ["--feed", "feed", *ASKED, "--footpaths", "footpaths.csv", "--origins", "o.csv"]
-    words[words.index("--walk") + 1] = str(walk)
-    return words
+    arguments = ["--feed", "feed", *ASKED, "--footpaths", "footpaths.csv", "--origins", "o.csv"]
+    arguments[arguments.index("--walk") + 1] = str(walk)
+    return arguments
 
 
 def row_of(origin: int, times: list[str]) -> str:
@@ -246,18 +246,18 @@ def around_a_hub() -> Iterator[str]:
 
 
 def hub_within_a_limit(room: Path) -> Run:
-    words = walks(room, HUB + 1, around_a_hub(), 5, 119)
+    arguments = walks(room, HUB + 1, around_a_hub(), 5, 119)
     times = ["60", "", "", "", "", "0", *[""] * (HUB - 5)]
-    return Run("a hub where no chain of two footpaths is within the limit", words, row_of(5, times))
+    return Run("a hub where no chain of two footpaths is within the limit", arguments, row_of(5, times))
 
 
 def ring_of_a_million(room: Path) -> Run:
     """From the last stop to the 600 that follow it: those from stop 0 on."""
     count = 2_000
     near = (f"{stop},{(stop + step) % count},60\n" for stop in range(count) for step in range(1, NEAR + 1))
-    words = walks(room, count, near, count - 1, 60)
+    arguments = walks(room, count, near, count - 1, 60)
     times = ["60"] * NEAR + [""] * (count - 1 - NEAR) + ["0"]
-    return Run("1,200,000 direct footpaths", words, row_of(count - 1, times))
+    return Run("1,200,000 direct footpaths", arguments, row_of(count - 1, times))
 
 
 RUNS = [
@@ -281,8 +281,8 @@ RUNS = [
 Left = tuple[str, str, int]
 
 
-def left_by(program: str, words: list[str], room: Path) -> Left:
-    ran = subprocess.run([program, *words], cwd=room, capture_output=True, text=True, timeout=SECONDS)
+def left_by(program: str, arguments: list[str], room: Path) -> Left:
+    ran = subprocess.run([program, *arguments], cwd=room, capture_output=True, text=True, timeout=SECONDS)
     return ran.stdout, ran.stderr, ran.returncode
 
 
@@ -310,14 +310,14 @@ def test_size(one_build: str, tmp_path: Path, lay_out: Callable[[Path], Run]) ->
 
 def test_the_greatest_feed_and_one_more_of_each_that_has_a_limit(one_build: str, tmp_path: Path) -> None:
     subprocess.run([sys.executable, str(GREATEST), str(tmp_path)], check=True)
-    words = (
+    arguments = (
         "--feed . --footpaths footpaths.csv --origins origins.csv --walk 600 --date 20260504 --back 0 --ahead 0".split()
     )
-    words += "--from 08:00 --to 08:00 --trips 4 --share 50 --within 600 --workers 1 --tries 1".split()
-    out, err, status = left_by(one_build, words, tmp_path)
+    arguments += "--from 08:00 --to 08:00 --trips 4 --share 50 --within 600 --workers 1 --tries 1".split()
+    out, err, status = left_by(one_build, arguments, tmp_path)
     assert (status, err[:200], out.count("\n")) == (0, "", 2)
     head, row = out.split("\n")[:2]
-    assert head.split(",")[4:] == [str(it) for it in range(65_535)], head[:200]
+    assert head.split(",")[4:] == [str(number) for number in range(65_535)], head[:200]
     # the first stops are a ring with a second between neighbours, and no ride is as quick
     cells = row.split(",")[4:]
     assert len(cells) == 65_535
@@ -331,6 +331,6 @@ def test_the_greatest_feed_and_one_more_of_each_that_has_a_limit(one_build: str,
     for name, record, line in past:
         with open(tmp_path / name, "a") as file:
             file.write(record)
-        was, wanted = left_by(one_build, words, tmp_path), ("", f"ttm: {line}\n", 2)
+        was, wanted = left_by(one_build, arguments, tmp_path), ("", f"ttm: {line}\n", 2)
         assert first_difference(was, wanted) == "", name
     shutil.rmtree(tmp_path)

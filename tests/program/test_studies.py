@@ -32,8 +32,8 @@ USUAL = {
 def lay_out(case: Case, room: Path) -> list[str]:
     """Writes a case's files, and gives its arguments."""
     files: dict[str, str | None] = {**FEED, "origins.csv": "stop_id\nA\n", **case.files}
-    words = ["--feed", "feed"]
-    words += [str(it) for option, text in {**USUAL, **case.asked}.items() for it in (f"--{option}", text)]
+    arguments = ["--feed", "feed"]
+    arguments += [str(item) for option, text in {**USUAL, **case.asked}.items() for item in (f"--{option}", text)]
     for name, text in files.items():
         path = room / ("feed" if name.endswith(".txt") else ".") / name
         if text is None:
@@ -41,16 +41,16 @@ def lay_out(case: Case, room: Path) -> list[str]:
         path.parent.mkdir(parents=True, exist_ok=True)
         path.write_text(text, newline="")
         if path.suffix == ".csv":
-            words += ([f"--{path.stem}"] if path.stem in OWN else []) + [name]
-    return words
+            arguments += ([f"--{path.stem}"] if path.stem in OWN else []) + [name]
+    return arguments
 
 
 @pytest.mark.parametrize("case", [*study_cases.CASES, *fault_cases.CASES], ids=attrgetter("name"))
 def test_study(program: str, open_room: Path, case: Case) -> None:
-    words = lay_out(case, open_room)
+    arguments = lay_out(case, open_room)
     wanted = (case.prints, case.tells, 2 if case.tells else 0)
-    assert left(start(program, words, open_room)) == wanted
+    assert left(start(program, arguments, open_room)) == wanted
     if case.explains:
-        out, err, status = left(start(program, [*words, "--report"], open_room))
+        out, err, status = left(start(program, [*arguments, "--report"], open_room))
         assert (out, status) == ("", 2)
         assert err.endswith(case.tells + case.explains)

@@ -58,10 +58,20 @@ for line in sys.stdin:
         sys.exit(5)
     elif what == "bad":
         print("hello", flush=True)
+    elif what == "wait":
+        open(os.path.join(os.path.dirname(sys.argv[0]), "asked"), "w").close()
+        time.sleep(600)
+    elif what == "meet":  # answers when four processes are asked at the same time
+        room = os.path.join(os.path.dirname(sys.argv[0]), "met")
+        os.makedirs(room, exist_ok=True)
+        open(os.path.join(room, str(os.getpid())), "w").close()
+        while len(os.listdir(room)) < 4:
+            time.sleep(0.01)
+        say(0, b"scenario,origin,share,access_1800,A\\nbase,A,50,1,0\\n")
     elif what == "fault":
         say(2, b"ttm: origins: record 2: unknown stop\\n")
     else:
-        time.sleep(0.2 if what == "slow" else 0.001)
+        time.sleep(0.001)
         process = os.getpid() if what == "process" else 60 * hour + minute
         say(0, b"scenario,origin,share,access_1800,A\\nbase,A,50,1,%d\\n" % (60 * process))
 """

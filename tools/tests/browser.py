@@ -6,7 +6,7 @@ from typing import Any
 
 import pytest
 
-WAIT = 30  # seconds for a page to show what it was asked for
+WAIT = 120  # seconds for a page to show what it was asked for, on a machine with other work
 LEAFLET = Path("/usr/share/javascript/leaflet/leaflet.min.js")
 
 
@@ -51,16 +51,16 @@ class Browser:
         """What a script gives that waits for something."""
         return self.driver.execute_async_script(f"(async () => {{ {script} }})().then(arguments[arguments.length - 1])")
 
-    def open(self, path: Path, words: str = "") -> None:
+    def open(self, path: Path, arguments: str = "") -> None:
         """Opens a file as a double click does, and waits until it is shown."""
         self.driver.get("about:blank")
-        self.driver.get(path.resolve().as_uri() + (f"#{words}" if words else ""))
+        self.driver.get(path.resolve().as_uri() + (f"#{arguments}" if arguments else ""))
         self.settle()
 
-    def visit(self, address: str, words: str = "") -> None:
+    def visit(self, address: str, arguments: str = "") -> None:
         """Opens an address, and waits until it is shown."""
         self.driver.get("about:blank")
-        self.driver.get(address + (f"#{words}" if words else ""))
+        self.driver.get(address + (f"#{arguments}" if arguments else ""))
         self.settle()
 
     def settle(self) -> None:
@@ -70,6 +70,11 @@ class Browser:
     def text(self, identifier: str) -> str:
         """What an element shows to people; nothing where it is hidden."""
         return str(self.driver.find_element("id", identifier).text)
+
+    def address(self) -> str:
+        """What stands behind # in the address, once it is written."""
+        self.awaited("await new Promise((it) => setTimeout(it, ADDRESS_EVERY + 50));")
+        return str(self.run("return location.hash.slice(1)"))
 
     def lines(self, identifier: str) -> list[list[str]]:
         """A table's cells, as they are shown."""
@@ -101,8 +106,8 @@ class Browser:
 
     def pixel(self, identifier: str) -> tuple[int, int]:
         """Where a place lies in the map."""
-        made = "const at = page.pixelOf(head.identifiers.indexOf(arguments[0])); return [at.x, at.y].map(Math.round)"
-        across, down = self.run(made, identifier)
+        script = "const at = page.pixelOf(head.identifiers.indexOf(arguments[0])); return [at.x, at.y].map(Math.round)"
+        across, down = self.run(script, identifier)
         return across, down
 
     def click(self, identifier: str) -> None:
@@ -119,7 +124,7 @@ class Browser:
 
     def colour(self, identifier: str, right: int = 0) -> str:
         """The colour that is drawn where a place lies, or so many pixels to the right of it."""
-        made = (
+        script = (
             "const canvas = document.querySelector('canvas.places'), box = canvas.getBoundingClientRect();"
             "const map = document.getElementById('map').getBoundingClientRect(), fine = canvas.width / box.width;"
             "const x = (arguments[0] + map.left - box.left) * fine, y = (arguments[1] + map.top - box.top) * fine;"
@@ -127,8 +132,8 @@ class Browser:
             "return '#' + [red, green, blue].map((it) => it.toString(16).padStart(2, '0')).join('')"
         )
         across, down = self.pixel(identifier)
-        return str(self.run(made, across + right, down))
+        return str(self.run(script, across + right, down))
 
     def complaints(self) -> list[str]:
         """What the browser complains of, such as errors of scripts, since it was last asked."""
-        return [str(it["message"]) for it in self.driver.get_log("browser") if it["level"] == "SEVERE"]
+        return [str(item["message"]) for item in self.driver.get_log("browser") if item["level"] == "SEVERE"]

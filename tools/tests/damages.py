@@ -77,7 +77,7 @@ class Damaged:
     def put(self, name: str, columns: Sequence[str], texts: Sequence[str]) -> bool:
         """Writes a text into one of some columns of a record."""
         record = self.some_record(name)
-        places = [self.files[name][0].index(it) for it in columns if record and it in self.files[name][0]]
+        places = [self.files[name][0].index(column) for column in columns if record and column in self.files[name][0]]
         if record is None or not places:
             return False
         place = self.random.choice(places)
@@ -110,14 +110,14 @@ def a_date(feed: Damaged) -> bool:
 
 def an_identifier(feed: Damaged) -> bool:
     name = feed.some_file()
-    columns = [it for it in feed.files.get(name, [[]])[0] if it.endswith("_id")]
+    columns = [file for file in feed.files.get(name, [[]])[0] if file.endswith("_id")]
     return feed.put(name, columns, IDS)
 
 
 def spaces(feed: Damaged) -> bool:
     name = feed.some_file()
     record = feed.some_record(name)
-    places = [place for place, it in enumerate(feed.files.get(name, [[]])[0]) if it.endswith("_id")]
+    places = [place for place, file in enumerate(feed.files.get(name, [[]])[0]) if file.endswith("_id")]
     if not record or not places or places[0] >= len(record):
         return False
     record[places[0]] = feed.random.choice([" {}", "{} ", " {} ", "{}\t", "\u00a0{}"]).format(record[places[0]])
@@ -255,19 +255,19 @@ def no_bytes(feed: Damaged) -> bool:
 LASTING: list[Callable[[Damaged], bool]] = [no_file, no_column, no_bytes]  # which no rule mends
 
 
-def matrix_of(program: str, folder: Path, words: Sequence[str] = WORDS.split()) -> tuple[int, bytes, bytes]:
+def matrix_of(program: str, folder: Path, arguments: Sequence[str] = WORDS.split()) -> tuple[int, bytes, bytes]:
     """What the program says of a feed: its status, its matrix, and what it tells."""
-    ran = subprocess.run([program, "--feed", str(folder), *words], capture_output=True)
+    ran = subprocess.run([program, "--feed", str(folder), *arguments], capture_output=True)
     return ran.returncode, ran.stdout, ran.stderr
 
 
-def prepared(folder: Path, *words: str) -> Path:
+def prepared(folder: Path, *arguments: str) -> Path:
     """The feed of a folder made ready in another one."""
     out = folder.with_name(folder.name + "-out")
-    with contextlib.redirect_stderr(io.StringIO()) as told:
-        status = cli.main(["prepare", "--out", str(out), *words, str(folder)])
+    with contextlib.redirect_stderr(io.StringIO()) as errors:
+        status = cli.main(["prepare", "--out", str(out), *arguments, str(folder)])
     if status:
-        raise AssertionError(f"{folder}: {told.getvalue()}")
+        raise AssertionError(f"{folder}: {errors.getvalue()}")
     return out
 
 
@@ -284,8 +284,8 @@ def damage_stays(program: str, seed: int, room: Path) -> str:
     """What is wrong where a damaged feed is mended: the program must take it; nothing where it does."""
     feed = Damaged(seed)
     feed.put_into(room / str(seed))
-    status, _, told = matrix_of(program, prepared(room / str(seed), "--repair", "--allow-loss"))
-    return "" if (status, told) == (0, b"") else f"seed {seed}: {', '.join(feed.done)}: {told.decode()}"
+    status, _, printed = matrix_of(program, prepared(room / str(seed), "--repair", "--allow-loss"))
+    return "" if (status, printed) == (0, b"") else f"seed {seed}: {', '.join(feed.done)}: {printed.decode()}"
 
 
 def first_fault_differs(program: str, seed: int, room: Path) -> str:
@@ -300,7 +300,7 @@ def first_fault_differs(program: str, seed: int, room: Path) -> str:
         (folder / "stops.txt").write_bytes(b"\xef\xbb\xbf" + (folder / "stops.txt").read_bytes())
     read = feeds.read_feed(folder, room)
     faults = check(read)
-    assert all(likely.told(read)) and len(list(report.fault_rows(faults))) >= len(faults)
+    assert all(likely.sentences(read)) and len(list(report.fault_rows(faults))) >= len(faults)
     mine = "".join(line + "\n" for line in list(report.fault_lines(faults))[:1])
-    told = matrix_of(program, folder)[2].decode()
-    return "" if mine == told else f"seed {seed}: {', '.join(feed.done)}: {mine!r} and {told!r}"
+    printed = matrix_of(program, folder)[2].decode()
+    return "" if mine == printed else f"seed {seed}: {', '.join(feed.done)}: {mine!r} and {printed!r}"

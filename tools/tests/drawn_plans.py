@@ -15,8 +15,9 @@ from ttm_tools import cli
 from ttm_tools.faults import BadInput
 from ttm_tools.plans.base import Base, read_base
 from ttm_tools.plans.carrying_out import carried_out
-from ttm_tools.plans.nearness import told_nearer
-from ttm_tools.plans.plan_file import Entry, PlannedScenario
+from ttm_tools.plans.nearness import sentences_on_nearer
+from ttm_tools.opening.toml_file import Entry, LineNumbers
+from ttm_tools.plans.plan_file import PlannedScenario
 from ttm_tools.gtfs.fields import FILES, clock
 
 Values = dict[str, Any]
@@ -32,8 +33,8 @@ class DrawnPlan:
         self.feed, self.random, self.folder = Drawn(seed), random.Random(seed), folder
         folder.mkdir()
         self.write_feed()
-        self.stops = [dict(zip(("id", "lat", "lon"), (it[0], *map(Decimal, it[1:])))) for it in NEW]
-        entries = [Entry("plan", 1, it, {}) for it in self.stops]
+        self.stops = [dict(zip(("id", "lat", "lon"), (item[0], *map(Decimal, item[1:])))) for item in NEW]
+        entries = [Entry("plan", stop, LineNumbers(1)) for stop in self.stops]
         self.base = read_base(str(folder), entries)
         self.refused = 0
         drawn = [(f"s{number}", self.draw_actions()) for number in range(self.random.randint(1, 4))]
@@ -54,16 +55,16 @@ class DrawnPlan:
 
     def draw_actions(self) -> list[Values]:
         """One to four actions, each of which does something."""
-        made: list[Values] = []
+        actions: list[Values] = []
         for _ in range(40):
             drawn = self.draw_action()
-            if does_something(self.base, [*made, drawn]):
-                made.append(drawn)
+            if does_something(self.base, [*actions, drawn]):
+                actions.append(drawn)
             else:
                 self.refused += 1
-            if len(made) == 4 or made and self.random.random() < 0.2:
+            if len(actions) == 4 or actions and self.random.random() < 0.2:
                 break
-        return made
+        return actions
 
     def draw_action(self) -> Values:
         draw = self.random.choice([self.removal, self.shift, self.line, self.headway, self.speed, self.end, self.end])
@@ -77,12 +78,12 @@ class DrawnPlan:
 
     def chosen(self) -> Values:
         """A route, and at times one pattern or service of it."""
-        made: Values = {"route": self.random.choice([*self.feed.routes, "L0", "L1"])}
+        keys: Values = {"route": self.random.choice([*self.feed.routes, "L0", "L1"])}
         if self.random.random() < 0.1:
-            made["pattern"] = self.trip()
+            keys["pattern"] = self.trip()
         if self.random.random() < 0.2:
-            made["service"] = self.random.choice(self.feed.services)
-        return made
+            keys["service"] = self.random.choice(self.feed.services)
+        return keys
 
     def removal(self) -> Values:
         return self.random.choice(
@@ -102,10 +103,10 @@ class DrawnPlan:
 
     def way(self, count: int) -> Values:
         """How long vehicles take along so many pieces."""
-        made: Values = {"dwell": self.random.choice([0, 10, 45])}
+        keys: Values = {"dwell": self.random.choice([0, 10, 45])}
         if self.random.random() < 0.5:
-            return {**made, "speed": self.random.choice([Decimal("12.5"), 30])}
-        return {**made, "seconds": [self.random.choice([0, 45, 120, 300]) for _ in range(count)]}
+            return {**keys, "speed": self.random.choice([Decimal("12.5"), 30])}
+        return {**keys, "seconds": [self.random.choice([0, 45, 120, 300]) for _ in range(count)]}
 
     def line(self) -> Values:
         count, first = self.random.randint(2, 4), self.random.randint(7 * 60 + 30, 8 * 60 + 20)
@@ -124,19 +125,19 @@ class DrawnPlan:
         return {"do": "headway", **self.chosen(), "every": every, "from": clock(60 * first), "to": clock(60 * end)}
 
     def speed(self) -> Values:
-        made: Values = {"do": "speed", **self.chosen()}
-        made |= {name: self.stop() for name in ("from_stop", "to_stop") if self.random.random() < 0.2}
+        action: Values = {"do": "speed", **self.chosen()}
+        action |= {name: self.stop() for name in ("from_stop", "to_stop") if self.random.random() < 0.2}
         how = self.random.choice(["factor", "factor", "dwell"])
         values: list[Any] = [Decimal("0.5"), Decimal("0.855"), Decimal("1.3333")] if how == "factor" else [-30, 20, 61]
-        return {**made, how: self.random.choice(values)}
+        return {**action, how: self.random.choice(values)}
 
     def end(self) -> Values:
         """A route that is cut, or goes on."""
-        made: Values = {**self.chosen(), self.random.choice(["after", "before"]): self.stop()}
+        keys: Values = {**self.chosen(), self.random.choice(["after", "before"]): self.stop()}
         if self.random.random() < 0.5:
-            return {"do": "cut", **made}
+            return {"do": "cut", **keys}
         stops = [self.stop() for _ in range(self.random.randint(1, 2))]
-        return {"do": "extend", **made, "stops": stops, **self.way(len(stops))}
+        return {"do": "extend", **keys, "stops": stops, **self.way(len(stops))}
 
     def text(self, backwards: bool = False) -> str:
         """The plan as TOML, with its scenarios in their order or the other way round."""
@@ -152,13 +153,13 @@ class DrawnPlan:
         own = {name: self.folder / f"{name}.csv" for name in ("origins", "opportunities")}
         files: dict[str, object] = {**own, **({} if footpaths is None else {"footpaths": footpaths})}
         hours = {"date": DATE, "from": clock(60 * first)[:5], "to": clock(60 * first + 1200)[:5]}
-        asked = {**hours, "trips": 3, "walk": 300, "share": "25,100", "within": "900,3600", "workers": 1, "tries": 1}
-        return [str(word) for name, value in {**asked, **files}.items() for word in (f"--{name}", value)]
+        options = {**hours, "trips": 3, "walk": 300, "share": "25,100", "within": "900,3600", "workers": 1, "tries": 1}
+        return [str(word) for name, value in {**options, **files}.items() for word in (f"--{name}", value)]
 
 
 def does_something(base: Base, actions: Sequence[Values]) -> bool:
     """Whether actions are carried out one after another; else a fault says why not."""
-    entries = [Entry("plan", 1, it, {}) for it in actions]
+    entries = [Entry("plan", action, LineNumbers(1)) for action in actions]
     try:
         carried_out(base, PlannedScenario("new", entries[0], entries))
     except BadInput:
@@ -179,21 +180,21 @@ def told(value: Any) -> str:
     return str(value) if isinstance(value, Decimal) else json.dumps(value, ensure_ascii=False)
 
 
-def tool(*words: str) -> None:
+def tool(*arguments: str) -> None:
     """Runs a command of the tools, which has to succeed."""
-    status = cli.main(list(words))
-    assert status == 0, words
+    status = cli.main(list(arguments))
+    assert status == 0, arguments
 
 
-def matrix(program: str, words: Sequence[str]) -> tuple[list[str], Rows]:
+def matrix(program: str, arguments: Sequence[str]) -> tuple[list[str], Rows]:
     """The header of a matrix, and the rows of each scenario without its name."""
-    ran = subprocess.run([program, *words], capture_output=True)
-    assert (ran.returncode, ran.stderr) == (0, b""), (words, ran.stderr)
+    ran = subprocess.run([program, *arguments], capture_output=True)
+    assert (ran.returncode, ran.stderr) == (0, b""), (arguments, ran.stderr)
     header, *records = csv.reader(io.StringIO(ran.stdout.decode(), newline=""))
-    made: Rows = {}
+    cells: Rows = {}
     for record in records:
-        made.setdefault(record[0], []).append(record[1:])
-    return header, made
+        cells.setdefault(record[0], []).append(record[1:])
+    return header, cells
 
 
 def lines_of(header: Sequence[str], rows: Sequence[Sequence[str]], wanted: Sequence[str]) -> list[list[str]]:
@@ -204,7 +205,9 @@ def lines_of(header: Sequence[str], rows: Sequence[Sequence[str]], wanted: Seque
 
 def run_words(program: str, plan: DrawnPlan, folder: Path, first: int) -> tuple[list[str], Rows]:
     """The matrix of all scenarios of a folder that `ttm-tools scenarios` wrote, with walks by straight lines."""
-    files = [str(folder / "scenarios" / f"{name}.csv") for name in ["today", *(it[0] for it in plan.scenarios)]]
+    files = [
+        str(folder / "scenarios" / f"{name}.csv") for name in ["today", *(scenario[0] for scenario in plan.scenarios)]
+    ]
     return matrix(program, ["--feed", str(folder), *plan.words(walks_of(folder), first), *files])
 
 
@@ -230,7 +233,7 @@ def plan_differs(program: str, seed: int, room: Path) -> str:
     old_header, old = matrix(program, ["--feed", str(room / "feed"), *plan.words(walks_of(room / "feed"), first)])
     wrong = [] if lines_of(header, rows["today"], old_header[1:]) == old["base"] else ["today"]
     wrong += [] if header[: len(old_header)] == old_header else ["columns"]
-    wrong += told_nearer(str(room / "plan"), str(room / "plan" / "made_walks.csv"))
+    wrong += sentences_on_nearer(str(room / "plan"), str(room / "plan" / "made_walks.csv"))
     for name, _ in plan.scenarios:
         out = room / name
         tool("scenarios", str(room / "feed"), str(room / "plan.toml"), "--only", name, "--out", str(out))

@@ -2,22 +2,23 @@
 
 import contextlib
 import csv
+import http.client
 import signal
 import subprocess
 import sys
 from pathlib import Path
 from typing import Iterator, Sequence
-from urllib.error import HTTPError
-from urllib.request import Request, urlopen
+from urllib.parse import urlsplit
 
 from asking import script
-from helpers import LAUNCHER, as_in_a_terminal
+from helpers import LAUNCHER, LONGEST_WAIT, as_in_a_terminal, wait_until
 
 DATE = "20260504"
 STOPS = [["A", "Alpha", 47.0, 8.0], ["B", "Beta", 47.0, 8.02], ["C", "Gamma", 47.0, 8.04], ["D", "Delta", 47.02, 8.04]]
 
 # Answers each question by a matrix in which the stop with the number n is n times 300 seconds from everywhere, and
-# what a scenario takes out makes the last stop unreachable. The file `slow` in the feed makes it wait.
+# what a scenario takes out makes the last stop unreachable. A file `questions` in the feed has it note them, a tenth of
+# a second for each; a file `hold` has it wait.
 CANNED = """\
 #!/usr/bin/python3
 import csv, os, sys, time
@@ -40,6 +41,8 @@ for line in sys.stdin:
     if os.path.exists(log):
         open(log, "a").write(origin + "\\n")
         time.sleep(0.1)
+    while os.path.exists(os.path.join(feed, "hold")):
+        time.sleep(0.01)
     rows = [["scenario", "origin", "share", "access_1800", *stops]]
     for name in names:
         for share in question["--share"].split(","):
@@ -99,18 +102,59 @@ class Explored:
 
     def status(self, path: str = "", body: bytes | None = None, **headers: str) -> int:
         """The status of a request, with the headers that are named in place of a browser's."""
-        named = {name.replace("_", "-"): value for name, value in headers.items()}
-        address = path if path.startswith("http") else self.address + path
+        with self.requested(path, body, **headers) as connection:
+            return connection.getresponse().status
+
+    def status_of_head(self, path: str, **headers: str) -> int:
+        """The status of a request whose body never comes."""
+        with self.requested(path, None, method="POST", **headers) as connection:
+            return connection.getresponse().status
+
+    @contextlib.contextmanager
+    def requested(
+        self, path: str, body: bytes | None, method: str = "", **headers: str
+    ) -> Iterator[http.client.HTTPConnection]:
+        """A connection on which the request has been sent, all of it or as much as the server took."""
+        named = {"Connection": "close"} | {name.replace("_", "-"): value for name, value in headers.items()}
+        parts = urlsplit(path if path.startswith("http") else self.address + path)
+        connection = http.client.HTTPConnection(parts.netloc, timeout=LONGEST_WAIT)
         try:
-            with urlopen(Request(address, body, named), timeout=20) as answer:
-                return int(answer.status)
-        except HTTPError as refused:
-            return int(refused.code)
+            # A server that refuses by the head alone may close before the body has come: its answer is there to read.
+            with contextlib.suppress(BrokenPipeError, ConnectionResetError):
+                connection.request(
+                    method or ("GET" if body is None else "POST"),
+                    parts.path + ("?" + parts.query if parts.query else ""),
+                    body,
+                    named,
+                )
+            yield connection
+        finally:
+            connection.close()
+
+    def wait_for_threads(self, count: int) -> None:
+        """Waits until the server has at least so many threads, all of which wait for something."""
+        quiet = [0]
+
+        def is_quiet() -> bool:
+            paths = list(Path(f"/proc/{self.process.pid}/task").iterdir())
+            states = [state_of(path) for path in paths]
+            quiet[0] = quiet[0] + 1 if len(states) >= count and set(states) <= {"S", ""} else 0
+            return quiet[0] == 5
+
+        wait_until(is_quiet)
 
     def children(self) -> list[int]:
         """The processes that it has begun."""
         found = subprocess.run(["ps", "-o", "pid=", "--ppid", str(self.process.pid)], capture_output=True, text=True)
-        return [int(it) for it in found.stdout.split()]
+        return [int(item) for item in found.stdout.split()]
+
+
+def state_of(thread: Path) -> str:
+    """What a thread does, as the system tells it by a letter: S where it waits; nothing where it is over."""
+    try:
+        return (thread / "stat").read_text().rsplit(")", 1)[1].split()[0]
+    except FileNotFoundError:
+        return ""
 
 
 @contextlib.contextmanager
@@ -130,6 +174,6 @@ def explored(feed: Path, program: str, *words: str) -> Iterator[Explored]:
         yield Explored(process, address)
     finally:
         process.send_signal(signal.SIGINT)
-        process.wait(30)
+        process.wait(LONGEST_WAIT)
         process.stdout.close()
         process.stderr.close()

@@ -7,8 +7,9 @@ import math
 import signal
 import subprocess
 import sys
+import time
 from pathlib import Path
-from typing import Any, Mapping, Sequence
+from typing import Any, Callable, Mapping, Sequence
 
 import pytest
 
@@ -24,6 +25,7 @@ CALENDAR = (
     "service_id,monday,tuesday,wednesday,thursday,friday,saturday,sunday,start_date,end_date",
     [["M", *[1] * 7, 20260504, 20260531]],
 )
+LONGEST_WAIT = 120  # seconds for what takes a moment on a machine without other work
 STOP_TIMES = "trip_id,arrival_time,departure_time,stop_id,stop_sequence"
 
 # Two scenarios of a little town: travel times in seconds from each origin to A, B, C and D, "" where there are none.
@@ -59,6 +61,14 @@ def as_in_a_terminal() -> None:
         signal.signal(number, signal.SIG_DFL)
 
 
+def wait_until(holds: Callable[[], bool]) -> None:
+    """Waits until something holds: for minutes, since a machine may have other work. It fails where it never does."""
+    end = time.monotonic() + LONGEST_WAIT
+    while not holds():
+        assert time.monotonic() < end, "waited for something that doesn't come"
+        time.sleep(0.02)
+
+
 def read(text: str) -> list[dict[str, str]]:
     return list(csv.DictReader(io.StringIO(text)))
 
@@ -91,27 +101,29 @@ class Room:
             full.append([name, *place, *more, *[""] * (2 - len(more))])
         self.write("stops.txt", "stop_id,stop_lat,stop_lon,location_type,parent_station", full)
 
-    def ran(self, *words: str) -> tuple[str, str, int]:
+    def ran(self, *arguments: str) -> tuple[str, str, int]:
         """Runs a command as from a shell: its standard output, its standard error, its status."""
         self.captured.readouterr()
         try:
-            status = cli.main(list(words))
+            status = cli.main(list(arguments))
         except SystemExit as ended:
             status = int(ended.code or 0)
-        out, told = self.captured.readouterr()
-        return out.decode("utf-8", "surrogateescape"), told.decode(), status
+        out, printed = self.captured.readouterr()
+        return out.decode("utf-8", "surrogateescape"), printed.decode(), status
 
-    def refused(self, told: str, *words: str) -> None:
+    def refused(self, message: str, *arguments: str) -> None:
         """The command ends with one line and the status 1, and leaves no new file."""
         before = self.names()
-        assert self.ran(*words) == ("", f"ttm-tools {words[0]}: {told}\n", 1)
+        assert self.ran(*arguments) == ("", f"ttm-tools {arguments[0]}: {message}\n", 1)
         assert self.names() == before
 
-    def refused_with(self, told: str, *words: str) -> None:
+    def refused_with(self, message: str, *arguments: str) -> None:
         """The command ends with one line that begins so, and the status 1, and leaves no new file."""
         before = self.names()
-        out, said, status = self.ran(*words)
-        assert (out, status, said.count("\n")) == ("", 1, 1) and said.startswith(f"ttm-tools {words[0]}: {told}"), said
+        out, said, status = self.ran(*arguments)
+        assert (out, status, said.count("\n")) == ("", 1, 1) and said.startswith(
+            f"ttm-tools {arguments[0]}: {message}"
+        ), said
         assert self.names() == before
 
 
@@ -134,12 +146,12 @@ class Town(Room):
         Path(self.file).write_text(text)
         return self.file
 
-    def take(self, program: str, words: str) -> None:
+    def take(self, program: str, arguments: str) -> None:
         """Writes what the program prints for these words."""
-        made = subprocess.run([program, *words.split()], capture_output=True, check=True).stdout
-        Path(self.file).write_bytes(made)
+        matrix = subprocess.run([program, *arguments.split()], capture_output=True, check=True).stdout
+        Path(self.file).write_bytes(matrix)
 
 
-def launched(*words: str) -> "subprocess.CompletedProcess[bytes]":
+def launched(*arguments: str) -> "subprocess.CompletedProcess[bytes]":
     """Runs a command from the clone, in a process of its own."""
-    return subprocess.run([sys.executable, LAUNCHER, *words], capture_output=True)
+    return subprocess.run([sys.executable, LAUNCHER, *arguments], capture_output=True)

@@ -28,7 +28,7 @@ def degrees(place: tuple[float, float]) -> Point:
 
 def frame(places: Sequence[tuple[float, float]], ids: Sequence[object]) -> Any:
     """A frame of points by metres north and east."""
-    return geopandas.GeoDataFrame({"id": list(ids)}, geometry=[degrees(it) for it in places], crs="EPSG:4326")
+    return geopandas.GeoDataFrame({"id": list(ids)}, geometry=[degrees(place) for place in places], crs="EPSG:4326")
 
 
 def square(place: tuple[float, float], side: float) -> Any:

@@ -13,9 +13,9 @@ HEAD = "id,opportunity,percentile,cutoff,accessibility\n"
 SMALL: dict[str, dict[str, list[Cell]]] = {"base": {"A": [0, 600, 1800]}}  # of the feed that `ttm` carries
 
 
-def measured(town: Town, *words: str) -> str:
-    out, told, status = town.ran("access", *words, town.file)
-    assert (told, status) == ("", 0)
+def measured(town: Town, *arguments: str) -> str:
+    out, errors, status = town.ran("access", *arguments, town.file)
+    assert (errors, status) == ("", 0)
     return out
 
 
@@ -29,9 +29,9 @@ def small(town: Town) -> Town:
 
 
 def test_limits_by_hand(small: Town) -> None:
-    words = ["--opportunities", small.path("jobs.csv"), "--scenario", "base", "--cutoffs", "9.99,10,29.98,30"]
+    arguments = ["--opportunities", small.path("jobs.csv"), "--scenario", "base", "--cutoffs", "9.99,10,29.98,30"]
     expected = "A,jobs,50,9.99,0\nA,jobs,50,10,10\nA,jobs,50,29.98,10\nA,jobs,50,30,15\n"
-    assert measured(small, *words) == HEAD + expected
+    assert measured(small, *arguments) == HEAD + expected
 
 
 def test_decays_by_hand(small: Town) -> None:
@@ -41,16 +41,16 @@ def test_decays_by_hand(small: Town) -> None:
         (["exponential", "--cutoffs", "10"], 10 / 2 + 5 / 8),
         (["logistic", "--cutoffs", "10", "--decay-value", "5"], 5.136528),  # 10 * 1.02658 / 2 + 5 * 1.02658 / 1416.4
     ):
-        words = ["--opportunities", small.path("jobs.csv"), "--decay", *decay]
-        assert float(read(measured(small, *words))[0]["accessibility"]) == pytest.approx(expected, abs=1e-4)
+        arguments = ["--opportunities", small.path("jobs.csv"), "--decay", *decay]
+        assert float(read(measured(small, *arguments))[0]["accessibility"]) == pytest.approx(expected, abs=1e-4)
 
 
 def test_the_nearest_by_hand(small: Town) -> None:
-    words = ["--opportunities", small.path("jobs.csv"), "--nearest", "1,10,11,16"]
+    arguments = ["--opportunities", small.path("jobs.csv"), "--nearest", "1,10,11,16"]
     lines = "base,A,jobs,50,1,600\nbase,A,jobs,50,10,600\nbase,A,jobs,50,11,1800\nbase,A,jobs,50,16,\n"
-    assert measured(small, *words) == "scenario,id,opportunity,percentile,nearest,seconds\n" + lines
-    words = ["--opportunities", small.path("more.csv"), "--column", "schools", "--nearest", "0.5,1"]
-    assert [row["seconds"] for row in read(measured(small, *words))] == ["600", "1800"]
+    assert measured(small, *arguments) == "scenario,id,opportunity,percentile,nearest,seconds\n" + lines
+    arguments = ["--opportunities", small.path("more.csv"), "--column", "schools", "--nearest", "0.5,1"]
+    assert [row["seconds"] for row in read(measured(small, *arguments))] == ["600", "1800"]
 
 
 def test_a_column_for_each_opportunity_and_cutoff(small: Town) -> None:
@@ -64,12 +64,12 @@ def test_a_column_for_each_opportunity_and_cutoff(small: Town) -> None:
 
 def test_shares_stay_apart(small: Town) -> None:
     small.matrix(town_matrix(True, SMALL, shares=(25, 50), stops="ABC"))
-    words = ["--opportunities", small.path("jobs.csv"), "--cutoffs", "5,15", "--scenario", "base"]
+    arguments = ["--opportunities", small.path("jobs.csv"), "--cutoffs", "5,15", "--scenario", "base"]
     lines = "A,jobs,25,5,10\nA,jobs,25,15,15\nA,jobs,50,5,0\nA,jobs,50,15,10\n"
-    assert measured(small, *words) == HEAD + lines
-    assert measured(small, *words, "--share", "50") == HEAD + "".join(lines.splitlines(True)[2:])
+    assert measured(small, *arguments) == HEAD + lines
+    assert measured(small, *arguments, "--share", "50") == HEAD + "".join(lines.splitlines(True)[2:])
     small.matrix(town_matrix(False, SMALL, stops="ABC"))  # a matrix that names no share
-    assert measured(small, *words) == HEAD + "A,jobs,,5,0\nA,jobs,,15,10\n"
+    assert measured(small, *arguments) == HEAD + "A,jobs,,5,0\nA,jobs,,15,10\n"
 
 
 def test_wrong_files_are_told(small: Town) -> None:
@@ -81,29 +81,29 @@ def test_wrong_files_are_told(small: Town) -> None:
         ("stop,jobs", ["B", 1], f"{path}: record 1: no column stop_id or id"),
         ("stop_id", ["B"], f"{path}: record 1: no column of numbers"),
     ]
-    for header, row, told in wrong:
+    for header, row, printed in wrong:
         small.write("bad.csv", header, [row])
-        small.refused(told, "access", "--opportunities", path, small.file)
+        small.refused(printed, "access", "--opportunities", path, small.file)
     small.write("bad.csv", "stop_id,jobs", [["B", 1], ["B", 1]])
     small.refused(f"{path}: record 3: B is there twice", "access", "--opportunities", path, small.file)
     jobs = small.path("jobs.csv")
     small.write("bad.csv", "stop_id,jobs", [["B", 1]])
     both = ["access", "--opportunities", jobs, "--opportunities", path, small.file]
     small.refused(f"{path}: a column jobs is in another file too", *both)
-    told = f"{jobs}: no column parks; there are jobs"
-    small.refused(told, "access", "--opportunities", jobs, "--column", "parks", small.file)
+    printed = f"{jobs}: no column parks; there are jobs"
+    small.refused(printed, "access", "--opportunities", jobs, "--column", "parks", small.file)
 
 
 def test_words_that_do_not_go_together(small: Town) -> None:
-    for words in (
+    for arguments in (
         ["--decay", "linear"],
         ["--decay", "step", "--decay-value", "3"],
         ["--decay", "exponential", "--cutoffs", "0,5"],
         ["--nearest", "0,1"],
         ["--cutoffs", "30,15"],
     ):
-        out, _, status = small.ran("access", "--opportunities", small.path("jobs.csv"), *words, small.file)
-        assert (out, status) == ("", 2), words
+        out, _, status = small.ran("access", "--opportunities", small.path("jobs.csv"), *arguments, small.file)
+        assert (out, status) == ("", 2), arguments
 
 
 def plain_weight(decay: str, value: float, cutoff: float, minutes: float) -> float:
@@ -136,19 +136,19 @@ def test_drawn_matrices_measure_as_plain_formulas_say(town: Town, seed: int, mon
     town.matrix(town_matrix(True, {"base": rows}, stops=stops))
     numbers = {name: [draw.choice([0, 1, 2.5, draw.random()]) for _ in stops] for name in ("jobs", "parks")}
     town.write("some.csv", "stop_id,jobs,parks", list(zip(stops, *numbers.values())))
-    words = ["--opportunities", town.path("some.csv"), "--scenario", "base"]
+    arguments = ["--opportunities", town.path("some.csv"), "--scenario", "base"]
     cutoffs, value = sorted(draw.sample(range(1, 120), 3)), draw.uniform(1, 60)
     for decay in ("step", "linear", "exponential", "logistic"):
         own = [] if decay in ("step", "exponential") else ["--decay-value", str(value)]
         rest = ["--decay", decay, *own, "--cutoffs", ",".join(map(str, cutoffs))]
-        for row in read(measured(town, *words, *rest)):
+        for row in read(measured(town, *arguments, *rest)):
             expected = sum(
                 plain_weight(decay, value, int(row["cutoff"]), time / 60) * count
                 for time, count in zip(rows[row["id"]], numbers[row["opportunity"]])
                 if isinstance(time, int)
             )
             assert float(row["accessibility"]) == pytest.approx(expected, abs=2e-6)
-    for row in read(measured(town, *words, "--nearest", "0.5,1,3,7")):
+    for row in read(measured(town, *arguments, "--nearest", "0.5,1,3,7")):
         expected_time = plain_nearest(rows[row["id"]], numbers[row["opportunity"]], float(row["nearest"]))
         assert row["seconds"] == expected_time
 
@@ -164,25 +164,25 @@ def test_limits_give_what_ttm_prints_as_access(town: Town, program: str) -> None
     counts = [[stop, draw.randrange(1 << 31)] for stop in "ABCD"]
     jobs = town.write("jobs.csv", "stop_id,opportunities", counts)
     cut = town.write("cut.csv", "action,id,seconds", [["remove_trip", "T1", ""]])
-    words = f"--feed {town.folder} --date 20260504 --from 08:00 --to 08:19 --trips 3 --walk 0 --share 25,50,90"
-    town.take(program, f"{words} --within 0,180,420,900 --workers 1 --tries 1 --opportunities {jobs} {cut}")
-    asked = ["--opportunities", jobs, "--cutoffs", "0,3,7,15", "--form", "wide"]
-    made = [list(row.values()) for row in read(measured(town, *asked))]
+    arguments = f"--feed {town.folder} --date 20260504 --from 08:00 --to 08:19 --trips 3 --walk 0 --share 25,50,90"
+    town.take(program, f"{arguments} --within 0,180,420,900 --workers 1 --tries 1 --opportunities {jobs} {cut}")
+    options = ["--opportunities", jobs, "--cutoffs", "0,3,7,15", "--form", "wide"]
+    rows = [list(row.values()) for row in read(measured(town, *options))]
     with open(town.file, newline="", encoding="utf-8") as file:
         printed = [row[:7] for row in list(csv.reader(file))[1:]]
-    assert made == printed and len({row[3] for row in made}) > 1
+    assert rows == printed and len({row[3] for row in rows}) > 1
 
 
 def test_an_open_matrix_file_measures_as_the_matrix(small: Town) -> None:
     pytest.importorskip("h5py")
     assert small.ran("omx", "--out", small.path("small.omx"), small.file)[2] == 0
-    words = ["access", "--opportunities", small.path("jobs.csv")]
-    assert small.ran(*words, small.path("small.omx"))[0] == small.ran(*words, small.file)[0]
+    arguments = ["access", "--opportunities", small.path("jobs.csv")]
+    assert small.ran(*arguments, small.path("small.omx"))[0] == small.ran(*arguments, small.file)[0]
 
 
 def test_what_is_damaged_leaves_nothing(small: Room) -> None:
     Path(small.path("jobs.csv")).write_bytes(b"stop_id,jobs\nB,\xff1\n")
     before = small.names()
-    words = ["access", "--opportunities", small.path("jobs.csv"), "--out", small.path("out.csv")]
-    assert small.ran(*words, small.path("matrix.csv"))[2] == 1
+    arguments = ["access", "--opportunities", small.path("jobs.csv"), "--out", small.path("out.csv")]
+    assert small.ran(*arguments, small.path("matrix.csv"))[2] == 1
     assert small.names() == before

@@ -34,21 +34,24 @@ GEOMETRIES = {
     "c": {"type": "MultiPolygon", "coordinates": C},
 }
 TIMES = {name: dict(zip("abc", (row[:3] for row in TOWN["base"].values()))) for name in ("base", "cut")}
-TIMES |= {"cut": {"a": [0, 900, ""], "b": [300, 0, 300], "c": ["", 60, 0]}, "base": {it: [0, 60, 120] for it in "abc"}}
+TIMES |= {
+    "cut": {"a": [0, 900, ""], "b": [300, 0, 300], "c": ["", 60, 0]},
+    "base": {letter: [0, 60, 120] for letter in "abc"},
+}
 
 
 @pytest.fixture(scope="module")
 def browser() -> Iterator[Browser]:
     pytest.importorskip("jinja2")
-    made = Browser()
-    yield made
-    made.close()
+    driver = Browser()
+    yield driver
+    driver.close()
 
 
 def zones(town: Town, name: str = "zones.geojson", **geometries: Any) -> str:
     features = [
-        {"type": "Feature", "properties": {"id": it, "name": f"Zone {it}", "people": 5}, "geometry": geometry}
-        for it, geometry in (geometries or GEOMETRIES).items()
+        {"type": "Feature", "properties": {"id": item, "name": f"Zone {item}", "people": 5}, "geometry": geometry}
+        for item, geometry in (geometries or GEOMETRIES).items()
     ]
     Path(town.path(name)).write_text(json.dumps({"type": "FeatureCollection", "features": features}))
     return town.path(name)
@@ -57,17 +60,17 @@ def zones(town: Town, name: str = "zones.geojson", **geometries: Any) -> str:
 def doors(town: Town) -> str:
     """A folder of the three zones, and a matrix of these; the feed in it."""
     town.write("routes.txt", "route_id", [["R"], ["Q"]])
-    words = ["points", town.feed, zones(town), "--out", town.path("doors"), "--limit", "7200"]
-    assert town.ran(*words)[2] == 0
+    arguments = ["points", town.feed, zones(town), "--out", town.path("doors"), "--limit", "7200"]
+    assert town.ran(*arguments)[2] == 0
     town.matrix(town_matrix(True, TIMES, stops="abc"))
     town.feed = town.path("doors/feed")
     return town.feed
 
 
 def test_a_folder_of_points_keeps_their_areas(town: Town) -> None:
-    made = areas_beside(f"{doors(town)}/points.csv")
-    assert {name: len(area) for name, area in made.items()} == {"a": 1, "b": 1, "c": 2}
-    assert [ring.tolist() for ring in made["b"][0]] == B and made["a"][0][0].tolist() == A[0]
+    result = areas_beside(f"{doors(town)}/points.csv")
+    assert {name: len(area) for name, area in result.items()} == {"a": 1, "b": 1, "c": 2}
+    assert [ring.tolist() for ring in result["b"][0]] == B and result["a"][0][0].tolist() == A[0]
     (town.folder / "cells.csv").write_text("id,lat,lon\np,0.0,9.0\n")
     assert town.ran("points", town.path("."), town.path("cells.csv"), "--out", town.path("bare"))[2] == 0
     assert not Path(town.path("bare/feed"), AREAS_FILE).exists()
@@ -112,12 +115,17 @@ def test_a_map_draws_areas_with_their_holes(town: Town, monkeypatch: pytest.Monk
 
     doors(town)
     figures: list[Any] = []
-    monkeypatch.setattr(Figure, "savefig", lambda made, *_, **__: figures.append(made))
+    monkeypatch.setattr(Figure, "savefig", lambda figure, *_, **__: figures.append(figure))
     assert (
         town.ran("map", "times", "--origin", "a", "--feed", town.feed, "--out", town.path("m.png"), town.file)[2] == 0
     )
     (axes,) = figures[0].axes
-    drawn = [path for it in axes.collections if isinstance(it, PathCollection) for path in it.get_paths()]
+    drawn = [
+        path
+        for collection in axes.collections
+        if isinstance(collection, PathCollection)
+        for path in collection.get_paths()
+    ]
     corners = [len(path.vertices) for path in drawn]
     assert 10 in corners and 8 in corners  # b with its hole, and c; a is the origin, which a star stands for
     figures[0].canvas.draw()
@@ -130,7 +138,7 @@ def test_a_map_draws_areas_with_their_holes(town: Town, monkeypatch: pytest.Monk
     def colour(east: float, north: float) -> list[int]:
         kilometres = np.stack([on_map.east(np.array([east])), on_map.north(np.array([north]))], axis=1)
         across, up = axes.transData.transform(kilometres)[0]
-        return [int(it) for it in pixels[len(pixels) - 1 - round(up), round(across), :3]]
+        return [int(pixel) for pixel in pixels[len(pixels) - 1 - round(up), round(across), :3]]
 
     assert colour(9.017, 0.003) == [255, 255, 255] != colour(9.025, 0.015)
     (left, right), (bottom, top) = axes.get_xlim(), axes.get_ylim()

@@ -24,11 +24,11 @@ Bomb = Callable[[Path], "tuple[list[str], str]"]  # the command, and what its li
 
 def packed(folder: Path, blocks: Iterator[bytes], member: str = "stops.txt") -> str:
     """A zip file of a feed one of whose members has these blocks."""
-    with zipfile.ZipFile(folder / "feed.zip", "w", zipfile.ZIP_DEFLATED, compresslevel=1) as made:
+    with zipfile.ZipFile(folder / "feed.zip", "w", zipfile.ZIP_DEFLATED, compresslevel=1) as archive:
         for name, text in FEED.items():
             if name != member:
-                made.writestr(name, text)
-        with made.open(member, "w", force_zip64=True) as file:
+                archive.writestr(name, text)
+        with archive.open(member, "w", force_zip64=True) as file:
             for block in blocks:
                 file.write(block)
     return str(folder / "feed.zip")
@@ -60,23 +60,23 @@ def points_of(folder: Path, count: int, step: float) -> str:
 
 
 def a_million_points(folder: Path) -> tuple[list[str], str]:
-    words = ["points", "--leave-out", "--out", str(folder / "out"), feed_of(folder)]
-    return [*words, points_of(folder, 1_000_001, 0.0001)], "more than 1,000,000 points"
+    arguments = ["points", "--leave-out", "--out", str(folder / "out"), feed_of(folder)]
+    return [*arguments, points_of(folder, 1_000_001, 0.0001)], "more than 1,000,000 points"
 
 
 def points_far_from_any_stop(folder: Path) -> tuple[list[str], str]:
-    words = ["points", "--leave-out", "--out", str(folder / "out"), feed_of(folder)]
-    return [*words, points_of(folder, 40_000, 0.001)], ""
+    arguments = ["points", "--leave-out", "--out", str(folder / "out"), feed_of(folder)]
+    return [*arguments, points_of(folder, 40_000, 0.001)], ""
 
 
 def points_close_together(folder: Path) -> tuple[list[str], str]:
-    words = ["points", "--leave-out", "--out", str(folder / "out"), feed_of(folder)]
-    return [*words, points_of(folder, 150_000, 0.00002)], "more than the 65,535 that ttm takes"
+    arguments = ["points", "--leave-out", "--out", str(folder / "out"), feed_of(folder)]
+    return [*arguments, points_of(folder, 150_000, 0.00002)], "more than the 65,535 that ttm takes"
 
 
 def many_walks(folder: Path) -> tuple[list[str], str]:
-    words = ["points", "--limit", "2400", "--out", str(folder / "out"), feed_of(folder)]
-    return [*words, points_of(folder, 60_000, 0.0005)], "more than the 4,000,000 walks that ttm takes"
+    arguments = ["points", "--limit", "2400", "--out", str(folder / "out"), feed_of(folder)]
+    return [*arguments, points_of(folder, 60_000, 0.0005)], "more than the 4,000,000 walks that ttm takes"
 
 
 def a_wide_matrix(folder: Path) -> tuple[list[str], str]:
@@ -93,8 +93,8 @@ def a_deep_open_matrix(folder: Path) -> tuple[list[str], str]:
             file.create_group(name)
         for name in ("origin", "destination"):
             file["lookup"].create_dataset(name, shape=(1 << 40,), dtype="S9", chunks=(1 << 20,), compression="gzip")
-        made = file["data"].create_dataset("base", shape=(1 << 40, 1 << 20), dtype="<f4", chunks=(1, 1 << 20))
-        made.attrs["scenario"] = np.bytes_(b"base")
+        result = file["data"].create_dataset("base", shape=(1 << 40, 1 << 20), dtype="<f4", chunks=(1, 1 << 20))
+        result.attrs["scenario"] = np.bytes_(b"base")
     return ["omx", "--out", str(folder / "out.omx"), str(path)], "1,099,511,627,776 identifiers"
 
 
@@ -106,8 +106,8 @@ def a_large_toml(folder: Path) -> tuple[list[str], str]:
 def a_large_area(folder: Path) -> tuple[list[str], str]:
     with open(folder / "area.json", "wb") as file:
         file.truncate(300_000_000)
-    words = ["prepare", "--area", str(folder / "area.json"), "--out", str(folder / "out"), feed_of(folder)]
-    return words, "GeoJSON at most"
+    arguments = ["prepare", "--area", str(folder / "area.json"), "--out", str(folder / "out"), feed_of(folder)]
+    return arguments, "GeoJSON at most"
 
 
 BOMBS: list[Bomb] = [
@@ -130,12 +130,12 @@ def limited() -> None:
     resource.setrlimit(resource.RLIMIT_FSIZE, (MOST_WRITTEN, MOST_WRITTEN))
 
 
-def ended(words: list[str]) -> tuple[int, str, int]:
+def ended(arguments: list[str]) -> tuple[int, str, int]:
     """How a command ends: its status, what it says, and the bytes of memory that it took at most."""
-    ran = subprocess.Popen(words, stdout=subprocess.DEVNULL, stderr=subprocess.PIPE, text=True, preexec_fn=limited)
+    ran = subprocess.Popen(arguments, stdout=subprocess.DEVNULL, stderr=subprocess.PIPE, text=True, preexec_fn=limited)
     assert ran.stderr is not None
-    with ran.stderr as told:
-        said = told.read()
+    with ran.stderr as errors:
+        said = errors.read()
     _, status, used = os.wait4(ran.pid, 0)
     ran.returncode = os.waitstatus_to_exitcode(status)
     return ran.returncode, said, used.ru_maxrss * 1024
@@ -145,9 +145,9 @@ def ended(words: list[str]) -> tuple[int, str, int]:
 def test_what_would_fill_the_memory_ends_in_a_line(room: Room, bomb: Bomb) -> None:
     for package in ("h5py", "pandas", "shapely"):
         pytest.importorskip(package)
-    words, line = bomb(room.folder)
+    arguments, line = bomb(room.folder)
     before = room.names()
-    status, said, taken = ended([sys.executable, LAUNCHER, *words])
+    status, said, taken = ended([sys.executable, LAUNCHER, *arguments])
     assert taken < MOST_TAKEN, f"{taken:,}"
     if not line:
         assert status == 0, said

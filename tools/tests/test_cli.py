@@ -31,8 +31,8 @@ def commands() -> dict[str, argparse.ArgumentParser]:
 @pytest.mark.parametrize("name", cli.COMMANDS)
 def test_each_command_says_what_it_takes(name: str) -> None:
     source = LAUNCHER.replace("ttm-tools", "src")
-    words = [sys.executable, "-c", NO_PACKAGES, source, name, "--help"]
-    ran = subprocess.run(words, capture_output=True, text=True)
+    arguments = [sys.executable, "-c", NO_PACKAGES, source, name, "--help"]
+    ran = subprocess.run(arguments, capture_output=True, text=True)
     assert (ran.returncode, ran.stderr) == (0, "")
     assert ran.stdout.startswith(f"usage: ttm-tools {name} ")
 
@@ -40,12 +40,12 @@ def test_each_command_says_what_it_takes(name: str) -> None:
 @pytest.mark.parametrize("name", cli.COMMANDS)
 def test_each_option_says_its_range_and_what_holds_without_it(name: str) -> None:
     for action in commands()[name]._actions:
-        told = action.help or ""
-        assert told
+        printed = action.help or ""
+        assert printed
         if action.option_strings and action.dest != "help":
-            assert any(word in told for word in ("(default ", "(without it, ", "needed)")), action.option_strings
+            assert any(word in printed for word in ("(default ", "(without it, ", "needed)")), action.option_strings
         if action.type is not None and action.dest != "breaks":
-            assert " to " in told, action.option_strings
+            assert " to " in printed, action.option_strings
 
 
 def test_the_launcher_runs_from_anywhere(room: Room) -> None:
@@ -55,10 +55,10 @@ def test_the_launcher_runs_from_anywhere(room: Room) -> None:
 
 
 def test_a_package_that_is_not_there_is_told_in_a_line() -> None:
-    with pytest.raises(faults.Lacking) as told:
+    with pytest.raises(faults.Lacking) as raised:
         faults.needs("csv", "nosuchpackage")
     way = "apt-get install python3-nosuchpackage and take /usr/bin/python3, or pip install nosuchpackage"
-    assert str(told.value) == f"this Python, {sys.executable}, has no nosuchpackage: {way}"
+    assert str(raised.value) == f"this Python, {sys.executable}, has no nosuchpackage: {way}"
 
 
 def test_wrong_words_have_the_status_2(town: Town) -> None:
@@ -77,10 +77,10 @@ def test_wrong_words_have_the_status_2(town: Town) -> None:
         ["gis", "--feed", town.feed, "--out", town.path("a.shp"), town.file],
         ["split", "--feed", town.feed, "--origins", "x"],
     ]
-    for words in wrong:
-        out, told, status = town.ran(*words)
-        assert (out, status) == ("", 2), words
-        assert told.splitlines()[-1].startswith("ttm-tools"), words
+    for arguments in wrong:
+        out, errors, status = town.ran(*arguments)
+        assert (out, status) == ("", 2), arguments
+        assert errors.splitlines()[-1].startswith("ttm-tools"), arguments
 
 
 def test_a_range_is_told_with_its_unit() -> None:
@@ -91,9 +91,9 @@ def test_a_range_is_told_with_its_unit() -> None:
 
 def test_an_output_that_cannot_be_written_is_told(town: Town) -> None:
     town.matrix(town_matrix(True))
-    out, told, status = town.ran("compare", "--out", town.path("no/such.csv"), town.file)
+    out, errors, status = town.ran("compare", "--out", town.path("no/such.csv"), town.file)
     assert (out, status) == ("", 1)
-    assert told.startswith("ttm-tools compare: ") and told.endswith(": No such file or directory\n")
+    assert errors.startswith("ttm-tools compare: ") and errors.endswith(": No such file or directory\n")
 
 
 def test_a_full_disk_is_told_and_leaves_nothing(town: Town) -> None:
@@ -105,8 +105,8 @@ def test_a_full_disk_is_told_and_leaves_nothing(town: Town) -> None:
 
 def test_a_reader_that_has_gone_ends_it_in_silence(town: Town) -> None:
     town.matrix(town_matrix(True, stops=[f"s{number}" for number in range(4)]))
-    words = f"{sys.executable} {LAUNCHER} long {town.file} | true"
-    ran = subprocess.run(["sh", "-c", words], capture_output=True)
+    arguments = f"{sys.executable} {LAUNCHER} long {town.file} | true"
+    ran = subprocess.run(["sh", "-c", arguments], capture_output=True)
     assert ran.stderr == b""
 
 
@@ -114,22 +114,24 @@ def test_out_of_memory_has_the_status_3(town: Town, monkeypatch: pytest.MonkeyPa
     def run(_: argparse.Namespace) -> int:
         raise MemoryError
 
-    assert cli.told(argparse.Namespace(command="map", run=run)) == 3
+    assert cli.status_of(argparse.Namespace(command="map", run=run)) == 3
 
 
 def test_an_option_that_is_none_is_told_with_the_usage_of_its_command(room: Room) -> None:
-    _, told, status = room.ran("page", "--feed", "a", "matrix.csv", "--wthin", "3")
-    assert status == 2 and told.startswith("usage: ttm-tools page ") and "unrecognized arguments: --wthin" in told
+    _, errors, status = room.ran("page", "--feed", "a", "matrix.csv", "--wthin", "3")
+    assert status == 2 and errors.startswith("usage: ttm-tools page ") and "unrecognized arguments: --wthin" in errors
 
 
 def test_a_limit_is_in_minutes_or_in_seconds_as_ttm_has_it(town: Town) -> None:
     town.matrix(town_matrix(True, limits=(900, 1800)))
-    words = ["compare", "--by", "origin", town.file]
-    found = [town.ran(*words, *it) for it in (["--within", "900"], ["--cutoff", "15"], ["--cutoffs", "15"])]
+    arguments = ["compare", "--by", "origin", town.file]
+    found = [
+        town.ran(*arguments, *options) for options in (["--within", "900"], ["--cutoff", "15"], ["--cutoffs", "15"])
+    ]
     assert found[0][2] == 0 and found[0] == found[1] == found[2]
     town.write("jobs.csv", "stop_id,jobs", [["A", 7], ["D", 8]])
-    words = ["access", "--opportunities", town.path("jobs.csv"), town.file]
-    found = [town.ran(*words, *it) for it in (["--cutoffs", "15,30"], ["--within", "900,1800"])]
+    arguments = ["access", "--opportunities", town.path("jobs.csv"), town.file]
+    found = [town.ran(*arguments, *options) for options in (["--cutoffs", "15,30"], ["--within", "900,1800"])]
     assert found[0][2] == 0 and found[0] == found[1]
 
 
@@ -142,13 +144,13 @@ def test_pip_builds_the_package_without_network_or_other_packages(room: Room) ->
     if subprocess.run([sys.executable, "-m", "pip", "--version"], capture_output=True).returncode:
         pytest.skip("without pip")
     tools, out = Path(LAUNCHER).parent, room.path("there")
-    words = ["install", "--no-index", "--no-deps", "--disable-pip-version-check", "--target", out, str(tools)]
-    ran = subprocess.run([sys.executable, "-m", "pip", *words], capture_output=True, text=True)
+    arguments = ["install", "--no-index", "--no-deps", "--disable-pip-version-check", "--target", out, str(tools)]
+    ran = subprocess.run([sys.executable, "-m", "pip", *arguments], capture_output=True, text=True)
     assert ran.returncode == 0, ran.stderr
-    made = {str(it.relative_to(out)) for it in Path(out).rglob("*") if it.is_file() and it.suffix != ".pyc"}
+    result = {str(path.relative_to(out)) for path in Path(out).rglob("*") if path.is_file() and path.suffix != ".pyc"}
     own = {
-        f"ttm_tools/{it.relative_to(tools / 'src' / 'ttm_tools')}"
-        for it in (tools / "src" / "ttm_tools").rglob("*")
-        if it.is_file() and it.suffix != ".pyc"
+        f"ttm_tools/{path.relative_to(tools / 'src' / 'ttm_tools')}"
+        for path in (tools / "src" / "ttm_tools").rglob("*")
+        if path.is_file() and path.suffix != ".pyc"
     }
-    assert own <= made and "bin/ttm-tools" in made
+    assert own <= result and "bin/ttm-tools" in result

@@ -23,41 +23,44 @@ cut,D,50,2,0,1700
 
 def test_access_alone_has_no_travel_times(town: Town) -> None:
     town.matrix(ALONE)
-    out, told, status = town.ran("long", "--access", town.file)
+    out, errors, status = town.ran("long", "--access", town.file)
     rows = [(row["scenario"], row["origin"], row["within"], row["access"]) for row in read(out)]
-    assert (told, status, len(rows)) == ("", 0, 8)
+    assert (errors, status, len(rows)) == ("", 0, 8)
     assert rows[:2] == [("base", "A", "900", "2"), ("base", "A", "1800", "3")]
-    out, told, status = town.ran("long", town.file)
-    assert (out, told, status) == ("scenario,share,origin,destination,seconds\n", "", 0)
+    out, errors, status = town.ran("long", town.file)
+    assert (out, errors, status) == ("scenario,share,origin,destination,seconds\n", "", 0)
 
 
 def test_access_alone_is_compared(town: Town) -> None:
     town.matrix(ALONE)
-    out, told, status = town.ran("compare", "--by", "origin", "--within", "1800", town.file)
+    out, errors, status = town.ran("compare", "--by", "origin", "--within", "1800", town.file)
     assert status == 0
-    assert "access: of 2 origins 1 lose, 0 gain; in all -2" in out + told
-    assert "of 0 pairs 0 cut off" in out + told
+    assert "access: of 2 origins 1 lose, 0 gain; in all -2" in out + errors
+    assert "of 0 pairs 0 cut off" in out + errors
 
 
 def test_pairs_are_those_of_the_columns(town: Town) -> None:
     town.matrix(SOME)
-    out, told, status = town.ran("compare", "--limit", "0", town.file)
+    out, errors, status = town.ran("compare", "--limit", "0", town.file)
     assert status == 0
-    assert "of 4 pairs 1 cut off, 1 slower, 1 new, 0 faster" in out + told
+    assert "of 4 pairs 1 cut off, 1 slower, 1 new, 0 faster" in out + errors
 
 
 def test_origins_without_a_column_are_points(town: Town) -> None:
     for text, times in ((ALONE, {"A": None, "D": None}), (SOME, {"D": 2400, "B": 300, "A": None})):
         town.matrix(text)
-        made = Path(town.path("made.geojson"))
-        words = ["--feed", town.feed, "--scenario", "base", "--origin", "A", "--out", str(made)]
-        assert town.ran("gis", *words, town.file)[2] == 0
-        told = [feature["properties"] for feature in json.loads(made.read_text())["features"]]
-        assert {it["stop_id"]: it["base_50_seconds"] for it in told} == times
-        assert {it["stop_id"]: it["base_50_access_1800"] for it in told if it["stop_id"] != "B"} == {"A": 3, "D": 2}
+        result = Path(town.path("made.geojson"))
+        arguments = ["--feed", town.feed, "--scenario", "base", "--origin", "A", "--out", str(result)]
+        assert town.ran("gis", *arguments, town.file)[2] == 0
+        printed = [feature["properties"] for feature in json.loads(result.read_text())["features"]]
+        assert {item["stop_id"]: item["base_50_seconds"] for item in printed} == times
+        assert {item["stop_id"]: item["base_50_access_1800"] for item in printed if item["stop_id"] != "B"} == {
+            "A": 3,
+            "D": 2,
+        }
 
 
 def test_a_matrix_without_columns_is_no_open_matrix_file(town: Town) -> None:
     town.matrix(ALONE)
-    told = "has no columns, as a run whose --destinations are a header alone: there is nothing to write"
-    town.refused(f"{town.file}: {told}", "omx", "--out", town.path("made.omx"), town.file)
+    message = "has no columns, as a run whose --destinations are a header alone: there is nothing to write"
+    town.refused(f"{town.file}: {message}", "omx", "--out", town.path("made.omx"), town.file)

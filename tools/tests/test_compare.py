@@ -11,8 +11,8 @@ BY_ORIGIN = "origin,access_before,access_after,change,percent,cut_off,slower,new
 ORDER = ["cut off", "slower", "new", "faster"]
 
 
-def compared(town: Town, *words: str) -> str:
-    out, _, status = town.ran("compare", *words, town.file)
+def compared(town: Town, *arguments: str) -> str:
+    out, _, status = town.ran("compare", *arguments, town.file)
     assert status == 0
     return out
 
@@ -21,8 +21,8 @@ def compared(town: Town, *words: str) -> str:
 def test_losers_come_first_and_what_has_no_difference_is_told(town: Town, second_form: bool) -> None:
     town.matrix(town_matrix(second_form))
     expected = HEAD + "A,D,cut off,2400,,\nA,C,slower,900,1900,1000\nD,B,new,,1700,\nD,A,faster,1500,1400,-100\n"
-    told = "cut compared with base: of 8 pairs 1 cut off, 1 slower, 1 new, 1 faster (by more than 60 seconds)\n"
-    assert town.ran("compare", town.file) == (expected, told, 0)
+    message = "cut compared with base: of 8 pairs 1 cut off, 1 slower, 1 new, 1 faster (by more than 60 seconds)\n"
+    assert town.ran("compare", town.file) == (expected, message, 0)
 
 
 def test_the_limit_is_in_seconds_and_counts_for_neither_cut_off_nor_new(town: Town) -> None:
@@ -40,9 +40,9 @@ def test_the_limit_is_in_seconds_and_counts_for_neither_cut_off_nor_new(town: To
 @pytest.mark.parametrize("second_form", [False, True])
 def test_by_origin_the_greatest_loss_of_access_comes_first(town: Town, second_form: bool) -> None:
     town.matrix(town_matrix(second_form))
-    out, told, _ = town.ran("compare", "--by", "origin", town.file)
+    out, errors, _ = town.ran("compare", "--by", "origin", town.file)
     assert out == BY_ORIGIN + "A,3,2,-1,-33.3,1,1,0,0\nD,3,4,1,33.3,0,0,1,1\n"
-    assert told.splitlines()[1] == "access: of 2 origins 1 lose, 1 gain; in all +0"
+    assert errors.splitlines()[1] == "access: of 2 origins 1 lose, 1 gain; in all +0"
 
 
 def test_winners_come_by_the_size_of_their_gain_too(town: Town) -> None:
@@ -57,8 +57,8 @@ def test_winners_come_by_the_size_of_their_gain_too(town: Town) -> None:
 def test_a_share_and_a_limit_are_chosen(town: Town) -> None:
     town.matrix(town_matrix(True, shares=(25, 50), limits=(900, 1800)))
     town.refused(f"{town.file}: it has lines of the shares 25, 50: name one by --share", "compare", town.file)
-    told = f"{town.file}: it has access within 900, 1800 seconds: name one by --within"
-    town.refused(told, "compare", "--by", "origin", "--share", "25", town.file)
+    message = f"{town.file}: it has access within 900, 1800 seconds: name one by --within"
+    town.refused(message, "compare", "--by", "origin", "--share", "25", town.file)
     rows = read(compared(town, "--by", "origin", "--share", "50", "--within", "900"))
     access = [(row["origin"], row["access_before"], row["access_after"]) for row in rows]
     assert access == [("A", "3", "2"), ("D", "2", "2")]
@@ -86,9 +86,9 @@ def test_a_matrix_that_ends_too_early_is_told(town: Town) -> None:
     lost = "1 of 2 origins of base aren't in cut: D"
     out = town.path("pairs.csv")
     town.refused(f"{town.file}: {lost} (--partial compares the others)", "compare", "--out", out, town.file)
-    made, told, status = town.ran("compare", "--partial", town.file)
-    assert (made, status) == (HEAD + "A,D,cut off,2400,,\nA,C,slower,900,1900,1000\n", 0)
-    assert told.splitlines()[0] == f"{lost}: left out"
+    table, errors, status = town.ran("compare", "--partial", town.file)
+    assert (table, status) == (HEAD + "A,D,cut off,2400,,\nA,C,slower,900,1900,1000\n", 0)
+    assert errors.splitlines()[0] == f"{lost}: left out"
     town.matrix(text[: text.index("cut,A")])
     town.refused(f"{town.file}: no scenario other than base; it has base", "compare", town.file)
 
@@ -124,6 +124,6 @@ def test_drawn_matrices_differ_as_plain_loops_say(town: Town) -> None:
         town.matrix(town_matrix(True, {"base": base, "cut": cut}, stops=stops))
         limit = draw.choice([0, 60, 1000])
         found = [(row, *change) for row, name in enumerate(stops) for change in plain(base[name], cut[name], limit)]
-        found.sort(key=lambda it: (ORDER.index(it[3]), -it[2], it[0], it[1]))
+        found.sort(key=lambda item: (ORDER.index(item[3]), -item[2], item[0], item[1]))
         expected = [f"s{a},s{b},{what},{one},{other},{change}" for a, b, _, what, one, other, change in found]
         assert compared(town, "--limit", str(limit)).splitlines()[1:] == expected

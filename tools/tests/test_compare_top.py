@@ -17,19 +17,19 @@ CUT: dict[str, list[Cell]] = {
 }
 
 
-def compared(town: Town, *words: str) -> list[dict[str, str]]:
+def compared(town: Town, *arguments: str) -> list[dict[str, str]]:
     town.matrix(town_matrix(True, {"base": BASE, "cut": CUT}))
-    out, _, status = town.ran("compare", *words, town.file)
+    out, _, status = town.ran("compare", *arguments, town.file)
     assert status == 0
     return read(out)
 
 
-def origins(town: Town, *words: str) -> str:
-    return "".join(row["origin"] for row in compared(town, "--by", "origin", *words))
+def origins(town: Town, *arguments: str) -> str:
+    return "".join(row["origin"] for row in compared(town, "--by", "origin", *arguments))
 
 
-def pairs(town: Town, *words: str) -> list[str]:
-    return [row["origin"] + row["destination"] for row in compared(town, *words)]
+def pairs(town: Town, *arguments: str) -> list[str]:
+    return [row["origin"] + row["destination"] for row in compared(town, *arguments)]
 
 
 def test_origins_by_loss_gain_and_percent(town: Town) -> None:
@@ -67,7 +67,7 @@ def test_an_origin_that_only_crossed_a_limit_is_told_by_its_access_alone(town: T
     assert origins(town, "--listed", "access") == "ACB"
     assert origins(town, "--listed", "access", "--least", "2") == "AB"
     assert origins(town, "--least", "2") == "ABD"
-    out, told, _ = town.ran("compare", "--by", "origin", "--least", "2", town.file)
+    out, errors, _ = town.ran("compare", "--by", "origin", "--least", "2", town.file)
     said = "access: of 4 origins 1 lose, 1 gain (by 2 or more); in all -1"
-    assert told.splitlines()[1] == said and "(by more than 60 seconds)" in told
+    assert errors.splitlines()[1] == said and "(by more than 60 seconds)" in errors
     assert town.ran("compare", "--least", "2", town.file)[2] == 2

@@ -19,37 +19,39 @@ def small(town: Town) -> Town:
     return town
 
 
-def access(town: Town, *words: str) -> list[float]:
+def access(town: Town, *arguments: str) -> list[float]:
     common = ["--opportunities", town.path("jobs.csv"), "--scenario", "base", town.file]
-    out, told, status = town.ran("access", *words, *common)
-    assert (told, status) == ("", 0)
+    out, errors, status = town.ran("access", *arguments, *common)
+    assert (errors, status) == ("", 0)
     return [float(row["accessibility"]) for row in read(out)]
 
 
 def test_a_floating_catchment_by_hand(small: Town) -> None:
-    words = ["--competition", "floating", "--demand", small.path("people.csv"), "--cutoffs", "30"]
+    arguments = ["--competition", "floating", "--demand", small.path("people.csv"), "--cutoffs", "30"]
     # 10 jobs for 300 people, 5 for 400
-    assert access(small, *words) == pytest.approx([10 / 300 + 5 / 400, 10 / 300 + 5 / 400, 5 / 400], abs=1e-6)
+    assert access(small, *arguments) == pytest.approx([10 / 300 + 5 / 400, 10 / 300 + 5 / 400, 5 / 400], abs=1e-6)
 
 
 def test_a_balanced_catchment_by_hand(small: Town) -> None:
-    words = ["--competition", "balanced", "--demand", small.path("people.csv"), "--cutoffs", "30"]
+    arguments = ["--competition", "balanced", "--demand", small.path("people.csv"), "--cutoffs", "30"]
     # half of the people of A and B ask for each: 150 for 10 jobs, 250 for 5, in two and in three parts
     both = 10 / 150 / 2 + 5 / 250 / 3
-    assert access(small, *words) == pytest.approx([both, both, 5 / 250 / 3], abs=1e-6)
+    assert access(small, *arguments) == pytest.approx([both, both, 5 / 250 / 3], abs=1e-6)
 
 
 def test_spatial_availability_shares_out_all_there_is(small: Town) -> None:
-    words = ["--competition", "availability", "--demand", small.path("people.csv"), "--cutoffs", "30"]
-    made = access(small, *words)
-    assert made == pytest.approx([100 * 11 / 240, 200 * 11 / 240, 1.25], abs=1e-5) and sum(made) == pytest.approx(15)
+    arguments = ["--competition", "availability", "--demand", small.path("people.csv"), "--cutoffs", "30"]
+    result = access(small, *arguments)
+    assert result == pytest.approx([100 * 11 / 240, 200 * 11 / 240, 1.25], abs=1e-5) and sum(result) == pytest.approx(
+        15
+    )
 
 
 def test_an_interval_is_the_mean_over_its_limits(small: Town) -> None:
     # B is 10 minutes from A, within all of 31 limits; C half an hour, within 16 of them
     assert access(small, "--interval", "15,45") == pytest.approx([10 + 5 * 16 / 31, 10 + 5 * 16 / 31, 5], abs=1e-6)
     each = [access(small, "--cutoffs", str(limit)) for limit in range(15, 46)]
-    assert access(small, "--interval", "15,45") == pytest.approx([sum(it) / 31 for it in zip(*each)], abs=1e-5)
+    assert access(small, "--interval", "15,45") == pytest.approx([sum(item) / 31 for item in zip(*each)], abs=1e-5)
     out = small.ran("access", "--interval", "15,45", "--opportunities", small.path("jobs.csv"), small.file)[0]
     assert out.splitlines()[1].split(",")[:5] == ["base", "A", "jobs", "50", "15-45"]
 
@@ -63,7 +65,7 @@ def test_a_second_past_a_minute_counts_from_the_next_limit_on(small: Town) -> No
 def test_what_does_not_go_together_is_told(small: Town) -> None:
     common = ["access", "--opportunities", small.path("jobs.csv")]
     demand = ["--demand", small.path("people.csv")]
-    for words in (
+    for arguments in (
         ["--competition", "floating"],
         demand,
         ["--interval", "15,45", "--nearest", "1"],
@@ -71,19 +73,19 @@ def test_what_does_not_go_together_is_told(small: Town) -> None:
         ["--interval", "15.5,45"],
         ["--interval", "15,45", "--decay", "linear", "--decay-value", "3"],
     ):
-        assert small.ran(*common, *words, small.file)[2] == 2
+        assert small.ran(*common, *arguments, small.file)[2] == 2
     two = small.write("two.csv", "stop_id,men,women", [["A", 1, 2]])
-    told = f"{two}: it has the columns men, women: name one by --demand-column"
-    small.refused(told, *common, "--competition", "floating", "--demand", two, small.file)
+    message = f"{two}: it has the columns men, women: name one by --demand-column"
+    small.refused(message, *common, "--competition", "floating", "--demand", two, small.file)
     small.write("people.csv", "stop_id,men,women", [["A", 1, 2], ["B", 1, 1]])
-    words = ["--competition", "floating", *demand, "--demand-column", "men"]
-    assert access(small, *words)[0] == pytest.approx(10 / 2 + 5 / 2)
+    arguments = ["--competition", "floating", *demand, "--demand-column", "men"]
+    assert access(small, *arguments)[0] == pytest.approx(10 / 2 + 5 / 2)
 
 
 def plain(kind: str, people: list[float], supply: list[float], weights: list[list[float]]) -> list[float]:
     """The formulas as they stand, by loops."""
     ends = [j for j in range(len(supply)) if supply[j] > 0]
-    made = []
+    result = []
     for i in range(len(people)):
         total = 0.0
         for j in ends:
@@ -94,8 +96,8 @@ def plain(kind: str, people: list[float], supply: list[float], weights: list[lis
             )
             sums = sum(weights[k][j] for k in range(len(people)) if people[k] > 0) if kind == "balanced" else 1.0
             total += supply[j] / demand * weights[i][j] / sums if demand and sums else 0.0
-        made.append(total * (people[i] if kind == "availability" else 1))
-    return made
+        result.append(total * (people[i] if kind == "availability" else 1))
+    return result
 
 
 @pytest.mark.parametrize("seed", range(6))
@@ -124,6 +126,6 @@ def test_drawn_matrices_as_plain_loops_say(town: Town, seed: int, monkeypatch: p
             for name in stops
         ]
         for kind in ("floating", "balanced", "availability"):
-            words = ["--competition", kind, "--demand", town.path("people.csv"), "--decay", decay]
-            found = access(town, *words, "--cutoffs", str(cutoff))
+            arguments = ["--competition", kind, "--demand", town.path("people.csv"), "--decay", decay]
+            found = access(town, *arguments, "--cutoffs", str(cutoff))
             assert found == pytest.approx(plain(kind, people, supply, weights), abs=2e-6)

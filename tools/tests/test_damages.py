@@ -87,17 +87,17 @@ def test_whatever_is_damaged_is_told_in_a_line(town: Town, seed: int) -> None:
     whole = {name: Path(town.path(name)).read_bytes() for name in inputs}
     statuses = set()
     for _ in range(25):
-        name, words = draw.choice(inputs), draw.choice(runs)
+        name, arguments = draw.choice(inputs), draw.choice(runs)
         Path(town.path(name)).write_bytes(damaged(draw, whole[name]))
         before = town.names()
-        _, told, status = town.ran(*words)
-        assert status in (0, 1), (words, told)
+        _, errors, status = town.ran(*arguments)
+        assert status in (0, 1), (arguments, errors)
         statuses.add(status)
         if status:
-            lines = [line for line in told.splitlines() if line.startswith(f"ttm-tools {words[0]}: ")]
-            assert len(lines) == 1 and town.names() == before, (words, told)
-        for made in town.names() - before:
-            path = town.folder / made
+            lines = [line for line in errors.splitlines() if line.startswith(f"ttm-tools {arguments[0]}: ")]
+            assert len(lines) == 1 and town.names() == before, (arguments, errors)
+        for result in town.names() - before:
+            path = town.folder / result
             path.rmdir() if path.is_dir() and not any(path.iterdir()) else path.unlink() if path.is_file() else None
         Path(town.path(name)).write_bytes(whole[name])
     assert statuses == {0, 1}

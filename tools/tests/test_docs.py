@@ -41,11 +41,11 @@ def is_broken(page: Path, link: str) -> bool:
     return not path.exists() or bool(anchor) and anchor not in anchors_of(path)
 
 
-@pytest.mark.parametrize("page", PAGES, ids=lambda it: str(it.relative_to(ROOT)))
+@pytest.mark.parametrize("page", PAGES, ids=lambda item: str(item.relative_to(ROOT)))
 class TestPage:
     def test_every_link_leads_to_a_file_and_a_heading(self, page: Path) -> None:
-        links = [it for it in LINK.findall(page.read_text()) if not re.match(r"\w+:", it)]
-        assert [it for it in links if is_broken(page, it)] == []
+        links = [match for match in LINK.findall(page.read_text()) if not re.match(r"\w+:", match)]
+        assert [link for link in links if is_broken(page, link)] == []
 
     def test_it_is_short(self, page: Path) -> None:
         if page.is_relative_to(DOCS) and page.name not in LONG:
@@ -61,18 +61,20 @@ def test_readme_has_at_most_a_hundred_lines() -> None:
 
 def test_the_index_lists_every_page() -> None:
     index = (DOCS / "README.md").read_text()
-    pages = [str(it.relative_to(DOCS)) for it in DOCS.rglob("*.md") if it != DOCS / "README.md"]
-    assert [it for it in pages if f"]({it})" not in index] == []
+    pages = [str(path.relative_to(DOCS)) for path in DOCS.rglob("*.md") if path != DOCS / "README.md"]
+    assert [page for page in pages if f"]({page})" not in index] == []
 
 
 def test_files_that_sources_and_pages_mention_exist() -> None:
-    files = [it for folder in SOURCES for it in (ROOT / folder).rglob("*") if it.is_file() and it.suffix in KINDS]
+    files = [
+        path for folder in SOURCES for path in (ROOT / folder).rglob("*") if path.is_file() and path.suffix in KINDS
+    ]
     mentions = {}
     for file in [*files, *PAGES]:
         parts = file.relative_to(ROOT).parts
         if "out" not in parts and "__pycache__" not in parts:
-            mentions.update({it: file for it in MENTION.findall(file.read_text(errors="replace"))})
-    assert {it: str(file) for it, file in mentions.items() if not (ROOT / it).exists()} == {}
+            mentions.update({match: file for match in MENTION.findall(file.read_text(errors="replace"))})
+    assert {item: str(file) for item, file in mentions.items() if not (ROOT / item).exists()} == {}
     assert len(mentions) > 10
 
 
@@ -81,11 +83,11 @@ def test_broken_links_and_private_words_are_found(tmp_path: Path) -> None:
     page.write_text("# A page\n\nIt is told, `told`, whence.\n\n    told\n\n## Its 2nd: `part`\n")
     assert PRIVATE.findall(prose_of(page)) == ["told", "whence"]
     assert anchors_of(page) == {"a-page", "its-2nd-part"}
-    assert [is_broken(page, it) for it in ("#a-page", "page.md#its-2nd-part", "#b", "other.md")] == [0, 0, 1, 1]
+    assert [is_broken(page, name) for name in ("#a-page", "page.md#its-2nd-part", "#b", "other.md")] == [0, 0, 1, 1]
 
 
 @pytest.mark.parametrize("name", ["README.md", "docs/tutorial.md"])
 def test_runs_that_beginners_copy_explain_what_they_refuse(name: str) -> None:
     text = re.sub(r"\\\n *", "", (ROOT / name).read_text())
     runs = re.findall(r"^ {4}(?:\$ )?(ttm --feed .*)$", text, re.MULTILINE)
-    assert runs and [it for it in runs if "--report" not in it] == []
+    assert runs and [run for run in runs if "--report" not in run] == []

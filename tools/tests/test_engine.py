@@ -22,7 +22,7 @@ def test_each_block_of_the_page_runs(room: Room, program: str, monkeypatch: pyte
         pytest.skip("docs/howto/python.md is missing")
     monkeypatch.setenv("TTM_PROGRAM", program)
     blocks = re.findall(r"^```python\n(.*?)^```$", PAGE.read_text(), re.MULTILINE | re.DOTALL)
-    assert len(blocks) == 10
+    assert len(blocks) == 8
     names: dict[str, object] = {}
     with standing_in(room.folder):
         for block in blocks:
@@ -30,9 +30,11 @@ def test_each_block_of_the_page_runs(room: Room, program: str, monkeypatch: pyte
 
 
 def test_the_words_of_a_run() -> None:
-    words = Run("feed", "20260504", ("08:00", "08:59"), shares=(25, 50), limits=(900,), scenarios=["cut.csv"]).words()
+    arguments = Run(
+        "feed", "20260504", ("08:00", "08:59"), shares=(25, 50), limits=(900,), scenarios=["cut.csv"]
+    ).arguments()
     expected = "--feed feed --date 20260504 --from 08:00 --to 08:59 --trips 4 --walk 600 --workers 1 --tries 1"
-    assert " ".join(words) == expected + " --share 25,50 --within 900 --back 1 --ahead 1 cut.csv"
+    assert " ".join(arguments) == expected + " --share 25,50 --within 900 --back 1 --ahead 1 cut.csv"
 
 
 @pytest.mark.parametrize(
@@ -52,7 +54,7 @@ def test_a_fault_line_names_file_and_record(line: str, file: str, record: int | 
 
 
 @pytest.mark.parametrize(
-    "told, option, column, value, allowed",
+    "message, option, column, value, allowed",
     [
         (
             'ttm: bad date\nttm: --date is "4.5.2026"; a date is YYYYMMDD',
@@ -69,32 +71,32 @@ def test_a_fault_line_names_file_and_record(line: str, file: str, record: int | 
     ],
 )
 def test_a_fault_has_what_the_report_explains(
-    told: str, option: str | None, column: str | None, value: str | None, allowed: str | None
+    message: str, option: str | None, column: str | None, value: str | None, allowed: str | None
 ) -> None:
-    fault = EngineFault(told, 2)
+    fault = EngineFault(message, 2)
     assert (fault.option, fault.column, fault.value, fault.allowed) == (option, column, value, allowed)
-    assert fault.line == told.splitlines()[0] and fault.explanation == told.splitlines()[1:]
+    assert fault.line == message.splitlines()[0] and fault.explanation == message.splitlines()[1:]
     assert value is None or str(fault).endswith(f"{column} {value!r} bad date; allowed: {allowed}")
 
 
 def test_a_refusal_says_the_option_its_value_and_what_is_allowed(program: str, room: Room) -> None:
-    with pytest.raises(EngineFault) as told:
+    with pytest.raises(EngineFault) as raised:
         ttm_tools.matrix(room.folder, "20260504", ("8:00", "08:00"), program=program)
     allowed = "a time of day is HH:MM, 00:00 to 23:59"
-    assert (told.value.option, told.value.value, told.value.allowed) == ("--from", "8:00", allowed)
-    assert str(told.value) == f"ttm: --from '8:00' bad window; allowed: {allowed}"
+    assert (raised.value.option, raised.value.value, raised.value.allowed) == ("--from", "8:00", allowed)
+    assert str(raised.value) == f"ttm: --from '8:00' bad window; allowed: {allowed}"
 
 
 @pytest.mark.parametrize("date", ["20260504", "2026-05-04", datetime.date(2026, 5, 4)])
 def test_dates_are_taken_as_people_write_them(date: str | datetime.date) -> None:
-    assert Run("feed", date, ("08:00", "08:59")).words()[3] == "20260504"
+    assert Run("feed", date, ("08:00", "08:59")).arguments()[3] == "20260504"
 
 
 def test_without_a_name_the_scenario_is_that_others_are_compared_with() -> None:
     numbers = {(name, 50): np.full((1, 1), place, np.float32) for place, name in enumerate(("base", "today", "tram"))}
-    made = Result(["base", "today", "tram"], [50], [1800], ["A"], ["A"], numbers, {}, 0)
-    assert made.array().tolist() == [[1]] and made.times().loc["A", "A"] == 1
-    assert made.array("base").tolist() == [[0]]
+    result = Result(["base", "today", "tram"], [50], [1800], ["A"], ["A"], numbers, {}, 0)
+    assert result.array().tolist() == [[1]] and result.times().loc["A", "A"] == 1
+    assert result.array("base").tolist() == [[0]]
 
 
 def test_all_public_names_are_found_by_tab() -> None:
@@ -106,16 +108,16 @@ def test_a_run_that_fails_leaves_no_matrix(room: Room) -> None:
     program = room.folder / "ttm"
     program.write_text("#!/bin/sh\necho half\necho 'ttm: stops.txt: missing file' >&2\nexit 2\n")
     program.chmod(program.stat().st_mode | stat.S_IXUSR)
-    with pytest.raises(EngineFault) as told:
+    with pytest.raises(EngineFault) as raised:
         run(Run("feed", "20260504", ("08:00", "08:00")), room.path("matrix.csv"), program)
-    assert (str(told.value), told.value.ended) == ("stops.txt: missing file", 2)
+    assert (str(raised.value), raised.value.ended) == ("stops.txt: missing file", 2)
     assert room.names() == {"ttm"}
 
 
 def test_a_program_that_is_not_there_is_told(room: Room) -> None:
-    with pytest.raises(Lacking) as told:
+    with pytest.raises(Lacking) as raised:
         program_at(room.path("nothing"))
-    assert str(told.value).startswith(f"no program ttm {room.path('nothing')}: ")
+    assert str(raised.value).startswith(f"no program ttm {room.path('nothing')}: ")
 
 
 def test_a_share_that_is_not_there_is_told(program: str, room: Room) -> None:
@@ -124,17 +126,17 @@ def test_a_share_that_is_not_there_is_told(program: str, room: Room) -> None:
     room.write("trips.txt", "route_id,service_id,trip_id", [])
     room.write("stop_times.txt", "trip_id,arrival_time,departure_time,stop_id,stop_sequence", [])
     room.write("calendar_dates.txt", "service_id,date,exception_type", [])
-    made = ttm_tools.matrix(room.folder, "20260504", ("08:00", "08:00"), shares=(25, 50), program=program)
+    result = ttm_tools.matrix(room.folder, "20260504", ("08:00", "08:00"), shares=(25, 50), program=program)
     with pytest.raises(WrongWords, match="it has base with 25, 50"):
-        made.times("cut", 50)
+        result.times("cut", 50)
     with pytest.raises(WrongWords, match="name one"):
-        made.array("base")
+        result.array("base")
 
 
 @pytest.mark.parametrize(
     "last, line", [("ttm: write fault", "ttm: write fault"), (None, "ttm: question 12: status 2, 15 bytes")]
 )
 def test_questions_that_were_answered_are_no_refusal(last: str | None, line: str) -> None:
-    told = ["ttm: stops: 3", "ttm: question 1: status 0, 26 bytes", "ttm: question: out of memory"]
-    told += ["ttm: question 12: status 2, 15 bytes", *([last] if last else [])]
-    assert refusal_of("\n".join(told).encode(), 5) == [line]
+    printed = ["ttm: stops: 3", "ttm: question 1: status 0, 26 bytes", "ttm: question: out of memory"]
+    printed += ["ttm: question 12: status 2, 15 bytes", *([last] if last else [])]
+    assert refusal_of("\n".join(printed).encode(), 5) == [line]

@@ -34,24 +34,24 @@ def small(town: Town) -> Town:
 
 def test_the_small_feed_by_hand(small: Town) -> None:
     """Of 400 people 300 lose a third, nobody gains, and Gini and Palma fall."""
-    words = ["equity", small.path("access.csv"), "--people", small.path("people.csv")]
-    out, told, status = small.ran(*words)
+    arguments = ["equity", small.path("access.csv"), "--people", small.path("people.csv")]
+    out, errors, status = small.ran(*arguments)
     # 1500 + 3000 + 500 of 400; 2 * (100 * 100 + 200 * 100) * 10 / (2 * 400 * 400 * 12.5); 15 / ((500 + 60 * 15) / 160)
     before = "jobs,50,30,residents,base,400,12.5,15,0,0.15,1.7143,5,0\n"
     # 1000 + 2000 + 500; 2 * 30000 * 5 / (2 * 400 * 400 * 8.75); 10 / ((500 + 60 * 10) / 160)
     after = "jobs,50,30,residents,cut,400,8.75,10,75,0.1071,1.4545,5,0\n"
-    assert (out, told, status) == (f"{HEAD},least_tenth_change\n{before}{after}", "", 0)
-    assert [row["losers_percent"] for row in read(small.ran(*words, "--lose", "34")[0])] == ["0", "0"]
-    assert [row["losers_percent"] for row in read(small.ran(*words, "--base", "cut")[0])] == ["0", "0"]
-    made = small.ran(*words, "--form", "markdown")[0].splitlines()
-    assert made[0].startswith("| opportunity | percentile |") and made[0].endswith("| least tenth change |")
-    assert made[3] == "| jobs | 50 | 30 | residents | cut | 400 | 8.75 | 10 | 75 | 0.1071 | 1.4545 | 5 | 0 |"
+    assert (out, errors, status) == (f"{HEAD},least_tenth_change\n{before}{after}", "", 0)
+    assert [row["losers_percent"] for row in read(small.ran(*arguments, "--lose", "34")[0])] == ["0", "0"]
+    assert [row["losers_percent"] for row in read(small.ran(*arguments, "--base", "cut")[0])] == ["0", "0"]
+    result = small.ran(*arguments, "--form", "markdown")[0].splitlines()
+    assert result[0].startswith("| opportunity | percentile |") and result[0].endswith("| least tenth change |")
+    assert result[3] == "| jobs | 50 | 30 | residents | cut | 400 | 8.75 | 10 | 75 | 0.1071 | 1.4545 | 5 | 0 |"
 
 
 def test_the_least_tenth_ends_among_people_of_the_same_access() -> None:
     """Of 40 people 4 are the least tenth: a quarter of those at two points, of which one loses all."""
-    made = equity(numbers([5, 5, 8]), numbers([0, 5, 8]), numbers([12, 4, 24]), 10)
-    assert (made.least_tenth, made.least_tenth_change, made.losers) == (0, -5 * 3 / 4, 30)
+    result = equity(numbers([5, 5, 8]), numbers([0, 5, 8]), numbers([12, 4, 24]), 10)
+    assert (result.least_tenth, result.least_tenth_change, result.losers_percent) == (0, -5 * 3 / 4, 30)
 
 
 def numbers(values: Sequence[float]) -> Floats:
@@ -60,19 +60,19 @@ def numbers(values: Sequence[float]) -> Floats:
 
 def test_groups_and_kinds_are_chosen(small: Town) -> None:
     people = small.write("people.csv", "id,all,without_car", [["A", 10, 0], ["B", 10, 2.5], ["C", 20, 7.5]])
-    words = ["--people", people]
+    arguments = ["--people", people]
     access = small.path("access.csv")
-    rows = read(small.ran("equity", access, *words)[0])
+    rows = read(small.ran("equity", access, *arguments)[0])
     assert [(row["group"], row["scenario"], row["mean"]) for row in rows] == [
         ("all", "base", "10"),
         ("all", "cut", "7.5"),
         ("without_car", "base", "7.5"),
         ("without_car", "cut", "6.25"),
     ]
-    rows = read(small.ran("equity", access, *words, "--column", "all", "--percentile", "50", "--cutoff", "30.0")[0])
+    rows = read(small.ran("equity", access, *arguments, "--column", "all", "--percentile", "50", "--cutoff", "30.0")[0])
     assert [row["group"] for row in rows] == ["all", "all"]
-    told = f"{access}: nothing of the kind; it has jobs within 30 minutes, share 50 %"
-    small.refused(told, "equity", access, *words, "--opportunity", "parks")
+    message = f"{access}: nothing of the kind; it has jobs within 30 minutes, share 50 %"
+    small.refused(message, "equity", access, *arguments, "--opportunity", "parks")
 
 
 def test_a_table_of_r5r_is_taken(room: Room) -> None:
@@ -109,13 +109,13 @@ def test_wrong_tables_are_told(small: Town) -> None:
 
 def test_the_picture_is_drawn_of_one_kind_and_group(small: Town) -> None:
     pytest.importorskip("matplotlib")
-    access, made = small.path("access.csv"), small.path("equity.png")
-    words = ["equity", access, "--people", small.path("people.csv"), "--picture", made]
-    assert small.ran(*words)[1:] == ("", 0)
-    assert Path(made).read_bytes().startswith(b"\x89PNG")
+    access, result = small.path("access.csv"), small.path("equity.png")
+    arguments = ["equity", access, "--people", small.path("people.csv"), "--picture", result]
+    assert small.ran(*arguments)[1:] == ("", 0)
+    assert Path(result).read_bytes().startswith(b"\x89PNG")
     people = small.write("people.csv", "id,all,some", [["A", 10, 1]])
-    told = f"{access}: a picture shows one group of all, some: name it by --column"
-    small.refused(told, "equity", access, "--people", people, "--picture", made)
+    message = f"{access}: a picture shows one group of all, some: name it by --column"
+    small.refused(message, "equity", access, "--people", people, "--picture", result)
 
 
 def plain(base: list[float], access: list[float], count: list[int], percent: float) -> Equity:
@@ -150,11 +150,11 @@ def test_drawn_towns_measure_as_plain_formulas_say() -> None:
         count = [draw.randrange(0, 9) for _ in range(points)]
         count[0] += 10 - sum(count) % 10
         percent = draw.choice([0, 10, 50, 100])
-        made = equity(numbers(base), numbers(access), numbers([float(n) for n in count]), percent)
-        assert astuple(made) == pytest.approx(astuple(plain(base, access, count, percent)), nan_ok=True, abs=1e-9)
+        result = equity(numbers(base), numbers(access), numbers([float(n) for n in count]), percent)
+        assert astuple(result) == pytest.approx(astuple(plain(base, access, count, percent)), nan_ok=True, abs=1e-9)
 
 
 def test_tenths_of_the_people_change_by_hand() -> None:
     """Ten people at each of two points: the five tenths with less access gain 1, the others lose 4."""
-    made = changes_by_tenth(numbers([3, 9]), numbers([4, 5]), numbers([10, 10]))
-    assert made.tolist() == pytest.approx([1] * 5 + [-4] * 5)
+    result = changes_by_tenth(numbers([3, 9]), numbers([4, 5]), numbers([10, 10]))
+    assert result.tolist() == pytest.approx([1] * 5 + [-4] * 5)

@@ -14,7 +14,7 @@ import pytest
 from helpers import CALENDAR, STOP_TIMES, Room
 from test_damages import damaged
 from ttm_tools.gtfs.stops import read_stops
-from ttm_tools.measures.journeys import Leg, Search, cell, durations, journey, network_of
+from ttm_tools.measures.journeys import NEVER, Leg, Schedule, Search, cell, durations, journey
 from ttm_tools.gtfs.footpaths import read_walks
 from ttm_tools.gtfs.timetable import read_edits, read_timetable, runs_of
 from ttm_tools.views.itineraries import parts_of
@@ -42,9 +42,9 @@ def small(room: Room) -> Room:
     return room
 
 
-def explained(room: Room, program: str, *words: str) -> list[str]:
-    out, told, status = room.ran("explain", *words, "--program", program)
-    assert (told, status) == ("", 0)
+def explained(room: Room, program: str, *arguments: str) -> list[str]:
+    out, errors, status = room.ran("explain", *arguments, "--program", program)
+    assert (errors, status) == ("", 0)
     return out.splitlines()
 
 
@@ -77,8 +77,8 @@ def test_the_small_feed_by_hand(small: Room, program: str) -> None:
 
 
 def test_a_walk_at_the_end_and_what_is_not_reached(small: Room, program: str) -> None:
-    words = [*WORDS[:3], "D", *WORDS[4:], "--footpaths", small.path("walks.csv")]
-    lines = explained(small, program, str(small.folder), small.path("cut.csv"), *words)
+    arguments = [*WORDS[:3], "D", *WORDS[4:], "--footpaths", small.path("walks.csv")]
+    lines = explained(small, program, str(small.folder), small.path("cut.csv"), *arguments)
     assert [line.split("   ")[0].rstrip() for line in lines[13:18]] == [
         "  ride 15:00",
         "08:30:00 C",
@@ -96,8 +96,8 @@ PAIR_WORDS = WORDS[4:]
 
 def test_many_pairs_make_a_table_of_parts(small: Room, program: str) -> None:
     pairs = small.write("pairs.csv", "origin,destination", [["A", "C"], ["C", "D"], ["A", "D"], ["A", "C"]])
-    words = [small.path("late.csv"), *PAIR_WORDS, "--footpaths", small.path("walks.csv"), "--pairs", pairs]
-    assert explained(small, program, str(small.folder), *words) == [
+    arguments = [small.path("late.csv"), *PAIR_WORDS, "--footpaths", small.path("walks.csv"), "--pairs", pairs]
+    assert explained(small, program, str(small.folder), *arguments) == [
         f"{HEAD},change_seconds,walk_seconds,egress_seconds,rides,routes,trips",
         # waits of 1 minute at A and 2 (7 where T2 is later) at B, rides of 10 and 15 minutes, a change of 3
         "base,A,C,50,1860,07:59:00,0,180,1500,180,0,0,2,R1 R2,T1 T2",
@@ -124,21 +124,21 @@ def test_walks_between_rides_are_apart_from_those_at_the_ends() -> None:
         Leg(3, 4, 600, 700, 4, 30),
         Leg(4, 5, 700, 707, None, 0),
     ]
-    made = parts_of(legs, 100)
-    assert (made.access, made.wait, made.ride, made.change, made.walk, made.egress) == (60, 80, 400, 30, 30, 7)
-    assert sum(vars(made).values()) == 607
+    parts = parts_of(legs, 100)
+    assert (parts.access, parts.wait, parts.ride, parts.change, parts.walk, parts.egress) == (60, 80, 400, 30, 30, 7)
+    assert sum(vars(parts).values()) == 607
 
 
 def test_pairs_go_with_no_ends(small: Room) -> None:
     pairs, none = small.write("pairs.csv", "origin,destination", [["A", "C"]]), small.write(
         "no.csv", "origin,destination", []
     )
-    words = ["explain", str(small.folder), *PAIR_WORDS]
+    arguments = ["explain", str(small.folder), *PAIR_WORDS]
     both, picture = ["--pairs", pairs, "--origin", "A"], ["--pairs", pairs, "--picture", "x.png"]
     wrongs: list[list[str]] = [[], ["--origin", "A"], both, picture]
     for wrong in wrongs:
-        assert small.ran(*words, *wrong)[2] == 2
-    small.refused(f"{none}: no pairs", *words, "--pairs", none)
+        assert small.ran(*arguments, *wrong)[2] == 2
+    small.refused(f"{none}: no pairs", *arguments, "--pairs", none)
 
 
 def test_the_numbers_of_both_are_told_where_they_differ(small: Room) -> None:
@@ -146,19 +146,19 @@ def test_the_numbers_of_both_are_told_where_they_differ(small: Room) -> None:
     matrix = "scenario,origin,share,access_1800,A,B,C,D\nbase,A,50,3,0,600,1800,\n"
     program.write_text(f"#!/bin/sh\ncat << END\n{matrix}END\n")
     program.chmod(program.stat().st_mode | stat.S_IXUSR)
-    words = ["explain", str(small.folder), *WORDS, "--program", str(program)]
-    told = "the travel times differ: from A to C, base: ttm has 1800 seconds, and this search, which isn't proved, "
-    small.refused(told + "1860 seconds", *words)
+    arguments = ["explain", str(small.folder), *WORDS, "--program", str(program)]
+    message = "the travel times differ: from A to C, base: ttm has 1800 seconds, and this search, which isn't proved, "
+    small.refused(message + "1860 seconds", *arguments)
 
 
 def test_a_cell_of_a_matrix_is_taken_in_place_of_a_run(small: Room) -> None:
     matrix = small.write(
         "matrix.csv", "scenario,origin,share,access_1800,A,B,C,D", [["base", "A", 50, 2, 0, 600, 1860, ""]]
     )
-    words = ["explain", str(small.folder), *WORDS, "--within", "1800", "--workers", "4", "--matrix", matrix]
-    out, told, status = small.ran(*words)
-    assert (told, status) == ("", 0) and out.splitlines()[4] == "base: 1860 seconds"
-    small.refused(f"{matrix}: no scenario late; it has base", *words[:2], small.path("late.csv"), *words[2:])
+    arguments = ["explain", str(small.folder), *WORDS, "--within", "1800", "--workers", "4", "--matrix", matrix]
+    out, errors, status = small.ran(*arguments)
+    assert (errors, status) == ("", 0) and out.splitlines()[4] == "base: 1860 seconds"
+    small.refused(f"{matrix}: no scenario late; it has base", *arguments[:2], small.path("late.csv"), *arguments[2:])
 
 
 def test_a_picture_shows_the_duration_of_each_departure(small: Room, monkeypatch: pytest.MonkeyPatch) -> None:
@@ -168,41 +168,41 @@ def test_a_picture_shows_the_duration_of_each_departure(small: Room, monkeypatch
     monkeypatch.setattr(matplotlib.Figure, "savefig", lambda figure, *_, **__: figures.append(figure))
     rows = [["base", "A", 50, 0, 0, 600, 1860, ""], ["late", "A", 50, 0, 0, 600, 2160, ""]]
     matrix = small.write("m.csv", "scenario,origin,share,access_60,A,B,C,D", rows)
-    words = ["--matrix", matrix, "--picture", small.path("p.png"), "--out", small.path("why.txt")]
-    assert small.ran("explain", str(small.folder), small.path("late.csv"), *WORDS, *words) == ("", "", 0)
+    arguments = ["--matrix", matrix, "--picture", small.path("p.png"), "--out", small.path("why.txt")]
+    assert small.ran("explain", str(small.folder), small.path("late.csv"), *WORDS, *arguments) == ("", "", 0)
     (axes,) = figures[0].axes
     base, late = (line for line in axes.lines if len(line.get_ydata()) == 4)
     assert base.get_ydata()[:3].tolist() == [32, 31, 30] and late.get_ydata()[:3].tolist() == [37, 36, 35]
     assert np.isnan(base.get_ydata()[3])
-    told = [text.get_text() for text in axes.get_legend().get_texts()]
-    assert told == ["base: 50 % attain 31.0 minutes", "late: 50 % attain 36.0 minutes"]
+    printed = [text.get_text() for text in axes.get_legend().get_texts()]
+    assert printed == ["base: 50 % attain 31.0 minutes", "late: 50 % attain 36.0 minutes"]
     assert [text.get_text() for text in axes.get_xticklabels()] == ["07:58", "07:59", "08:00", "08:01"]
 
 
 def test_wrong_words_are_told(small: Room) -> None:
-    words = ["explain", str(small.folder), *WORDS]
-    told = f"{small.path('stops.txt')}: no stop X at which vehicles call"
-    small.refused(told, *words, "--origin", "X")
+    arguments = ["explain", str(small.folder), *WORDS]
+    message = f"{small.path('stops.txt')}: no stop X at which vehicles call"
+    small.refused(message, *arguments, "--origin", "X")
     for more in (["--from", "08:02"], ["--date", "20260230"], ["--to", "24:00"], ["--trips", "9"]):
-        out, line, status = small.ran(*words, *more)
+        out, line, status = small.ran(*arguments, *more)
         assert (out, status) == ("", 2) and line.splitlines()[-1].startswith("ttm-tools explain: "), more
 
 
-def asked_of(plain: Any, words: list[str]) -> argparse.Namespace:
-    made = plain.options(words)
-    assert isinstance(made, argparse.Namespace)
-    return made
+def asked_of(plain: Any, arguments: list[str]) -> argparse.Namespace:
+    args = plain.options(arguments)
+    assert isinstance(args, argparse.Namespace)
+    return args
 
 
 class Second:
     """The other program's feed, walks and runs of the words of a drawn feed."""
 
-    def __init__(self, plain: Any, asked: argparse.Namespace, scenario: str | None) -> None:
-        self.feed = plain.Feed(asked.feed)
-        direct = self.feed.direct_footpaths(asked.footpaths)
-        self.feet = plain.closed_footpaths(len(self.feed.stops), direct, asked.walk)
+    def __init__(self, plain: Any, args: argparse.Namespace, scenario: str | None) -> None:
+        self.feed = plain.Feed(args.feed)
+        direct = self.feed.direct_footpaths(args.footpaths)
+        self.feet = plain.closed_footpaths(len(self.feed.stops), direct, args.walk)
         self.changes = self.feed.change_times()
-        self.runs = plain.network(self.feed, asked, scenario)
+        self.runs = plain.network(self.feed, args, scenario)
 
     def rides(self, leg: Leg) -> bool:
         """Whether some run has this ride."""
@@ -244,29 +244,30 @@ def others() -> tuple[Any, Any]:
     return importlib.import_module("plain"), importlib.import_module("random_feeds")
 
 
-def compare(room: Room, plain: Any, words: list[str]) -> int:
+def compare(room: Room, plain: Any, arguments: list[str]) -> int:
     """Durations between all stops are those of the other program, and journeys last so long; gives how many changes
     they have.
     """
-    asked, changed = asked_of(plain, words), 0
+    args, changed = asked_of(plain, arguments), 0
     timetable = read_timetable(read_stops(str(room.folder)))
-    walks, changes = read_walks(timetable, asked.footpaths, asked.walk)
-    departures = asked.departures[:: max(1, len(asked.departures) // 4)]
+    walks, changes = read_walks(timetable, args.footpaths, args.walk)
+    departures = args.departures[:: max(1, len(args.departures) // 4)]
     count = range(len(timetable.stops))
-    for scenario in [None, *asked.scenario]:
-        second = Second(plain, asked, scenario)
-        runs = runs_of(timetable, asked.date, (asked.back, asked.ahead), read_edits(scenario))
-        network = network_of(timetable.events, runs, walks, changes, departures[0])
+    for scenario in [None, *args.scenario]:
+        second = Second(plain, args, scenario)
+        runs = runs_of(timetable, args.date, (args.back, args.ahead), read_edits(scenario))
+        schedule = Schedule(timetable.events, runs, walks, changes, departures[0])
+        network = schedule.within(departures[0], NEVER)
         for origin in count:
             ways = (second.runs, second.feet, second.changes, origin)
-            table = [plain.durations(*ways, departure, asked.trips) for departure in departures]
+            table = [plain.durations(*ways, departure, args.trips) for departure in departures]
             for stop in count:
-                found = durations(network, origin, stop, departures, asked.trips)
+                found = durations(schedule, origin, stop, departures, args.trips)
                 assert found == [times[stop] for times in table]
                 for departure, time in zip(departures, found):
-                    legs = journey(Search(network, origin, departure, asked.trips), stop)
+                    legs = journey(Search(network, origin, departure, args.trips), stop)
                     changed += sum(leg.change > 0 for leg in legs)
-                    assert sum(leg.run is not None for leg in legs) <= asked.trips
+                    assert sum(leg.run is not None for leg in legs) <= args.trips
                     if time is not None:
                         assert second.end_of(legs, origin, departure) == (stop, departure + time)
     return changed
@@ -289,13 +290,15 @@ def clock(seconds: int) -> str:
 def draw_town(room: Room, draw: random.Random) -> list[str]:
     """A town where much runs and most change: its files, and words of a run."""
     stops = [f"S{number}" for number in range(7)]
-    room.write("stops.txt", "stop_id,location_type,parent_station", [["G", 1, ""], *[[it, "", ""] for it in stops[:5]]])
+    room.write(
+        "stops.txt", "stop_id,location_type,parent_station", [["G", 1, ""], *[[stop, "", ""] for stop in stops[:5]]]
+    )
     with open(room.path("stops.txt"), "a") as file:
         file.write("S5,0,G\nS6,0,G\n")
     room.write("routes.txt", "route_id", [["R0"], ["R1"]])
     room.write("calendar.txt", *CALENDAR)
     trips = [f"T{number}" for number in range(24)]
-    room.write("trips.txt", "route_id,service_id,trip_id", [[draw.choice(["R0", "R1"]), "M", it] for it in trips])
+    room.write("trips.txt", "route_id,service_id,trip_id", [[draw.choice(["R0", "R1"]), "M", trip] for trip in trips])
     calls = []
     for trip in trips:
         time = 8 * 3600 + 60 * draw.randrange(30)
@@ -306,7 +309,7 @@ def draw_town(room: Room, draw: random.Random) -> list[str]:
     room.write("stop_times.txt", f"{STOP_TIMES},pickup_type,drop_off_type", calls)
     headways = [[trip, "8:05:00", "8:40:00", draw.choice([300, 433])] for trip in draw.sample(trips, 3)]
     room.write("frequencies.txt", "trip_id,start_time,end_time,headway_secs", headways)
-    changes = [[it, it, 2, draw.choice([60, 120, 300])] for it in [*stops[:4], "G"]]
+    changes = [[item, item, 2, draw.choice([60, 120, 300])] for item in [*stops[:4], "G"]]
     room.write("transfers.txt", "from_stop_id,to_stop_id,transfer_type,min_transfer_time", changes)
     walks = [[*draw.sample(stops, 2), draw.choice([30, 100, 200])] for _ in range(5)]
     path = room.write("walks.csv", "from_stop_id,to_stop_id,seconds", walks)
@@ -333,14 +336,14 @@ def test_whatever_is_damaged_is_told_in_a_line(small: Room, program: str, seed: 
     draw = random.Random(seed)
     small.write("frequencies.txt", "trip_id,start_time,end_time,headway_secs", [["T1", "08:00:00", "08:01:00", 30]])
     names = [path.name for path in small.folder.iterdir() if path.suffix in (".txt", ".csv")]
-    words = ["explain", str(small.folder), small.path("cut.csv"), small.path("late.csv"), *WORDS]
-    words += ["--footpaths", small.path("walks.csv"), "--program", program]
+    arguments = ["explain", str(small.folder), small.path("cut.csv"), small.path("late.csv"), *WORDS]
+    arguments += ["--footpaths", small.path("walks.csv"), "--program", program]
     for _ in range(15):
         path = small.folder / draw.choice(names)
         whole = path.read_bytes()
         path.write_bytes(damaged(draw, whole))
-        _, told, status = small.ran(*words)
-        assert (status, len(told.splitlines())) in ((0, 0), (1, 1)), (path, path.read_bytes(), told)
+        _, errors, status = small.ran(*arguments)
+        assert (status, len(errors.splitlines())) in ((0, 0), (1, 1)), (path, path.read_bytes(), errors)
         path.write_bytes(whole)
 
 
@@ -349,9 +352,9 @@ def test_drawn_feeds_are_explained_as_ttm_counts(room: Room, program: str) -> No
     for seed in range(100, 112):
         drawn = random_feeds.Drawn(seed)
         drawn.put_into(room.folder)
-        words = drawn.words(room.folder)
-        kept = [words.index(f"--{name}") for name in ("date", "from", "to", "trips", "walk")]
-        some = [word for place in kept for word in words[place : place + 2]]
+        arguments = drawn.words(room.folder)
+        kept = [arguments.index(f"--{name}") for name in ("date", "from", "to", "trips", "walk")]
+        some = [word for place in kept for word in arguments[place : place + 2]]
         ends = ["--origin", drawn.stops[0], "--destination", drawn.stops[-1]]
         files = [str(room.folder), room.path("cut.csv"), room.path("late.csv")]
         lines = explained(room, program, *files, *ends, *some, "--footpaths", room.path("footpaths.csv"))

@@ -3,7 +3,6 @@
 import os
 import subprocess
 import sys
-import time
 from pathlib import Path
 from typing import Iterator
 
@@ -11,7 +10,7 @@ import pytest
 
 from browser import Browser
 from exploring import Explored, explored, village
-from helpers import LAUNCHER
+from helpers import LAUNCHER, wait_until
 
 pytestmark = [pytest.mark.program, pytest.mark.xdist_group("browser")]
 pytest.importorskip("flask")
@@ -30,9 +29,9 @@ route = "Q"
 
 @pytest.fixture(scope="module")
 def browser() -> Iterator[Browser]:
-    made = Browser()
-    yield made
-    made.close()
+    driver = Browser()
+    yield driver
+    driver.close()
 
 
 @pytest.fixture(scope="module")
@@ -52,9 +51,9 @@ def room(tmp_path_factory: pytest.TempPathFactory) -> Path:
 @pytest.fixture(scope="module")
 def server(program: str, room: Path) -> Iterator[Explored]:
     """A server for all tests of this file."""
-    words = ["--opportunities", str(room / "jobs.csv"), "--out", str(room / "saved"), "--to", "08:09"]
-    with explored(village(room), program, *words) as made:
-        yield made
+    arguments = ["--opportunities", str(room / "jobs.csv"), "--out", str(room / "saved"), "--to", "08:09"]
+    with explored(village(room), program, *arguments) as started:
+        yield started
 
 
 @pytest.fixture
@@ -111,17 +110,17 @@ def test_a_click_shows_travel_times_access_and_the_curve(served: Explored, brows
 def test_sliders_ask_again_or_do_not(served: Explored, browser: Browser) -> None:
     slide(browser, "last", 480)
     browser.click("A")
-    asked = browser.run("return live.turn")
+    turn = browser.run("return live.turn")
     slide(browser, "percentile", 4)
     slide(browser, "minutes", 25)
     slide(browser, "step", 15)
-    assert browser.run("return live.turn") == asked  # all percentiles came with the answer
+    assert browser.run("return live.turn") == turn  # all percentiles came with the answer
     assert browser.key() == {"up to 15 min": "3", "16 to 30 min": "1"}
     slide(browser, "first", 481)  # the last departure goes with it: at 08:01 one waits nine minutes
     assert (browser.text("last-told"), minutes(browser)["B"]) == ("08:01", 14)
     slide(browser, "trips", 1)
     assert minutes(browser)["D"] == 255
-    assert browser.run("return live.turn") > asked
+    assert browser.run("return live.turn") > turn
 
 
 def test_percentiles_by_hand(served: Explored, browser: Browser) -> None:
@@ -139,7 +138,7 @@ def test_areas_are_drawn_around_what_is_reached(served: Explored, browser: Brows
     before = browser.colour("A", right=20)
     browser.press("#areas")
     assert browser.colour("A", right=20) != before
-    assert "areas=1" in browser.run("return location.hash")
+    assert "areas=1" in browser.address()
 
 
 def test_a_journey_leg_by_leg_and_its_saw_tooth(served: Explored, browser: Browser) -> None:
@@ -164,11 +163,7 @@ def test_a_journey_leg_by_leg_and_its_saw_tooth(served: Explored, browser: Brows
 
 
 def wait_for(browser: Browser, script: str) -> None:
-    for _ in range(200):
-        if browser.run(script):
-            return
-        time.sleep(0.05)
-    raise AssertionError(script)
+    wait_until(lambda: bool(browser.run(script)))
 
 
 def test_a_route_is_taken_out_undone_and_redone_by_clicks(served: Explored, browser: Browser) -> None:
@@ -317,13 +312,13 @@ def test_an_address_holds_the_view_with_its_changes(served: Explored, browser: B
     slide(browser, "step", 15)
     browser.click("A")
     browser.awaited("await routes.read_; await routes.add({ do: 'remove_route', route: 1 });")
-    words = browser.run("return location.hash.slice(1)")
-    shown, told = minutes(browser), browser.text("told")
+    arguments = browser.address()
+    shown, printed = minutes(browser), browser.text("told")
     browser.press("#undo")
     changed(browser)
-    browser.visit(served.address, words)
+    browser.visit(served.address, arguments)
     changed(browser)
-    assert (minutes(browser), browser.text("told"), browser.text("changes")) == (shown, told, "take out route 2 (Q)")
+    assert (minutes(browser), browser.text("told"), browser.text("changes")) == (shown, printed, "take out route 2 (Q)")
     assert browser.run("return [live.last, live.trips, sliders.step]") == ["08:05", 3, 15]
 
 

@@ -60,17 +60,17 @@ return [it.id || it.value || it.textContent || it.className, style.outlineStyle,
 
 @pytest.fixture(scope="module")
 def browser() -> Iterator[Browser]:
-    made = Browser()
-    yield made
-    made.close()
+    driver = Browser()
+    yield driver
+    driver.close()
 
 
 @pytest.fixture(scope="module")
 def served(tmp_path_factory: pytest.TempPathFactory) -> Iterator[Explored]:
     folder = tmp_path_factory.mktemp("looks")
     jobs = ["--opportunities", str(folder / "jobs.csv"), "--out", str(folder / "saved")]
-    with explored(village(folder), canned(folder), *jobs) as made:
-        yield made
+    with explored(village(folder), canned(folder), *jobs) as started:
+        yield started
 
 
 def unfold(browser: Browser, served: Explored) -> None:
@@ -95,7 +95,7 @@ def test_texts_stand_out_from_what_is_behind_them(served: Explored, browser: Bro
     assert browser.text("fault") != ""
     found = contrasts(browser)
     assert len(found) > 60
-    assert [it for it in found if it[1] < (LEAST_LARGE if it[2] else LEAST)] == []
+    assert [item for item in found if item[1] < (LEAST_LARGE if item[2] else LEAST)] == []
 
 
 def test_faint_texts_are_found(served: Explored, browser: Browser) -> None:

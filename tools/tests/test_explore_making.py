@@ -20,21 +20,21 @@ pytest.importorskip("flask")
 pytest.importorskip("jinja2")
 pytest.importorskip("pandas")
 
-from ttm_tools.explore.making import made  # noqa: E402
-from ttm_tools.explore.wish import Wish  # noqa: E402
+from ttm_tools.explore.making import with_generated  # noqa: E402
+from ttm_tools.explore.options import ExploreOptions  # noqa: E402
 from ttm_tools.faults import WrongWords  # noqa: E402
 
 
 @pytest.fixture(scope="module")
 def browser() -> Iterator[Browser]:
-    made = Browser()
-    yield made
-    made.close()
+    driver = Browser()
+    yield driver
+    driver.close()
 
 
-def wish_for(folder: Path, walk: int = 600) -> Wish:
+def options_for(folder: Path, walk: int = 600) -> ExploreOptions:
     feed, day = str(village(folder)), datetime.date(2026, 5, 4)
-    return Wish(feed, day, ("08:00", "08:00"), str(folder / "saved"), walk=walk)
+    return ExploreOptions(feed, day, ("08:00", "08:00"), str(folder / "saved"), walk=walk)
 
 
 def write_streets(folder: Path) -> str:
@@ -55,10 +55,10 @@ def rows_of(path: str | None) -> list[dict[str, str]]:
 
 def test_cells_lie_wherever_one_walks_to_a_stop(tmp_path: Path) -> None:
     """In ten minutes one walks 798 metres, 613 as the crow flies: so far is the middle of each cell from a stop."""
-    wish, sentences = made(replace(wish_for(tmp_path), grid=400.0), tmp_path)
-    cells = rows_of(f"{wish.feed}/points.csv")
-    assert sentences[0] == f"{len(cells)} cells of 400 metres" and (wish.name, wish.most_walk) == ("village", 600)
-    seconds = {(row["from_stop_id"], row["to_stop_id"]): int(row["seconds"]) for row in rows_of(wish.footpaths)}
+    options, sentences = with_generated(replace(options_for(tmp_path), grid=400.0), tmp_path)
+    cells = rows_of(f"{options.feed}/points.csv")
+    assert sentences[0] == f"{len(cells)} cells of 400 metres" and (options.name, options.most_walk) == ("village", 600)
+    seconds = {(row["from_stop_id"], row["to_stop_id"]): int(row["seconds"]) for row in rows_of(options.footpaths)}
     for cell in cells:
         away = [((float(cell["lat"]) - 47.0) / METRE, (float(cell["lon"]) - east) / METRE * 0.682) for east in (8.0,)]
         metres = (away[0][0] ** 2 + away[0][1] ** 2) ** 0.5
@@ -74,26 +74,26 @@ def test_walks_go_along_streets(tmp_path: Path) -> None:
     stop = f"E,Epsilon,{47.0 + 500 * METRE},{8.0 + 400 * METRE / 0.682}\n"
     (feed / "stops.txt").write_text((feed / "stops.txt").read_text() + stop)
     day, streets = datetime.date(2026, 5, 4), write_streets(tmp_path)
-    asked = Wish(str(feed), day, ("08:00", "08:00"), "saved", walk=700, streets=streets)
-    wish, sentences = made(asked, tmp_path)
-    walks = [list(row.values()) for row in rows_of(wish.footpaths)]
+    given = ExploreOptions(str(feed), day, ("08:00", "08:00"), "saved", walk=700, streets=streets)
+    options, sentences = with_generated(given, tmp_path)
+    walks = [list(row.values()) for row in rows_of(options.footpaths)]
     assert [row[:2] for row in walks] == [["A", "E"], ["E", "A"]]
     assert all(abs(int(row[2]) - 677) <= 1 for row in walks)
-    assert wish.feed == str(feed) and sentences[0].startswith("2 walks; ")
+    assert options.feed == str(feed) and sentences[0].startswith("2 walks; ")
 
 
 def test_walks_that_are_named_and_made_are_refused(tmp_path: Path) -> None:
-    wish = replace(wish_for(tmp_path), footpaths="walks.csv", grid=400.0)
+    options = replace(options_for(tmp_path), footpaths="walks.csv", grid=400.0)
     with pytest.raises(WrongWords, match="--footpaths"):
-        made(wish, tmp_path)
-    for words in (["--grid", "5"], ["--grid", "x"]):
-        ran = launched("explore", str(tmp_path / "village"), "--date", "20260504", *words)
+        with_generated(options, tmp_path)
+    for arguments in (["--grid", "5"], ["--grid", "x"]):
+        ran = launched("explore", str(tmp_path / "village"), "--date", "20260504", *arguments)
         assert (ran.returncode, ran.stdout) == (2, b"") and b"10 to 100,000 metres" in ran.stderr
 
 
 def test_nothing_is_made_unless_it_is_asked_for(tmp_path: Path) -> None:
-    wish = wish_for(tmp_path)
-    assert made(wish, tmp_path) == (wish, [])
+    options = options_for(tmp_path)
+    assert with_generated(options, tmp_path) == (options, [])
 
 
 @pytest.mark.program
@@ -108,7 +108,9 @@ def test_a_click_on_a_cell_and_the_study_that_is_saved(program: str, tmp_path: P
         browser.visit(served.address)
         assert browser.run("return element('walk').max") == "600"
         cells = browser.run("return head.identifiers.filter((it) => it.startsWith('r'))")
-        near = min(cells, key=lambda it: abs(browser.pixel(it)[0] - browser.pixel("A")[0]) + browser.pixel(it)[1] / 1e4)
+        near = min(
+            cells, key=lambda item: abs(browser.pixel(item)[0] - browser.pixel("A")[0]) + browser.pixel(item)[1] / 1e4
+        )
         browser.click(near)
         assert browser.text("heading").startswith("Travel times from r")
         chosen = browser.run("return head.identifiers[state.place]")
@@ -120,13 +122,13 @@ def test_a_click_on_a_cell_and_the_study_that_is_saved(program: str, tmp_path: P
         browser.press("#save-study")
         browser.awaited("while (document.getElementById('kept').textContent === '') await new Promise(setTimeout);")
     path = out / "1" / "study.toml"
-    assert sorted(it.name for it in path.parent.iterdir()) == ["feed", "footpaths.csv", "origins.csv", "study.toml"]
+    assert sorted(path.name for path in path.parent.iterdir()) == ["feed", "footpaths.csv", "origins.csv", "study.toml"]
     how = {**os.environ, "TTM_PROGRAM": program}
     ran = subprocess.run([sys.executable, LAUNCHER, "study", str(path)], env=how, capture_output=True, text=True)
     assert ran.returncode == 0, ran.stderr
     matrix = open_matrix(str(path.with_suffix("") / "matrix.omx"))
     seconds = matrix.seconds("base", 50, chosen)
     own = {row.split(",")[0].strip('"'): row.split(",")[4] for row in numbers[1:]}
-    assert {it: own[it] for it in matrix.stops} == {
-        it: "" if seconds[at] != seconds[at] else str(int(seconds[at])) for it, at in matrix.places.items()
+    assert {stop: own[stop] for stop in matrix.stops} == {
+        stop: "" if seconds[at] != seconds[at] else str(int(seconds[at])) for stop, at in matrix.places.items()
     }

@@ -29,9 +29,9 @@ MINUTES = "Object.fromEntries(Array.from(numbers.columns, (it, at) => [head.iden
 
 @pytest.fixture(scope="module")
 def browser() -> Iterator[Browser]:
-    made = Browser()
-    yield made
-    made.close()
+    driver = Browser()
+    yield driver
+    driver.close()
 
 
 def north_of_alpha(metres: float) -> Point:
@@ -79,21 +79,21 @@ def test_only_streets_around_are_looked_at(tmp_path: Path) -> None:
     begin, end, both = np.array([0, 2, 4]), np.array([1, 3, 5]), np.ones(3, dtype=np.bool_)
     streets = Streets("streets", ends, np.full(6, 8.0), begin, end, both, both)
     kept = streets_around(Point(47.0, 8.0), streets, 500)
-    assert [kept.latitudes[it].tolist() for it in (kept.begin, kept.end)] == [[47.0, 46.0], [47.001, 49.0]]
+    assert [kept.latitudes[item].tolist() for item in (kept.begin, kept.end)] == [[47.0, 46.0], [47.001, 49.0]]
 
 
 @pytest.fixture(scope="module")
 def refusing(tmp_path_factory: pytest.TempPathFactory) -> Iterator[Explored]:
     folder = tmp_path_factory.mktemp("points")
-    with explored(village(folder), canned(folder)) as made:
-        yield made
+    with explored(village(folder), canned(folder)) as started:
+        yield started
 
 
 @pytest.mark.parametrize(
-    "words", ["lat=91&lon=8", "lat=47", "lon=8", "lat=nan&lon=8", "lat=1e1&lon=8", "lat=47&lon=-180.1", "lat=&lon="]
+    "arguments", ["lat=91&lon=8", "lat=47", "lon=8", "lat=nan&lon=8", "lat=1e1&lon=8", "lat=47&lon=-180.1", "lat=&lon="]
 )
-def test_bad_points_are_told(refusing: Explored, words: str) -> None:
-    assert refusing.status(f"{TIMES}&{words}") == 422
+def test_bad_points_are_told(refusing: Explored, arguments: str) -> None:
+    assert refusing.status(f"{TIMES}&{arguments}") == 422
 
 
 def click_north_of(browser: Browser, stop: str, metres: float) -> None:
@@ -126,11 +126,11 @@ def test_a_click_between_stops_and_the_study_that_is_saved(program: str, tmp_pat
         click_north_of(browser, "A", 300)
         assert browser.text("heading").startswith("Travel times from the point 47.00")
         assert browser.run(f"return {MINUTES}") == {"A": 5, "B": 15, "C": 20, "D": 55}
-        words = browser.run("return location.hash.slice(1)")
+        arguments = browser.address()
         numbers = browser.run("return keep.numbers()").splitlines()
         click_north_of(browser, "A", 700)
         assert browser.run(f"return {MINUTES}") == {"A": 255, "B": 255, "C": 255, "D": 255}
-        browser.visit(served.address, words)
+        browser.visit(served.address, arguments)
         assert browser.run(f"return {MINUTES}") == {"A": 5, "B": 15, "C": 20, "D": 55}
         browser.awaited("await routes.read_; await routes.add({ do: 'remove_route', route: 1 });")
         assert browser.run(f"return {MINUTES}") == {"A": 5, "B": 15, "C": 20, "D": 255}
@@ -146,4 +146,4 @@ def test_a_click_between_stops_and_the_study_that_is_saved(program: str, tmp_pat
     matrix = open_matrix(str(path.with_suffix("") / "matrix.omx"))
     seconds = matrix.seconds("base", 50, "point")
     own = {row.split(",")[0].strip('"'): row.split(",")[4] for row in numbers[1:]}
-    assert own == {it: str(int(seconds[matrix.places[it]])) for it in "ABCD"}
+    assert own == {item: str(int(seconds[matrix.places[item]])) for item in "ABCD"}

@@ -21,10 +21,12 @@ def small(town: Town) -> Town:
     return town
 
 
-def measured(small: Town, name: str, *words: str) -> list[dict[str, str]]:
+def measured(small: Town, name: str, *arguments: str) -> list[dict[str, str]]:
     people = small.path("people.csv" if name == "theil" else "all.csv")
-    out, told, status = small.ran("equity", small.path("access.csv"), "--people", people, "--measure", name, *words)
-    assert (told, status) == ("", 0)
+    out, errors, status = small.ran(
+        "equity", small.path("access.csv"), "--people", people, "--measure", name, *arguments
+    )
+    assert (errors, status) == ("", 0)
     return read(out)
 
 
@@ -35,7 +37,7 @@ def test_theil_within_and_between_groups_by_hand(small: Town) -> None:
     own = (1.5 * math.log(1.5) + 0.5 * math.log(0.5)) / 2
     between = 0.4 * math.log(0.8) + 0.6 * math.log(1.2)
     assert (young["theil"], old["theil"]) == (f"{own:.4f}", "0")
-    assert [both[it] for it in ("group", "theil", "within", "between")] == [
+    assert [both[name] for name in ("group", "theil", "within", "between")] == [
         "all groups",
         f"{whole:.4f}",
         f"{0.4 * own:.4f}",
@@ -49,9 +51,9 @@ def test_concentration_by_hand(small: Town) -> None:
     # B, C, A by income: middles of the ranks 0.25, 0.625, 0.875; 2 (750 + 312.5 + 1312.5) / 5000 - 1
     assert (row["people"], row["concentration"]) == ("400", "-0.05")
     lost = small.write("some.csv", "stop_id,income", [["A", 1]])
-    words = ["equity", small.path("access.csv"), "--people", small.path("all.csv"), "--measure", "concentration"]
-    told = f"{lost}: has no rank of 2 origins of {small.path('access.csv')}: B, C"
-    small.refused(told, *words, "--rank", lost)
+    arguments = ["equity", small.path("access.csv"), "--people", small.path("all.csv"), "--measure", "concentration"]
+    message = f"{lost}: has no rank of 2 origins of {small.path('access.csv')}: B, C"
+    small.refused(message, *arguments, "--rank", lost)
 
 
 def test_poverty_by_hand(small: Town) -> None:
@@ -62,11 +64,11 @@ def test_poverty_by_hand(small: Town) -> None:
 
 
 def test_as_markdown_and_wrong_words(small: Town) -> None:
-    words = ["equity", small.path("access.csv"), "--people", small.path("all.csv")]
-    made = small.ran(*words, "--measure", "poverty", "--line", "10", "--form", "markdown")[0].splitlines()
-    assert made[2] == "| jobs | 50 | 30 | all | base | 400 | 0.25 | 0.125 | 0.0625 |"
+    arguments = ["equity", small.path("access.csv"), "--people", small.path("all.csv")]
+    result = small.ran(*arguments, "--measure", "poverty", "--line", "10", "--form", "markdown")[0].splitlines()
+    assert result[2] == "| jobs | 50 | 30 | all | base | 400 | 0.25 | 0.125 | 0.0625 |"
     for more in (["--measure", "poverty"], ["--line", "1"], ["--measure", "theil", "--rank", "x"]):
-        assert small.ran(*words, *more)[2] == 2
+        assert small.ran(*arguments, *more)[2] == 2
 
 
 @pytest.mark.parametrize("seed", range(6))
@@ -77,14 +79,16 @@ def test_drawn_towns_person_by_person(seed: int) -> None:
     access[0] = 5.0
     groups = np.array([[float(draw.randrange(0, 4)), float(draw.randrange(1, 4))] for _ in range(count)])
     people, rank = groups.sum(axis=1), np.array([float(draw.randrange(3)) for _ in range(count)])
-    each = [(access[it], rank[it]) for it in range(count) for _ in range(int(people[it]))]
-    mean = sum(it for it, _ in each) / len(each)
-    whole = sum(it / mean * math.log(it / mean) for it, _ in each if it) / len(each)
+    each = [(access[number], rank[number]) for number in range(count) for _ in range(int(people[number]))]
+    mean = sum(item for item, _ in each) / len(each)
+    whole = sum(item / mean * math.log(item / mean) for item, _ in each if item) / len(each)
     found = theil_of_all(access, groups)
     assert found.theil == pytest.approx(whole) and found.within + found.between == pytest.approx(whole)
-    pairs = sum(it * (sum(r < own for _, r in each) + sum(r == own for _, r in each) / 2) for it, own in each)
+    pairs = sum(item * (sum(r < own for _, r in each) + sum(r == own for _, r in each) / 2) for item, own in each)
     index = 2 * pairs / (len(each) ** 2 * mean) - 1
     assert concentration(access, people, rank).concentration == pytest.approx(index)
     line = 4.0
-    for power, made in enumerate((poverty(access, people, line).fgt0, poverty(access, people, line).fgt1)):
-        assert made == pytest.approx(sum(((line - it) / line) ** power for it, _ in each if it < line) / len(each))
+    for power, result in enumerate((poverty(access, people, line).fgt0, poverty(access, people, line).fgt1)):
+        assert result == pytest.approx(
+            sum(((line - item) / line) ** power for item, _ in each if item < line) / len(each)
+        )

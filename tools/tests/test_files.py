@@ -10,14 +10,14 @@ from pathlib import Path
 
 import pytest
 
-from helpers import LAUNCHER, Cell, Room, Town, as_in_a_terminal, town_matrix
+from helpers import LAUNCHER, LONGEST_WAIT, Cell, Room, Town, as_in_a_terminal, town_matrix
 from ttm_tools.files import aside_name, many_written_aside, output, sum_of, written_aside
 
 
 def test_a_file_gets_its_name_when_it_is_whole(room: Room) -> None:
-    with written_aside(room.path("a.csv")) as made:
-        made.write_text("whole")
-        assert room.names() == {made.name}
+    with written_aside(room.path("a.csv")) as aside:
+        aside.write_text("whole")
+        assert room.names() == {aside.name}
     assert (room.names(), (room.folder / "a.csv").read_text()) == ({"a.csv"}, "whole")
     assert sum_of(room.path("a.csv")).startswith("5d57")
 
@@ -31,11 +31,11 @@ def test_a_fault_keeps_what_was_there_before(room: Room) -> None:
 
 
 def test_a_folder_gets_all_of_its_files_or_none(room: Room) -> None:
-    with many_written_aside(room.path("new/parts")) as made:
-        (made / "1").write_text("one")
+    with many_written_aside(room.path("new/parts")) as aside:
+        (aside / "1").write_text("one")
     assert room.names() == {"new", "new/parts", "new/parts/1"}
-    with pytest.raises(RuntimeError), many_written_aside(room.path("other/parts")) as made:
-        (made / "1").write_text("one")
+    with pytest.raises(RuntimeError), many_written_aside(room.path("other/parts")) as aside:
+        (aside / "1").write_text("one")
         raise RuntimeError
     assert room.names() == {"new", "new/parts", "new/parts/1"}
 
@@ -45,8 +45,8 @@ def test_what_a_killed_run_left_is_removed_by_the_next(room: Room) -> None:
     ended.wait()
     left = aside_name(room.folder / "a.csv")
     left.with_name(left.name.replace(str(os.getpid()), str(ended.pid))).write_text("half")
-    with written_aside(room.path("a.csv")) as made:
-        made.write_text("whole")
+    with written_aside(room.path("a.csv")) as aside:
+        aside.write_text("whole")
     assert room.names() == {"a.csv"}
 
 
@@ -58,18 +58,20 @@ files.unwind_on_signals()
 with files.written_aside(sys.argv[2]) as made:
     made.write_text("half")
     print("begun", flush=True)
-    time.sleep(30)
+    time.sleep(600)
 """
 
 
 @pytest.mark.parametrize("name", ["SIGTERM", "SIGINT", "SIGHUP", "SIGQUIT", "SIGUSR1", "SIGXCPU", "SIGALRM"])
 def test_a_signal_leaves_nothing_behind(room: Room, name: str) -> None:
     source = str(Path(LAUNCHER).parent / "src")
-    words = [sys.executable, "-c", SLOW, source, room.path("a.csv")]
-    with subprocess.Popen(words, stdout=subprocess.PIPE, stderr=subprocess.DEVNULL, preexec_fn=as_in_a_terminal) as run:
+    arguments = [sys.executable, "-c", SLOW, source, room.path("a.csv")]
+    with subprocess.Popen(
+        arguments, stdout=subprocess.PIPE, stderr=subprocess.DEVNULL, preexec_fn=as_in_a_terminal
+    ) as run:
         assert run.stdout is not None and run.stdout.readline() == b"begun\n"
         run.send_signal(getattr(signal, name))
-        assert run.wait(10) != 0
+        assert run.wait(LONGEST_WAIT) != 0
     assert room.names() == set()
 
 
@@ -81,7 +83,7 @@ from ttm_tools import cli, files
 
 def wait(*_):
     print("begun", flush=True)
-    time.sleep(30)
+    time.sleep(600)
 
 ttm_tools.gtfs.stops.read_stops = wait
 files.unwind_on_signals()
@@ -90,12 +92,12 @@ sys.exit(cli.main(["walks", sys.argv[2]]))
 
 
 def test_a_command_that_is_ended_says_so_and_leaves_nothing(room: Room) -> None:
-    words = [sys.executable, "-c", WAITING, str(Path(LAUNCHER).parent / "src"), str(room.folder)]
-    with subprocess.Popen(words, stdout=subprocess.PIPE, stderr=subprocess.PIPE) as run:
+    arguments = [sys.executable, "-c", WAITING, str(Path(LAUNCHER).parent / "src"), str(room.folder)]
+    with subprocess.Popen(arguments, stdout=subprocess.PIPE, stderr=subprocess.PIPE) as run:
         assert run.stdout is not None and run.stdout.readline() == b"begun\n"
         run.send_signal(signal.SIGTERM)
         assert run.stderr is not None
-        assert (run.wait(10), run.stderr.read()) == (143, b"ttm-tools walks: ended by SIGTERM\n")
+        assert (run.wait(LONGEST_WAIT), run.stderr.read()) == (143, b"ttm-tools walks: ended by SIGTERM\n")
     assert room.names() == set()
 
 
@@ -107,13 +109,13 @@ def test_a_command_that_is_ended_at_a_drawn_moment_leaves_the_whole_or_nothing(t
     stops = [f"s{number}" for number in range(250)]
     rows: dict[str, list[Cell]] = {name: [draw.randrange(9999) for _ in stops] for name in stops}
     town.matrix(town_matrix(True, {"base": rows, "cut": dict(zip(stops, reversed(rows.values())))}, stops=stops))
-    words = [sys.executable, LAUNCHER, command, "--out", town.path("made"), town.file]
+    arguments = [sys.executable, LAUNCHER, command, "--out", town.path("made"), town.file]
     before = town.names()
-    assert subprocess.run(words, stderr=subprocess.DEVNULL).returncode == 0
+    assert subprocess.run(arguments, stderr=subprocess.DEVNULL).returncode == 0
     whole = (town.folder / "made").stat().st_size
     for _ in range(6):
         (town.folder / "made").unlink(missing_ok=True)
-        with subprocess.Popen(words, stderr=subprocess.DEVNULL, preexec_fn=as_in_a_terminal) as run:
+        with subprocess.Popen(arguments, stderr=subprocess.DEVNULL, preexec_fn=as_in_a_terminal) as run:
             time.sleep(draw.uniform(0.1, 1.2))
             run.send_signal(draw.choice([signal.SIGTERM, signal.SIGINT, signal.SIGHUP]))
         assert town.names() in (before, before | {"made"})

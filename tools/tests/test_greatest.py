@@ -14,55 +14,55 @@ MOST = ("--max-minutes", "30")
 
 def test_compare_counts_longer_pairs_as_not_reached(town: Town) -> None:
     town.matrix(town_matrix(True))  # base A to D 2400 s, cut A to C 1900 s
-    out, told, _ = town.ran("compare", *MOST, town.file)
+    out, errors, _ = town.ran("compare", *MOST, town.file)
     lines = ["A,C,cut off,900,,", "D,B,new,,1700,", "D,A,faster,1500,1400,-100"]
     assert out.splitlines()[1:] == lines
     assert (
-        told
+        errors
         == f"cut compared with base: of 8 pairs 1 cut off, 0 slower, 1 new, 1 faster (by more than 60 seconds; {END})\n"
     )
 
 
 def test_access_that_the_matrix_counts_beyond_it_is_refused(town: Town) -> None:
     town.matrix(town_matrix(True, limits=(600, 1800)))
-    words = ["compare", "--by", "origin", "--max-minutes", "20", town.file]
-    told = "access of the matrix counts pairs that take longer than the greatest travel time, 1200 seconds"
-    town.refused(f"{town.file}: {told}: take ttm-tools access", *words, "--within", "1800")
+    arguments = ["compare", "--by", "origin", "--max-minutes", "20", town.file]
+    message = "access of the matrix counts pairs that take longer than the greatest travel time, 1200 seconds"
+    town.refused(f"{town.file}: {message}: take ttm-tools access", *arguments, "--within", "1800")
     # by the limit that is left, 600 s, A reaches itself and B in both; it is cut off from C, 1900 s away
-    assert town.ran(*words)[0].splitlines()[1] == "A,2,2,0,0.0,1,0,0,0"
+    assert town.ran(*arguments)[0].splitlines()[1] == "A,2,2,0,0.0,1,0,0,0"
     town.matrix(town_matrix(True))
-    town.refused(f"{town.file}: {told}: take ttm-tools access", *words)
+    town.refused(f"{town.file}: {message}: take ttm-tools access", *arguments)
 
 
 def test_access_and_the_nearest_end_there(town: Town) -> None:
     town.matrix(town_matrix(True))
     jobs = town.write("jobs.csv", "stop_id,jobs", [["C", 10], ["D", 5]])
-    words = ["access", "--opportunities", jobs, "--scenario", "base", town.file]
-    plain = [row["accessibility"] for row in read(town.ran(*words, "--cutoffs", "60")[0])]
-    ended = [row["accessibility"] for row in read(town.ran(*words, "--cutoffs", "60", *MOST)[0])]
+    arguments = ["access", "--opportunities", jobs, "--scenario", "base", town.file]
+    plain = [row["accessibility"] for row in read(town.ran(*arguments, "--cutoffs", "60")[0])]
+    ended = [row["accessibility"] for row in read(town.ran(*arguments, "--cutoffs", "60", *MOST)[0])]
     assert (plain, ended) == (["15", "15"], ["10", "15"])
-    words += ["--nearest", "11"]
-    assert [row["seconds"] for row in read(town.ran(*words)[0])] == ["2400", "600"]
-    assert [row["seconds"] for row in read(town.ran(*words, *MOST)[0])] == ["", "600"]
+    arguments += ["--nearest", "11"]
+    assert [row["seconds"] for row in read(town.ran(*arguments)[0])] == ["2400", "600"]
+    assert [row["seconds"] for row in read(town.ran(*arguments, *MOST)[0])] == ["", "600"]
 
 
 def test_long_tables_and_gis_end_there(town: Town) -> None:
     town.matrix(town_matrix(True))
-    words = ["long", "--scenario", "base", "--reached", *MOST, town.file]
-    made = {(row["origin"], row["destination"]) for row in csv.DictReader(town.ran(*words)[0].splitlines())}
-    assert ("A", "D") not in made and ("A", "C") in made
+    arguments = ["long", "--scenario", "base", "--reached", *MOST, town.file]
+    result = {(row["origin"], row["destination"]) for row in csv.DictReader(town.ran(*arguments)[0].splitlines())}
+    assert ("A", "D") not in result and ("A", "C") in result
     out = town.path("a.geojson")
-    words = ["gis", "--feed", town.feed, "--origin", "A", "--scenario", "base", *MOST, "--out", out, town.file]
-    assert town.ran(*words)[2] == 0
+    arguments = ["gis", "--feed", town.feed, "--origin", "A", "--scenario", "base", *MOST, "--out", out, town.file]
+    assert town.ran(*arguments)[2] == 0
     features = json.loads(Path(out).read_text())["features"]
-    assert [it["properties"]["base_50_seconds"] for it in features] == [0, 300, 900, None]
+    assert [feature["properties"]["base_50_seconds"] for feature in features] == [0, 300, 900, None]
 
 
 def test_points_have_the_same_end(town: Town) -> None:
     town.matrix(town_matrix(True))
     points = town.write("mine.csv", "id,lat,lon", [["A", 0, 9], ["D", 0.02, 9]])
-    out, told, _ = town.ran("compare", *MOST, "--points", points, town.file)
-    assert (out.splitlines()[1:], END in told) == (["D,D,A,A,faster,1500,1400,-100"], True)
+    out, errors, _ = town.ran("compare", *MOST, "--points", points, town.file)
+    assert (out.splitlines()[1:], END in errors) == (["D,D,A,A,faster,1500,1400,-100"], True)
 
 
 def test_the_page_and_maps_tell_it(town: Town, monkeypatch: pytest.MonkeyPatch) -> None:

@@ -32,13 +32,13 @@ def polygons(room: Room, name: str, *shapes: tuple[dict[str, Any], float, float,
 
 def test_cells_lie_where_a_stop_is_within_a_walk(room: Room) -> None:
     town, out = feed(room), room.path("doors")
-    _, told, status = room.ran("points", town, "--grid", "250", "--out", out, *NEAR)
-    assert (told.splitlines()[0], status) == ("8 cells of 250 metres", 0)
+    _, errors, status = room.ran("points", town, "--grid", "250", "--out", out, *NEAR)
+    assert (errors.splitlines()[0], status) == ("8 cells of 250 metres", 0)
     # rows begin 300 m south of the stops and columns 300 m west of A: their middles lie at -175, 75, 325 ..;
     # from A and B, 1,000 m apart, those at -175 and 75 both ways are within 300 m, and (75, 325) is 334 m away
     found = cells_of(out)
-    assert [it["id"] for it in found] == ["r1c1", "r1c2", "r1c5", "r1c6", "r2c1", "r2c2", "r2c5", "r2c6"]
-    assert {it["width"] for it in found} == {"250"}
+    assert [item["id"] for item in found] == ["r1c1", "r1c2", "r1c5", "r1c6", "r2c1", "r2c2", "r2c5", "r2c6"]
+    assert {item["width"] for item in found} == {"250"}
     assert float(found[0]["lat"]) == pytest.approx(-175 * METRE, abs=1e-7)
     assert float(found[3]["lon"]) == pytest.approx(1 + 1075 * METRE, abs=1e-7)
     assert Path(out, "origins.csv").read_text() == Path(out, "destinations.csv").read_text()
@@ -48,9 +48,9 @@ def test_points_are_summed_by_cell_and_what_lies_outside_is_told(room: Room) -> 
     town, out = feed(room), room.path("doors")
     rows = [["a", *place(-100, -100), 3, 1.5], ["b", *place(-60, -200), 2, 0], ["c", *place(0, 0), 4, 0]]
     people = room.write("people.csv", "id,lat,lon,people,jobs", [*rows, ["d", *place(9000, 0), 5, 0]])
-    _, told, status = room.ran("points", town, "--grid", "250", "--people", people, "--out", out, *NEAR)
-    assert (told.splitlines()[1], status) == (f"{people}: 5 of 14 people lie outside of all cells", 0)
-    counted = {it["id"]: (it["people"], it["jobs"]) for it in cells_of(out) if it["people"] != "0"}
+    _, errors, status = room.ran("points", town, "--grid", "250", "--people", people, "--out", out, *NEAR)
+    assert (errors.splitlines()[1], status) == (f"{people}: 5 of 14 people lie outside of all cells", 0)
+    counted = {cell["id"]: (cell["people"], cell["jobs"]) for cell in cells_of(out) if cell["people"] != "0"}
     assert counted == {"r1c1": ("5", "1.5"), "r2c2": ("4", "0")}
     assert "r1c1,5\n" in Path(out, "opportunities_people.csv").read_text()
 
@@ -63,13 +63,13 @@ def test_cells_have_a_part_in_the_area_and_polygons_are_shared_out(room: Room) -
     own = ({"people": 80, "id": "7"}, 125, 0, 625, 250), ({"people": None, "id": "8"}, 0, 0, 10, 10)
     outside = ({"people": 9, "id": "9"}, 700, 0, 800, 250)  # half of it lies in the third cell, which ends at 750
     people = polygons(room, "people.geojson", *own, outside)
-    words = ["--grid", "250", "--area", area, "--people", people, "--out", out]
-    _, told, status = room.ran("points", town, *words, *NEAR)
-    assert (told.splitlines()[:2], status) == (
+    arguments = ["--grid", "250", "--area", area, "--people", people, "--out", out]
+    _, errors, status = room.ran("points", town, *arguments, *NEAR)
+    assert (errors.splitlines()[:2], status) == (
         ["3 cells of 250 metres", f"{people}: 4.5 of 89 people lie outside of all cells"],
         0,
     )
-    found = [(it["id"], float(it["people"])) for it in cells_of(out)]
+    found = [(cell["id"], float(cell["people"])) for cell in cells_of(out)]
     assert [name for name, _ in found] == ["r1c1", "r1c2", "r1c3"]
     assert [number for _, number in found] == pytest.approx([20, 40, 24.5], rel=1e-6)
 
@@ -83,9 +83,9 @@ def test_a_hole_of_the_area_has_no_cells(room: Room) -> None:
         ({}, 100, 0, 200, 100),
         ({}, 100, 200, 200, 300),
     ]
-    words = ["--grid", "100", "--area", polygons(room, "area.geojson", *parts), "--out", out]
-    assert room.ran("points", town, *words, *NEAR)[2] == 0
-    found = [it["id"] for it in cells_of(out)]
+    arguments = ["--grid", "100", "--area", polygons(room, "area.geojson", *parts), "--out", out]
+    assert room.ran("points", town, *arguments, *NEAR)[2] == 0
+    found = [cell["id"] for cell in cells_of(out)]
     assert found == ["r1c1", "r1c2", "r1c3", "r2c1", "r2c3", "r3c1", "r3c2", "r3c3"]
 
 
@@ -101,25 +101,27 @@ def test_cells_are_one_end_where_files_are_the_other(room: Room) -> None:
 
 def test_what_is_refused(room: Room) -> None:
     town, out = feed(room), room.path("doors")
-    words = ["points", town, "--out", out, *NEAR]
-    assert room.ran(*words, "--people", "x.csv")[2] == 2
-    room.refused("grid: no cell of 9000 metres is within a walk of a stop: take smaller ones", *words, "--grid", "9000")
-    wide = [*words[:-6], "--limit", "7200", "--speed", "9", "--detour", "1"]
-    told = "grid: 167,987,521 cells are too many to look at: take larger ones, or a smaller area"
-    room.refused(told, *wide, "--grid", "10")
+    arguments = ["points", town, "--out", out, *NEAR]
+    assert room.ran(*arguments, "--people", "x.csv")[2] == 2
+    room.refused(
+        "grid: no cell of 9000 metres is within a walk of a stop: take smaller ones", *arguments, "--grid", "9000"
+    )
+    wide = [*arguments[:-6], "--limit", "7200", "--speed", "9", "--detour", "1"]
+    message = "grid: 167,987,521 cells are too many to look at: take larger ones, or a smaller area"
+    room.refused(message, *wide, "--grid", "10")
     room.refused("grid: more than 65,535 cells, which ttm doesn't take: take larger ones", *wide, "--grid", "200")
     texts = room.write("texts.csv", "id,lat,lon,kind", [["a", *place(0, 0), "x"]])
-    room.refused(f"{texts}: no column of numbers", *words, "--grid", "250", "--people", texts)
+    room.refused(f"{texts}: no column of numbers", *arguments, "--grid", "250", "--people", texts)
     counts = room.write("counts.csv", "id,lat,lon,people", [["a", *place(0, 0), 1]])
-    told = f"{counts}: a column people is in another file too"
-    room.refused(told, *words, "--grid", "250", "--people", counts, "--people", counts)
+    message = f"{counts}: a column people is in another file too"
+    room.refused(message, *arguments, "--grid", "250", "--people", counts, "--people", counts)
 
 
 def test_negative_numbers_of_polygons_are_refused(room: Room) -> None:
     pytest.importorskip("geopandas")
     people = polygons(room, "people.geojson", ({"people": -1}, 0, 0, 10, 10))
-    words = ["points", feed(room), "--out", room.path("doors"), *NEAR, "--grid", "250", "--people", people]
-    room.refused(f"{people}: record 1: people '-1' is none; allowed: a number from 0 on", *words)
+    arguments = ["points", feed(room), "--out", room.path("doors"), *NEAR, "--grid", "250", "--people", people]
+    room.refused(f"{people}: record 1: people '-1' is none; allowed: a number from 0 on", *arguments)
 
 
 def test_cells_are_squares_for_a_geographic_information_system(town: Town) -> None:
@@ -130,7 +132,7 @@ def test_cells_are_squares_for_a_geographic_information_system(town: Town) -> No
     town.matrix(town_matrix(False))
     out = town.path("cells.geojson")
     assert town.ran("gis", "--feed", town.feed, "--out", out, town.file)[2] == 0
-    square, oblong, point = [it["geometry"] for it in json.loads(Path(out).read_text())["features"]]
+    square, oblong, point = [feature["geometry"] for feature in json.loads(Path(out).read_text())["features"]]
     # 100 metres are 100 / 111,195 of a degree northwards; at 60 degrees twice as many to the east
     up, right = 100 * METRE, 100 * METRE / math.cos(math.radians(60))
     corners = np.array([[-1, -1], [1, -1], [1, 1], [-1, 1], [-1, -1]])

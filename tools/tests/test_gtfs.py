@@ -100,7 +100,7 @@ def calendars() -> Feed:
     days = dict.fromkeys(fields.WEEKDAYS, "0") | {"monday": "1", "tuesday": " 01"}
     row = {"service_id": "M", "start_date": "20260504", "end_date": "20260517", **days}
     dates = [("M", "20260505", "2"), ("S", "20260510", "1"), ("S", "20260511", "2"), ("S", "20260511", "1")]
-    exceptions = [dict(zip(("service_id", "date", "exception_type"), it)) for it in dates]
+    exceptions = [dict(zip(("service_id", "date", "exception_type"), date)) for date in dates]
     tables = {
         "calendar.txt": table_of("calendar.txt", list(row), [row]),
         "calendar_dates.txt": table_of("calendar_dates.txt", list(exceptions[0]), exceptions),
@@ -110,12 +110,12 @@ def calendars() -> Feed:
 
 def test_services_run_by_their_calendar_and_its_exceptions(calendars: Feed) -> None:
     first = datetime.date(2026, 5, 3)
-    found = [services_on(calendars, first + datetime.timedelta(days=it)) for it in range(15)]
+    found = [services_on(calendars, first + datetime.timedelta(days=number)) for number in range(15)]
     expected = {1: {"M"}, 7: {"S"}, 8: {"M", "S"}, 9: {"M"}}
-    assert found == [expected.get(it, set()) for it in range(15)]
+    assert found == [expected.get(number, set()) for number in range(15)]
     days = days_of(calendars)
     assert (days.services, days.day(0)) == (["M", "S"], datetime.date(2026, 5, 4))
-    listed = [{name for name, runs in zip(days.services, days.runs[:, it]) if runs} for it in range(14)]
+    listed = [{name for name, runs in zip(days.services, days.runs[:, number]) if runs} for number in range(14)]
     assert listed == found[1:]
 
 
@@ -143,6 +143,6 @@ def test_files_of_a_folder_have_the_columns_that_are_read_alone(room: Room) -> N
 def test_walks_start_without_pandas() -> None:
     modules = ("walks", "walks.straight", "points.study", "plans.nearness", "parts")
     names = ", ".join(f"ttm_tools.{name}" for name in modules)
-    words = [sys.executable, "-c", f"import sys, {names}; sys.exit('pandas' in sys.modules)"]
+    arguments = [sys.executable, "-c", f"import sys, {names}; sys.exit('pandas' in sys.modules)"]
     source = Path(columns.__file__).parents[2]
-    assert subprocess.run(words, env={**os.environ, "PYTHONPATH": str(source)}).returncode == 0
+    assert subprocess.run(arguments, env={**os.environ, "PYTHONPATH": str(source)}).returncode == 0

@@ -157,11 +157,11 @@ class Hostile:
             ["study", at("study.toml"), *to],
         ]
 
-    def reads(self, words: list[str], name: str) -> bool:
+    def reads(self, arguments: list[str], name: str) -> bool:
         """Whether a command reads an input, or all of them where none reads it at the moment."""
-        found = [word.rsplit("/", 1)[-1] for word in words]
+        found = [word.rsplit("/", 1)[-1] for word in arguments]
         own = {name, "study.toml"} if name in ("feed.zip", "points.csv") else {name}
-        return bool(own & set(found)) or name.endswith((".txt", ".omx", ".csv")) and str(self.folder) in words
+        return bool(own & set(found)) or name.endswith((".txt", ".omx", ".csv")) and str(self.folder) in arguments
 
     def damage(self, name: str) -> None:
         """Does something to an input."""
@@ -186,9 +186,9 @@ class Hostile:
 
     def odd_zip(self) -> None:
         """A zip file with members that lead elsewhere, are there twice, or are of another kind."""
-        made, draw = io.BytesIO(), self.draw
+        archive_bytes, draw = io.BytesIO(), self.draw
         how = draw.choice([zipfile.ZIP_STORED, zipfile.ZIP_DEFLATED, zipfile.ZIP_LZMA, zipfile.ZIP_BZIP2])
-        with zipfile.ZipFile(made, "w", how) as packed:
+        with zipfile.ZipFile(archive_bytes, "w", how) as packed:
             for path in sorted(self.folder.glob("*.txt")):
                 packed.writestr(
                     draw.choice([path.name, path.name, f"../{path.name}", f"/tmp/{path.name}", f"a/{path.name}"]),
@@ -198,7 +198,7 @@ class Hostile:
                 draw.choice(["notes.txt", "../../evil.txt", "stops.txt.gz", ".hidden.txt", "é\n.txt"]),
                 gzip.compress(b"x"),
             )
-        (self.folder / "feed.zip").write_bytes(made.getvalue())
+        (self.folder / "feed.zip").write_bytes(archive_bytes.getvalue())
 
     def mend(self) -> None:
         for name, data in self.whole.items():
@@ -216,24 +216,24 @@ def test_whatever_is_hostile_ends_in_a_line_and_loses_nothing(town: Town, monkey
     monkeypatch.setattr("tempfile.tempdir", town.path("tmp"))
     monkeypatch.setenv("TTM_PROGRAM", "/bin/false")
     statuses = dict.fromkeys(ALLOWED, 0)
-    while time.monotonic() < end:
+    while time.monotonic() < end or not (statuses[0] and statuses[1]):
         case += 1
         name = draw.choice(sorted(hostile.whole))
         hostile.odd_zip() if name == "feed.zip" and draw.random() < 0.3 else hostile.damage(name)
         out = town.folder / "outs" / draw.choice(NAMES[:-1])
         out.parent.mkdir()
-        words = draw.choice([it for it in hostile.commands(str(out)) if hostile.reads(it, name)])
+        arguments = draw.choice([command for command in hostile.commands(str(out)) if hostile.reads(command, name)])
         before = contents(town.folder)
-        _, told, status = town.ran(*words)
-        what = f"seed {SEED}, case {case}: {name}, {words}: {told}"
-        assert status in ALLOWED and "Traceback" not in told, what
-        lines = [line for line in told.splitlines() if line.startswith(f"ttm-tools {words[0]}: ")]
-        assert (len(lines) == 1) == (status != 0) or "--check" in words, what
-        assert not any(ord(sign) < 32 and sign != "\n" for sign in told), what
+        _, errors, status = town.ran(*arguments)
+        what = f"seed {SEED}, case {case}: {name}, {arguments}: {errors}"
+        assert status in ALLOWED and "Traceback" not in errors, what
+        lines = [line for line in errors.splitlines() if line.startswith(f"ttm-tools {arguments[0]}: ")]
+        assert (len(lines) == 1) == (status != 0) or "--check" in arguments, what
+        assert not any(ord(sign) < 32 and sign != "\n" for sign in errors), what
         after = contents(town.folder)
         assert {path: after.get(path) for path in before} == before, what
         assert all(path.startswith("outs/") for path in after.keys() - before.keys()), what
-        assert not status or words[0] == "study" or set(after) == set(before), what
+        assert not status or arguments[0] == "study" or set(after) == set(before), what
         statuses[status] += 1
         shutil.rmtree(out.parent)
         hostile.mend()
@@ -243,4 +243,4 @@ def test_whatever_is_hostile_ends_in_a_line_and_loses_nothing(town: Town, monkey
 
 def contents(folder: Path) -> dict[str, bytes]:
     """All files below a folder, with their bytes."""
-    return {str(it.relative_to(folder)): it.read_bytes() for it in sorted(folder.rglob("*")) if it.is_file()}
+    return {str(path.relative_to(folder)): path.read_bytes() for path in sorted(folder.rglob("*")) if path.is_file()}

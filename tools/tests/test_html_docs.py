@@ -47,6 +47,6 @@ def test_a_missing_documentation_is_one_line(room: Room, folder: Path, opened: l
 
 def test_a_package_and_a_clone_have_their_places() -> None:
     package = Path(docs.__file__).parents[1]
-    places = [str(it) for it in docs.places()]
+    places = [str(place) for place in docs.places()]
     assert places[0].endswith("/share/ttm/html")
     assert places[1:] == [f"{package.parents[3]}/share/doc/ttm/html", f"{package.parents[2]}/packaging/out/html"]

@@ -16,10 +16,10 @@ ROUND = math.sin(2 * math.pi / CORNERS) / (2 * math.pi / CORNERS)  # the part of
 PLAIN = ["--speed", "1", "--detour", "1"]  # a metre a second, as the crow flies
 
 
-def isochrones(town: Town, *words: str) -> list[dict[str, Any]]:
+def isochrones(town: Town, *arguments: str) -> list[dict[str, Any]]:
     """The features that the command writes, and that it ends well."""
     out = town.path("areas.geojson")
-    ran = town.ran("isochrones", "--feed", town.feed, "--origin", "A", *PLAIN, *words, "--out", out, town.file)
+    ran = town.ran("isochrones", "--feed", town.feed, "--origin", "A", *PLAIN, *arguments, "--out", out, town.file)
     assert (ran[0], ran[2]) == ("", 0), ran[1]
     features = json.loads(Path(out).read_text())["features"]
     assert isinstance(features, list)
@@ -38,7 +38,10 @@ def test_circles_have_the_radius_that_the_time_left_allows(town: Town) -> None:
     assert narrow["properties"]["square_km"] == pytest.approx(math.pi * 0.09 * ROUND, abs=1e-4)
     known = {"origin": "A", "scenario": "base", "percentile": 50}
     assert {name: wide["properties"][name] for name in known} == known
-    assert [(it["properties"]["minutes"], it["properties"]["reached"]) for it in (wide, narrow)] == [(10, 2), (5, 2)]
+    assert [(item["properties"]["minutes"], item["properties"]["reached"]) for item in (wide, narrow)] == [
+        (10, 2),
+        (5, 2),
+    ]
 
 
 def test_circles_that_meet_are_one_shape_and_the_walk_has_a_limit(town: Town) -> None:
@@ -57,11 +60,14 @@ def test_a_square_counts_whole_and_people_are_summed(town: Town) -> None:
     town.matrix(town_matrix(True))
     points = town.write("mine.csv", "id,lat,lon,width", [["A", 0, 9, 400], ["D", 0.02, 9, 200]])
     people = town.write("people.csv", "id,people,jobs", [["A", 70, 1], ["D", 5, 2.5]])
-    words = ["--points", points, "--people", people, "--scenario", "base", "--bands", "10,40"]
-    wide, narrow = isochrones(town, *words)
+    arguments = ["--points", points, "--people", people, "--scenario", "base", "--bands", "10,40"]
+    wide, narrow = isochrones(town, *arguments)
     assert narrow["properties"]["square_km"] == pytest.approx(0.16, abs=1e-4)
     assert wide["properties"]["square_km"] == pytest.approx(0.16 + 0.04, abs=1e-4)
-    assert [(it["properties"]["people"], it["properties"]["jobs"]) for it in (wide, narrow)] == [(75, 3.5), (70, 1)]
+    assert [(item["properties"]["people"], item["properties"]["jobs"]) for item in (wide, narrow)] == [
+        (75, 3.5),
+        (70, 1),
+    ]
 
 
 def test_polygons_of_the_points_are_taken_in_a_geopackage(town: Town) -> None:
@@ -73,11 +79,13 @@ def test_polygons_of_the_points_are_taken_in_a_geopackage(town: Town) -> None:
     areas = geopandas.GeoDataFrame({"id": ["A", "C"]}, geometry=[box(9, 0, 9 + side, side), box(9.01, 0, 9.02, 0.01)])
     areas.set_crs("EPSG:4326").to_file(town.path("areas.gpkg"), driver="GPKG")
     out = town.path("isochrones.gpkg")
-    words = ["--points", town.path("areas.gpkg"), "--bands", "10", "--scenario", "cut", "--out", out, town.file]
-    assert town.ran("isochrones", "--feed", town.feed, "--origin", "A", *words)[2] == 0
-    made = geopandas.read_file(out)
-    assert (list(made.scenario), list(made.reached), made.crs.to_epsg()) == (["cut"], [1], 4326)
-    assert made.square_km[0] == pytest.approx(1.0, rel=1e-3) and made.geometry[0].bounds[2] == pytest.approx(9 + side)
+    arguments = ["--points", town.path("areas.gpkg"), "--bands", "10", "--scenario", "cut", "--out", out, town.file]
+    assert town.ran("isochrones", "--feed", town.feed, "--origin", "A", *arguments)[2] == 0
+    result = geopandas.read_file(out)
+    assert (list(result.scenario), list(result.reached), result.crs.to_epsg()) == (["cut"], [1], 4326)
+    assert result.square_km[0] == pytest.approx(1.0, rel=1e-3) and result.geometry[0].bounds[2] == pytest.approx(
+        9 + side
+    )
 
 
 def test_an_empty_band_has_an_empty_shape(town: Town) -> None:
@@ -89,11 +97,11 @@ def test_an_empty_band_has_an_empty_shape(town: Town) -> None:
 
 def test_what_is_refused(town: Town) -> None:
     town.matrix(town_matrix(True))
-    words = ["isochrones", "--feed", town.feed, "--out", town.path("a.geojson"), "--origin"]
-    town.refused(f"{town.file}: B is no origin of the scenario base", *words, "B", town.file)
+    arguments = ["isochrones", "--feed", town.feed, "--out", town.path("a.geojson"), "--origin"]
+    town.refused(f"{town.file}: B is no origin of the scenario base", *arguments, "B", town.file)
     people = town.write("people.csv", "stop_id,people", [["Z", 1]])
-    town.refused(f"{people}: record 2: Z is no column", *words, "A", "--people", people, town.file)
-    assert town.ran(*words[:4], town.path("a.shp"), "--origin", "A", town.file)[2] == 2
+    town.refused(f"{people}: record 2: Z is no column", *arguments, "A", "--people", people, town.file)
+    assert town.ran(*arguments[:4], town.path("a.shp"), "--origin", "A", town.file)[2] == 2
 
 
 def crossroads(town: Town) -> str:
@@ -134,7 +142,7 @@ def test_from_the_place_where_most_is_left_one_comes_furthest() -> None:
     assert (found[:, [0, 2]].min(), round(found[:, [0, 2]].max(), 3)) == (0, 400)
     found = reach.pieces(np.array([-1.0, 50, 260])) / METRE
     # from the second 50 m both ways; from the third, 10 m beside the street, 250 m both ways
-    lengths = sorted({(round(min(it)), round(max(it))) for it in found[:, [0, 2]].tolist()})
+    lengths = sorted({(round(min(item)), round(max(item))) for item in found[:, [0, 2]].tolist()})
     assert lengths == [(250, 300), (300, 350), (750, 1000), (1000, 1250)]
 
 
@@ -143,12 +151,17 @@ def test_a_map_shows_the_areas_with_their_square_kilometres(town: Town, monkeypa
     from test_maps import figure
 
     town.matrix(town_matrix(True))
-    words = ["isochrones", "--origin", "A", "--scenario", "base", "--breaks", "5,10", *PLAIN]
-    texts, key, classes = figure(town, monkeypatch, *words)
+    arguments = ["isochrones", "--origin", "A", "--scenario", "base", "--breaks", "5,10", *PLAIN]
+    texts, key, classes = figure(town, monkeypatch, *arguments)
     # 300 m around A within 5 minutes; within 10 minutes 600 m around A, and 300 m around B
-    narrow, wide = (math.pi * it * ROUND for it in (0.3**2, 0.6**2 + 0.3**2))
-    told = [f"up to 5 minutes: {narrow:.1f} km²", f"up to 10 minutes: {wide:.1f} km²", "origin", "where vehicles run"]
-    assert (key, classes) == ("Reached within", told)
+    narrow, wide = (math.pi * number * ROUND for number in (0.3**2, 0.6**2 + 0.3**2))
+    printed = [
+        f"up to 5 minutes: {narrow:.1f} km²",
+        f"up to 10 minutes: {wide:.1f} km²",
+        "origin",
+        "where vehicles run",
+    ]
+    assert (key, classes) == ("Reached within", printed)
     assert texts[:2] == ["Areas that are reached from Alpha (A)", f"{wide:.1f} km² within 10 minutes"]
     assert "50 of 100 departures" in texts[2].replace("\n", " ")
     ran = town.ran("map", "isochrones", "--feed", town.feed, "--out", town.path("map.png"), town.file)

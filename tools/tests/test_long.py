@@ -13,9 +13,9 @@ from ttm_tools.matrices import open_matrix
 from ttm_tools.views import long
 
 
-def lines(town: Town, *words: str) -> str:
-    out, told, status = town.ran("long", *words, town.file)
-    assert (told, status) == ("", 0)
+def lines(town: Town, *arguments: str) -> str:
+    out, errors, status = town.ran("long", *arguments, town.file)
+    assert (errors, status) == ("", 0)
     return out
 
 
@@ -43,15 +43,15 @@ def test_rows_turned_a_few_at_a_time_are_the_same(town: Town, monkeypatch: pytes
 def test_names_and_coordinates_of_both_ends(town: Town) -> None:
     town.matrix(town_matrix(False))
     rows = read(lines(town, "--feed", town.feed))
-    assert [rows[1][f"destination_{it}"] for it in ("name", "lat", "lon")] == ['Béta, "the" square', "0.0", "9.01"]
+    assert [rows[1][f"destination_{name}"] for name in ("name", "lat", "lon")] == ['Béta, "the" square', "0.0", "9.01"]
     assert [rows[2]["destination_name"], rows[6]["origin_name"], rows[6]["origin_lat"]] == ["C", "Delta", "0.02"]
 
 
 def test_only_what_is_asked_for(town: Town) -> None:
     town.matrix(town_matrix(True, shares=(25, 50)))
     some, ends = town.write("some.csv", "stop_id", [["D"]]), town.write("ends.csv", "stop_id", [["D"], ["B"]])
-    asked = lines(town, "--origins", some, "--destinations", ends, "--share", "25", "--scenario", "cut")
-    assert asked == "scenario,share,origin,destination,seconds\ncut,25,D,D,0\ncut,25,D,B,850\n"
+    chosen = lines(town, "--origins", some, "--destinations", ends, "--share", "25", "--scenario", "cut")
+    assert chosen == "scenario,share,origin,destination,seconds\ncut,25,D,D,0\ncut,25,D,B,850\n"
     town.matrix(town_matrix(False))
     assert lines(town, "--reached", "--scenario", "base").count("\n") == 8
 
@@ -63,9 +63,9 @@ def test_access_has_a_line_for_each_limit(town: Town) -> None:
     assert lines(town, "--access", "--scenario", "base") == expected
     one = lines(town, "--access", "--scenario", "base", "--share", "50", "--within", "900")
     assert one == head + "base,50,A,900,3\nbase,50,D,900,2\n"
-    told = f"{town.file}: no access within 60 seconds, but within 900, 1800"
+    message = f"{town.file}: no access within 60 seconds, but within 900, 1800"
     out, said, status = town.ran("long", "--access", "--within", "60", "--out", town.path("a.csv"), town.file)
-    assert (out, said, status) == ("", f"ttm-tools long: {told}\n", 1)
+    assert (out, said, status) == ("", f"ttm-tools long: {message}\n", 1)
     assert "a.csv" not in town.names()
     named = lines(town, "--access", "--scenario", "cut", "--feed", town.feed).splitlines()
     assert named[1] == "cut,50,A,900,2,Alpha,0.0,9.0"
@@ -79,8 +79,8 @@ def test_r5py_names_have_minutes_and_a_column_for_each_share(town: Town) -> None
     assert rows[0] == "from_id,to_id,travel_time_p25,travel_time_p50"
     assert rows[1:5] == ["A,A,0.0,0.0", "A,B,3.0,6.0", "A,C,15.83,31.67", "A,D,,"]
     assert "A,D,," not in lines(town, "--names", "r5py", "--scenario", "cut", "--reached").splitlines()
-    told = "r5py's columns name no scenario, and it has base, cut: name one by --scenario"
-    town.refused(f"{town.file}: {told}", "long", "--names", "r5py", town.file)
+    message = "r5py's columns name no scenario, and it has base, cut: name one by --scenario"
+    town.refused(f"{town.file}: {message}", "long", "--names", "r5py", town.file)
     median = lines(town, "--names", "r5py", "--scenario", "cut", "--share", "50").splitlines()
     assert median[:2] == ["from_id,to_id,travel_time", "A,A,0.0"]
     town.matrix(town_matrix(False, {"base": TOWN["base"]}))
@@ -96,26 +96,26 @@ def test_a_parquet_file_needs_a_package_and_is_told_in_a_line(town: Town) -> Non
         assert town.ran("long", "--feed", town.feed, "--out", out, town.file) == ("", "", 0)
         assert pandas.read_parquet(out).to_csv(index=False) == lines(town, "--feed", town.feed)
         return
-    told = "Parquet needs pyarrow or fastparquet, and neither is installed; a name that ends in .csv writes a CSV"
-    town.refused(f"{out}: {told}", "long", "--out", out, town.file)
+    message = "Parquet needs pyarrow or fastparquet, and neither is installed; a name that ends in .csv writes a CSV"
+    town.refused(f"{out}: {message}", "long", "--out", out, town.file)
 
 
 @pytest.mark.parametrize("reached", [False, True])
 def test_the_tables_of_a_parquet_file_have_the_lines_of_the_csv(town: Town, reached: bool) -> None:
     pandas = pytest.importorskip("pandas")
     matrix = open_matrix(town.matrix(town_matrix(True)))
-    choice = long.Choice(["base", "cut"], [50], None, matrix.stops, reached)
+    choice = long.TableChoice(["base", "cut"], [50], None, matrix.stops, reached)
     frames = list(long.frames_of(matrix, choice, read_stops(town.feed)))
-    made = pandas.concat(frames, ignore_index=True).to_csv(index=False)
-    assert made == lines(town, "--feed", town.feed, *["--reached"] * reached)
+    result = pandas.concat(frames, ignore_index=True).to_csv(index=False)
+    assert result == lines(town, "--feed", town.feed, *["--reached"] * reached)
 
 
 def test_so_have_those_with_names_of_r5py(town: Town) -> None:
     pandas = pytest.importorskip("pandas")
     matrix = open_matrix(town.matrix(town_matrix(True, shares=(25, 50))))
-    choice = long.Choice(["cut"], [25, 50], None, matrix.stops, False, True)
-    made = pandas.concat(long.frames_of(matrix, choice, None), ignore_index=True).to_csv(index=False)
-    assert made == lines(town, "--names", "r5py", "--scenario", "cut")
+    choice = long.TableChoice(["cut"], [25, 50], None, matrix.stops, False, True)
+    result = pandas.concat(long.frames_of(matrix, choice, None), ignore_index=True).to_csv(index=False)
+    assert result == lines(town, "--names", "r5py", "--scenario", "cut")
 
 
 def test_names_in_windows_1252_are_text_in_utf8(town: Town) -> None:
@@ -135,15 +135,15 @@ def test_faults_name_the_file_and_the_record(town: Town) -> None:
     town.refused(f"{zipped}: no folder of a feed (unzip it first)", "long", "--feed", zipped, town.file)
     out = town.path("long.csv")
     town.matrix(town_matrix(True, stops="AZCD"))
-    told = f"{town.path('stops.txt')}: no stop Z, which the matrix has: is it of another feed?"
-    town.refused(told, "long", "--feed", town.feed, "--out", out, town.file)
+    message = f"{town.path('stops.txt')}: no stop Z, which the matrix has: is it of another feed?"
+    town.refused(message, "long", "--feed", town.feed, "--out", out, town.file)
 
 
 def test_a_matrix_that_was_cut_between_two_shares_is_told(town: Town) -> None:
     text = town_matrix(True, shares=(25, 50))
     town.matrix(text[: text.index("cut,D,50")])
-    told = "scenario cut: 1 of 2 origins of share 25 aren't in share 50: D"
-    town.refused(f"{town.file}: {told}", "long", "--out", town.path("a.csv"), town.file)
+    message = "scenario cut: 1 of 2 origins of share 25 aren't in share 50: D"
+    town.refused(f"{town.file}: {message}", "long", "--out", town.path("a.csv"), town.file)
 
 
 def test_drawn_matrices_have_the_lines_that_plain_loops_write(town: Town) -> None:
@@ -174,22 +174,22 @@ def test_a_file_is_written_whole(town: Town) -> None:
 def test_more_lines_than_a_spreadsheet_shows_are_told(town: Town, monkeypatch: pytest.MonkeyPatch) -> None:
     town.matrix(town_matrix(True))
     monkeypatch.setattr("ttm_tools.views.long.MOST_LINES", 16)
-    out, told, status = town.ran("long", "--out", town.path("long.csv"), town.file)
+    out, errors, status = town.ran("long", "--out", town.path("long.csv"), town.file)
     wanted = f"{town.path('long.csv')}: 17 lines, of which a spreadsheet shows 16: take some by --origins\n"
-    assert (out, told, status) == ("", wanted, 0)
+    assert (out, errors, status) == ("", wanted, 0)
 
 
 def test_types_of_columns_stand_beside_for_qgis(town: Town) -> None:
     town.matrix(town_matrix(True))
     assert town.ran("long", "--csvt", "--feed", town.feed, "--out", town.path("long.csv"), town.file)[2] == 0
-    made = (town.folder / "long.csvt").read_text()
-    assert made == ('"String","Integer","String","String","Integer","String","Real","Real","String","Real","Real"\n')
+    result = (town.folder / "long.csvt").read_text()
+    assert result == ('"String","Integer","String","String","Integer","String","Real","Real","String","Real","Real"\n')
     assert town.ran("long", "--csvt", town.file)[1:] == ("ttm-tools long: --csvt needs --out, the name of a CSV\n", 2)
 
 
 def test_names_that_are_formulas_are_quoted(town: Town) -> None:
     town.matrix(town_matrix(True))
     town.write("stops.txt", "stop_id,stop_name", [["A", "=1+1"], ["B", "-x"], ["C", "@c"], ["D", "Delta"]])
-    made = lines(town, "--safe", "--feed", town.feed).splitlines()
-    assert made[1] == "base,50,A,A,0,'=1+1,,,'=1+1,," and made[4].endswith(",Delta,,")
+    result = lines(town, "--safe", "--feed", town.feed).splitlines()
+    assert result[1] == "base,50,A,A,0,'=1+1,,,'=1+1,," and result[4].endswith(",Delta,,")
     assert lines(town, "--feed", town.feed).splitlines()[1] == "base,50,A,A,0,=1+1,,,=1+1,,"

@@ -18,15 +18,15 @@ from matplotlib.figure import Figure  # noqa: E402
 from ttm_tools.views import drawing  # noqa: E402
 
 
-def figure(town: Town, monkeypatch: pytest.MonkeyPatch, *words: str) -> tuple[list[str], str, list[str]]:
+def figure(town: Town, monkeypatch: pytest.MonkeyPatch, *arguments: str) -> tuple[list[str], str, list[str]]:
     """The figure that the command would save, as the words of its texts and of its key."""
     figures: list[Any] = []
     monkeypatch.setattr(Figure, "savefig", lambda figure, *_, **__: figures.append(figure))
-    said = town.ran("map", *words, "--feed", town.feed, "--out", town.path("map.png"), town.file)
+    said = town.ran("map", *arguments, "--feed", town.feed, "--out", town.path("map.png"), town.file)
     assert said == ("", "", 0)
-    (made,) = figures
-    (key,) = made.legends
-    texts = [text.get_text() for text in made.texts]
+    (figure_drawn,) = figures
+    (key,) = figure_drawn.legends
+    texts = [text.get_text() for text in figure_drawn.texts]
     return texts, key.get_title().get_text(), [text.get_text() for text in key.get_texts()]
 
 
@@ -34,13 +34,13 @@ def figure(town: Town, monkeypatch: pytest.MonkeyPatch, *words: str) -> tuple[li
 def test_travel_times_in_classes_of_minutes(town: Town, monkeypatch: pytest.MonkeyPatch, second_form: bool) -> None:
     town.matrix(town_matrix(second_form))
     texts, key, classes = figure(town, monkeypatch, "times", "--origin", "A")
-    told = "3 of 3 other stops are reached, half of them within 15 minutes"
-    assert texts[:2] == ["Travel time from Alpha (A)", told]
+    message = "3 of 3 other stops are reached, half of them within 15 minutes"
+    assert texts[:2] == ["Travel time from Alpha (A)", message]
     assert ("50 of 100 departures" in texts[2].replace("\n", " ")) == second_form
     assert key == "Travel time in minutes,\nwaiting included"
     assert classes == ["up to 10  (1)", "10 to 20  (1)", "30 to 45  (1)", "origin", "where vehicles run"]
-    words = ["times", "--origin", "A", "--scenario", "cut", "--breaks", "5,6"]
-    classes = figure(town, monkeypatch, *words)[2]
+    arguments = ["times", "--origin", "A", "--scenario", "cut", "--breaks", "5,6"]
+    classes = figure(town, monkeypatch, *arguments)[2]
     assert classes[:3] == ["5 to 6  (1)", "more than 6  (1)", "not reached  (1)"]
 
 
@@ -57,8 +57,8 @@ def test_access_in_round_numbers(town: Town, monkeypatch: pytest.MonkeyPatch) ->
 def test_the_difference_of_access(town: Town, monkeypatch: pytest.MonkeyPatch) -> None:
     town.matrix(town_matrix(True))
     texts, _, classes = figure(town, monkeypatch, "difference")
-    told = "Of 2 stops 1 lose, 1 gain; the most: 33 % (1 opportunities) at Alpha (A)"
-    assert texts[1] == told
+    message = "Of 2 stops 1 lose, 1 gain; the most: 33 % (1 opportunities) at Alpha (A)"
+    assert texts[1] == message
     lost, gained = "25 % or more lost  (1)", "25 % or more gained  (1)"
     assert classes[:3] == [lost, gained, "no origin of the matrix  (2)"]
 
@@ -95,12 +95,12 @@ def test_trips_that_a_scenario_adds_are_named_as_such(town: Town, monkeypatch: p
     town.matrix(town_matrix(True, {**TOWN, "more": TOWN["base"]}))
     cut = town.write("cut.csv", "action,id,seconds", [["remove_route", "R", ""]])
     more = town.write("more.csv", "action,id,seconds", [["remove_route", "Q", ""]])
-    words = ["difference", "--base", "cut", "--scenario", "more", "--edits", cut, "--edits", more]
-    assert figure(town, monkeypatch, *words)[2][-2:] == ["trips that are taken out", "trips that are added"]
-    words = ["difference", "--base", "cut", "--scenario", "base", "--edits", cut]
-    assert figure(town, monkeypatch, *words)[2][-2:] == ["where vehicles run", "trips that are added"]
-    words = ["access", "--scenario", "cut", "--base", "cut", "--edits", cut]
-    assert figure(town, monkeypatch, *words)[2][-1] == "trips that are taken out"
+    arguments = ["difference", "--base", "cut", "--scenario", "more", "--edits", cut, "--edits", more]
+    assert figure(town, monkeypatch, *arguments)[2][-2:] == ["trips that are taken out", "trips that are added"]
+    arguments = ["difference", "--base", "cut", "--scenario", "base", "--edits", cut]
+    assert figure(town, monkeypatch, *arguments)[2][-2:] == ["where vehicles run", "trips that are added"]
+    arguments = ["access", "--scenario", "cut", "--base", "cut", "--edits", cut]
+    assert figure(town, monkeypatch, *arguments)[2][-1] == "trips that are taken out"
 
 
 def test_kilometres_are_those_on_the_ground_and_the_date_line_is_no_edge() -> None:
@@ -114,8 +114,8 @@ def test_kilometres_are_those_on_the_ground_and_the_date_line_is_no_edge() -> No
 def test_a_png_file_as_wide_as_asked(town: Town) -> None:
     town.matrix(town_matrix(True))
     out = town.path("map.png")
-    words = ["map", "times", "--origin", "A", "--feed", town.feed, "--width", "640", "--out", out, town.file]
-    assert town.ran(*words) == ("", "", 0)
+    arguments = ["map", "times", "--origin", "A", "--feed", town.feed, "--width", "640", "--out", out, town.file]
+    assert town.ran(*arguments) == ("", "", 0)
     head = Path(out).read_bytes()[:24]
     assert (head[:8], int.from_bytes(head[16:20], "big")) == (b"\x89PNG\r\n\x1a\n", 640)
 
@@ -124,8 +124,8 @@ def test_names_with_dollars_are_text(town: Town) -> None:
     places = [["A", "$x^$ & $", 0, 9], ["B", "$", 0, 9.1], ["C", "\\alpha$", 1, 9], ["D", "{$}", 1, 9.1]]
     town.write("stops.txt", "stop_id,stop_name,stop_lat,stop_lon", places)
     town.matrix(town_matrix(True))
-    for words in (["times", "--origin", "A"], ["difference"], ["difference", "--origin", "A", "--title", "$^$"]):
-        assert town.ran("map", *words, "--feed", town.feed, "--out", town.path("m.png"), town.file) == ("", "", 0)
+    for arguments in (["times", "--origin", "A"], ["difference"], ["difference", "--origin", "A", "--title", "$^$"]):
+        assert town.ran("map", *arguments, "--feed", town.feed, "--out", town.path("m.png"), town.file) == ("", "", 0)
 
 
 def test_a_stop_without_coordinates_is_counted(town: Town) -> None:
@@ -133,20 +133,20 @@ def test_a_stop_without_coordinates_is_counted(town: Town) -> None:
     town.write("stops.txt", "stop_id,stop_lat,stop_lon", places)
     town.matrix(town_matrix(True))
     out = town.path("map.png")
-    told = town.ran("map", "times", "--origin", "A", "--feed", town.feed, "--out", out, town.file)[1]
-    assert told == "3 stops have no stop_lat and stop_lon and are not drawn\n"
+    errors = town.ran("map", "times", "--origin", "A", "--feed", town.feed, "--out", out, town.file)[1]
+    assert errors == "3 stops have no stop_lat and stop_lon and are not drawn\n"
 
 
 def test_faults_name_the_file_and_the_record(town: Town) -> None:
-    def refused(told: str, *more: str) -> None:
-        town.refused(told, "map", "times", "--feed", town.feed, "--out", town.path("m.png"), *more, town.file)
+    def refused(message: str, *more: str) -> None:
+        town.refused(message, "map", "times", "--feed", town.feed, "--out", town.path("m.png"), *more, town.file)
 
     town.matrix(town_matrix(True))
     refused(f"{town.feed}/stops.txt: no stop Z", "--origin", "Z")
     refused(f"{town.file}: B is no origin of the scenario base", "--origin", "B")
     town.matrix(town_matrix(True, shares=(25, 50)))
-    told = f"{town.file}: it has lines of the shares 25, 50: name one by --share"
-    refused(told, "--origin", "A")
+    message = f"{town.file}: it has lines of the shares 25, 50: name one by --share"
+    refused(message, "--origin", "A")
     town.matrix(town_matrix(False))
     refused(f"{town.file}: no scenario late; it has base, cut", "--origin", "A", "--scenario", "late")
     header = "shape_id,shape_pt_sequence,shape_pt_lat,shape_pt_lon"
@@ -156,24 +156,24 @@ def test_faults_name_the_file_and_the_record(town: Town) -> None:
     town.write("shapes.txt", header, [])
     refused(f"{cut}: record 2: Z isn't in trips.txt", "--origin", "A", "--edits", cut)
     town.write("stops.txt", "stop_id", [["A"], ["B"], ["C"], ["D"]])
-    told = f"{town.feed}/stops.txt: no stop has stop_lat and stop_lon, so there is nothing to draw"
-    refused(told, "--origin", "A")
+    message = f"{town.feed}/stops.txt: no stop has stop_lat and stop_lon, so there is nothing to draw"
+    refused(message, "--origin", "A")
 
 
 def test_points_for_a_geographic_information_system(town: Town) -> None:
     town.matrix(town_matrix(True))
     out = town.path("town.geojson")
-    told = f"{out}: 4 stops; 0 have no coordinates\n"
-    assert town.ran("gis", "--feed", town.feed, "--origin", "A", "--out", out, town.file) == ("", told, 0)
-    made = json.loads(Path(out).read_text())
-    assert made["features"][1]["geometry"] == {"type": "Point", "coordinates": [9.01, 0.0]}
+    message = f"{out}: 4 stops; 0 have no coordinates\n"
+    assert town.ran("gis", "--feed", town.feed, "--origin", "A", "--out", out, town.file) == ("", message, 0)
+    result = json.loads(Path(out).read_text())
+    assert result["features"][1]["geometry"] == {"type": "Point", "coordinates": [9.01, 0.0]}
     names: dict[str, Any] = {"stop_id": "B", "stop_name": 'Béta, "the" square'}
     columns = {"base_50_access_1800": None, "base_50_seconds": 300, "cut_50_access_1800": None, "cut_50_seconds": 360}
-    assert made["features"][1]["properties"] == {**names, **columns}
-    assert made["features"][3]["properties"]["cut_50_access_1800"] == 4
-    assert made["features"][3]["properties"]["cut_50_seconds"] is None
-    told = f"{town.file}: B is no origin of the scenario base"
-    town.refused(told, "gis", "--feed", town.feed, "--origin", "B", "--out", town.path("b.json"), town.file)
+    assert result["features"][1]["properties"] == {**names, **columns}
+    assert result["features"][3]["properties"]["cut_50_access_1800"] == 4
+    assert result["features"][3]["properties"]["cut_50_seconds"] is None
+    message = f"{town.file}: B is no origin of the scenario base"
+    town.refused(message, "gis", "--feed", town.feed, "--origin", "B", "--out", town.path("b.json"), town.file)
 
 
 def test_a_geopackage_has_the_same_points(town: Town) -> None:
@@ -181,15 +181,15 @@ def test_a_geopackage_has_the_same_points(town: Town) -> None:
     town.write("stops.txt", "stop_id,stop_lat,stop_lon", [["A", 1, 9], ["B", 2, 8], ["C", 0, 0], ["D", 1, 7]])
     town.matrix(town_matrix(False))
     out = town.path("town.gpkg")
-    told = f"{out}: 3 stops; 1 have no coordinates\n"
+    message = f"{out}: 3 stops; 1 have no coordinates\n"
     before = town.names()
     ran = town.ran("gis", "--feed", town.feed, "--scenario", "cut", "--origin", "A", "--out", out, town.file)
-    assert ran == ("", told, 0)
+    assert ran == ("", message, 0)
     assert town.names() == before | {"town.gpkg"}
-    made = geopandas.read_file(out)
-    assert (list(made.stop_id), [point.x for point in made.geometry]) == (["A", "B", "D"], [9, 8, 7])
-    assert made.cut_access.fillna(-1).tolist() == [2, -1, 4]
-    assert made.cut_seconds.fillna(-1).tolist() == [0, 360, -1]
+    result = geopandas.read_file(out)
+    assert (list(result.stop_id), [point.x for point in result.geometry]) == (["A", "B", "D"], [9, 8, 7])
+    assert result.cut_access.fillna(-1).tolist() == [2, -1, 4]
+    assert result.cut_seconds.fillna(-1).tolist() == [0, 360, -1]
 
 
 def test_each_command_takes_the_matrix_of_the_program(town: Town, program: str) -> None:
@@ -199,8 +199,10 @@ def test_each_command_takes_the_matrix_of_the_program(town: Town, program: str) 
     times += [["U", *[f"08:{number}5:00"] * 2, stop, number] for number, stop in enumerate("CBAD")]
     town.write("stop_times.txt", STOP_TIMES, times)
     cut = town.write("cut.csv", "action,id,seconds", [["remove_route", "Q", ""]])
-    words = f"--feed {town.feed} --date 20260504 --from 08:00 --to 08:00 --trips 2 --walk 0 --workers 1 --tries 1 {cut}"
-    town.take(program, f"{words} --share 50 --within 1800")
+    arguments = (
+        f"--feed {town.feed} --date 20260504 --from 08:00 --to 08:00 --trips 2 --walk 0 --workers 1 --tries 1 {cut}"
+    )
+    town.take(program, f"{arguments} --share 50 --within 1800")
     rows = read(town.ran("compare", town.file)[0])
     lost = [("A", "D"), ("B", "A"), ("B", "D"), ("C", "A"), ("C", "B"), ("C", "D")]
     assert [(row["origin"], row["destination"], row["what"]) for row in rows] == [(*ends, "cut off") for ends in lost]
@@ -208,21 +210,21 @@ def test_each_command_takes_the_matrix_of_the_program(town: Town, program: str) 
     out = ["--feed", town.feed, "--out", town.path("map.png"), town.file]
     for picture in (["times", "--origin", "A"], ["access"], ["difference"], ["difference", "--origin", "A"]):
         assert town.ran("map", *picture, *out) == ("", "", 0)
-    town.take(program, f"{words} --share 25,50,100 --within 600,1800")
-    told = f"{town.file}: it has lines of the shares 25, 50, 100: name one by --share"
-    town.refused(told, "compare", town.file)
-    town.refused(told, "map", "times", "--origin", "A", *out)
-    told = f"{town.file}: it has access within 600, 1800 seconds: name one by --within"
-    town.refused(told, "compare", "--by", "origin", "--share", "50", town.file)
+    town.take(program, f"{arguments} --share 25,50,100 --within 600,1800")
+    message = f"{town.file}: it has lines of the shares 25, 50, 100: name one by --share"
+    town.refused(message, "compare", town.file)
+    town.refused(message, "map", "times", "--origin", "A", *out)
+    message = f"{town.file}: it has access within 600, 1800 seconds: name one by --within"
+    town.refused(message, "compare", "--by", "origin", "--share", "50", town.file)
     again = read(town.ran("compare", "--share", "50", town.file)[0])
     assert [(row["origin"], row["destination"]) for row in again] == lost
-    asked = (
+    options = (
         ["--reached"],
         ["--reached", "--share", "100"],
         ["--access"],
         ["--access", "--share", "25", "--within", "600"],
     )
-    counts = [town.ran("long", *more, town.file)[0].count("\n") for more in asked]
+    counts = [town.ran("long", *more, town.file)[0].count("\n") for more in options]
     assert counts == [1 + 3 * (13 + 7), 1 + 13 + 7, 1 + 2 * 3 * 8, 1 + 8]
     assert town.ran("map", "difference", "--share", "100", "--within", "600", *out) == ("", "", 0)
 
@@ -254,12 +256,12 @@ def test_new_lines_of_a_plan_are_drawn_as_added_and_others_as_changed(
     drawn: list[tuple[str, int]] = []
     monkeypatch.setattr(drawing, "draw_lines", lambda _, lines, __: drawn.append((lines.label, len(lines.pieces))))
     changes = [("trips that are changed", 1), ("trips that are taken out", 1), ("trips that are added", 1)]
-    for words, lines in (
+    for arguments, lines in (
         (["difference"], [("where vehicles run", 4), *changes]),  # A-B, B-C, A-C and A-D; A-B, B-C, A-D
         (["difference", "--base", "base", "--scenario", "more"], [("where vehicles run", 5)]),  # P's D-B too
         (["times", "--origin", "A", "--scenario", "more"], [("where vehicles run", 3), changes[-1]]),
         (["access"], [("where vehicles run", 3)]),
     ):
         drawn.clear()
-        figure(town, monkeypatch, *words)
+        figure(town, monkeypatch, *arguments)
         assert drawn == lines

@@ -11,7 +11,7 @@ import pytest
 from helpers import TOWN, Cell, Town, town_matrix
 from ttm_tools.faults import BadInput
 from ttm_tools.matrices import Matrix, layout_of, open_matrix, pair_of, write_open_matrix
-from ttm_tools.matrices.layout import Layout
+from ttm_tools.matrices.layout import MatrixLayout
 from ttm_tools.matrices.lines import MOST, head_of, seconds_of
 from ttm_tools.threads import in_order
 
@@ -29,17 +29,17 @@ def whole(matrix: Matrix) -> list[Any]:
     return said
 
 
-def refused(town: Town, text: str, told: str, use: Callable[[Matrix], Any] = whole) -> None:
+def refused(town: Town, text: str, message: str, use: Callable[[Matrix], Any] = whole) -> None:
     with pytest.raises(BadInput) as seen:
         use(open_matrix(town.matrix(text)))
-    assert str(seen.value) == f"{town.file}: {told}"
+    assert str(seen.value) == f"{town.file}: {message}"
 
 
 def test_the_header_alone_tells_the_form() -> None:
-    assert layout_of("scenario,origin,access,A,B".split(",")) == Layout(False, (None,), ["A", "B"])
+    assert layout_of("scenario,origin,access,A,B".split(",")) == MatrixLayout(False, (None,), ["A", "B"])
     second = layout_of("scenario,origin,share,access_900,access_1800,A".split(","))
-    assert second == Layout(True, (900, 1800), ["A"])
-    assert layout_of(["scenario", "origin", "access"]) == Layout(False, (None,), [])
+    assert second == MatrixLayout(True, (900, 1800), ["A"])
+    assert layout_of(["scenario", "origin", "access"]) == MatrixLayout(False, (None,), [])
     for header in (
         "",
         "scenario,origin",
@@ -73,12 +73,12 @@ def test_both_forms_give_the_same_rows(town: Town, second_form: bool) -> None:
 
 def test_of_several_shares_and_limits_one_must_be_named(town: Town) -> None:
     text = town_matrix(True, shares=(25, 50), limits=(900, 1800))
-    refused(town, text, "it has lines of the shares 25, 50: name one by --share", lambda it: it.share(None))
-    refused(town, text, "no line of the share 90; it has 25, 50", lambda it: it.share(90))
-    told = "it has access within 900, 1800 seconds: name one by --within"
-    refused(town, text, told, lambda it: it.limit(None))
-    refused(town, text, "no access within 60 seconds, but within 900, 1800", lambda it: it.limit(60))
-    refused(town, town_matrix(False), "it names no share; leave --share out", lambda it: it.share(50))
+    refused(town, text, "it has lines of the shares 25, 50: name one by --share", lambda item: item.share(None))
+    refused(town, text, "no line of the share 90; it has 25, 50", lambda item: item.share(90))
+    message = "it has access within 900, 1800 seconds: name one by --within"
+    refused(town, text, message, lambda item: item.limit(None))
+    refused(town, text, "no access within 60 seconds, but within 900, 1800", lambda item: item.limit(60))
+    refused(town, town_matrix(False), "it names no share; leave --share out", lambda item: item.share(50))
     matrix = open_matrix(town.matrix(text))
     place = matrix.limit(900)[0]
     assert [matrix.access(name, 25)[:, place].tolist() for name in matrix.scenarios] == [[3, 3], [2, 4]]
@@ -87,12 +87,12 @@ def test_of_several_shares_and_limits_one_must_be_named(town: Town) -> None:
 
 def test_two_scenarios_of_several(town: Town) -> None:
     three = {**TOWN, "late": TOWN["cut"]}
-    told = "it has the scenarios cut and late besides base: name one by --scenario"
-    refused(town, town_matrix(True, three), told, lambda it: pair_of(it, "base", None, None))
-    told = "no scenario late; it has base, cut"
-    refused(town, town_matrix(True), told, lambda it: pair_of(it, "base", "late", None))
+    message = "it has the scenarios cut and late besides base: name one by --scenario"
+    refused(town, town_matrix(True, three), message, lambda item: pair_of(item, "base", None, None))
+    message = "no scenario late; it has base, cut"
+    refused(town, town_matrix(True), message, lambda item: pair_of(item, "base", "late", None))
     alone = town_matrix(True, {"base": TOWN["base"]})
-    refused(town, alone, "no scenario other than base; it has base", lambda it: pair_of(it, "base", None, None))
+    refused(town, alone, "no scenario other than base; it has base", lambda item: pair_of(item, "base", None, None))
     pair = pair_of(open_matrix(town.matrix(town_matrix(False, three))), "cut", "late", None)
     ((begin, before, after),) = pair.blocks()
     assert (pair.other, begin, pair.origins, pair.lacking) == ("late", 0, ["A", "D"], None)
@@ -111,8 +111,8 @@ def test_origins_in_another_order_are_put_together(town: Town) -> None:
 @BOTH_FORMS
 def test_what_is_no_matrix_is_told_by_its_record(town: Town, second_form: bool) -> None:
     text = town_matrix(second_form)
-    told = f"record 4: {6 + second_form} fields, and the header has {7 + second_form}"
-    refused(town, text.replace("1900,\n", "1900\n"), told)
+    message = f"record 4: {6 + second_form} fields, and the header has {7 + second_form}"
+    refused(town, text.replace("1900,\n", "1900\n"), message)
     allowed = f"is no travel time; allowed: whole seconds up to {MOST}, or nothing"
     for bad in ("3oo", "-3", "3.5", " 3", "16777216", "4294967297", "12345678901234567890"):
         refused(town, text.replace(",300,", f",{bad},"), f"record 2: B {bad!r} {allowed}")
@@ -124,9 +124,9 @@ def test_what_is_no_matrix_is_told_by_its_record(town: Town, second_form: bool) 
 
 
 def test_what_is_no_matrix_at_all_is_told(town: Town) -> None:
-    told = "not a matrix: it begins neither with scenario,origin,access nor with scenario,origin,share,access_.."
-    refused(town, "", f"record 1: {told}")
-    refused(town, "stop_id\nA\n", f"record 1: {told}")
+    message = "not a matrix: it begins neither with scenario,origin,access nor with scenario,origin,share,access_.."
+    refused(town, "", f"record 1: {message}")
+    refused(town, "stop_id\nA\n", f"record 1: {message}")
     refused(town, "scenario,origin,access,A\n", "no rows")
     with pytest.raises(BadInput, match="none.csv: No such file or directory"):
         open_matrix(town.path("none.csv"))
@@ -177,9 +177,9 @@ def test_an_open_matrix_file_has_the_form_of_its_format(town: Town) -> None:
         assert file["lookup/origin"][:].tolist() == [b"A", b"D"]
         assert file["lookup/destination"][:].tolist() == [b"A", b"B", b"C", b"D"]
         assert file["lookup/origin_number"][:].tolist() == [1, 2]
-        lookups = [(name, int(it.attrs["DIM"])) for name, it in file["lookup"].items()]
+        lookups = [(name, int(item.attrs["DIM"])) for name, item in file["lookup"].items()]
         assert lookups == [("origin_number", 0), ("destination_number", 1), ("origin", 0), ("destination", 1)]
-        assert all(np.isnan(it.attrs["NA"]) for it in file["data"].values())
+        assert all(np.isnan(item.attrs["NA"]) for item in file["data"].values())
         assert file["access/cut_50"][:].tolist() == [[2, 2], [2, 4]]
 
 
@@ -200,19 +200,19 @@ def test_a_matrix_that_lacks_origins_of_the_study_is_told(town: Town) -> None:
     pytest.importorskip("h5py")
     origins = town.write("origins.csv", "stop_id", [["A"], ["B"], ["D"]])
     town.matrix(town_matrix(True))
-    words = ["omx", "--origins", origins, "--out", town.path("town.omx"), town.file]
-    town.refused(f"{town.file}: scenario base, share 50: lacks 1 of 3 origins of {origins}: B", *words)
+    arguments = ["omx", "--origins", origins, "--out", town.path("town.omx"), town.file]
+    town.refused(f"{town.file}: scenario base, share 50: lacks 1 of 3 origins of {origins}: B", *arguments)
     town.write("origins.csv", "stop_id", [["D"], ["A"]])
-    town.refused(f"{town.file}: scenario base, share 50: other origins than {origins}", *words)
+    town.refused(f"{town.file}: scenario base, share 50: other origins than {origins}", *arguments)
     town.write("origins.csv", "stop_id", [["A"], ["D"]])
-    assert town.ran(*words) == ("", "", 0)
+    assert town.ran(*arguments) == ("", "", 0)
 
 
 def test_an_open_matrix_file_wants_one_list_of_origins(town: Town) -> None:
     pytest.importorskip("h5py")
     town.matrix(town_matrix(True, {"base": TOWN["base"], "cut": {"A": TOWN["cut"]["A"]}}))
-    told = "an Open Matrix file has one list of origins: 1 of 2 origins of base aren't in cut, share 50: D"
-    town.refused(f"{town.file}: {told}", "omx", "--out", town.path("town.omx"), town.file)
+    message = "an Open Matrix file has one list of origins: 1 of 2 origins of base aren't in cut, share 50: D"
+    town.refused(f"{town.file}: {message}", "omx", "--out", town.path("town.omx"), town.file)
     Path(town.path("town.omx")).write_bytes(b"\x89HDF\r\n\x1a\n" + bytes(100))
     with pytest.raises(BadInput, match="town.omx: no whole HDF5 file"):
         open_matrix(town.path("town.omx"))

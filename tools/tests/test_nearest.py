@@ -18,14 +18,14 @@ def small(town: Town) -> Town:
     town.write("people.csv", "stop_id,residents", [["A", 100], ["B", 200], ["C", 100]])
     kinds: dict[str, list[str]] = {"schools": ["--nearest", "1"], "jobs": []}
     for name, more in kinds.items():
-        words = ["--opportunities", town.path(f"{name}.csv"), *more, "--out", town.path(f"{name}_access.csv")]
-        assert town.ran("access", *words, town.file)[2] == 0
+        arguments = ["--opportunities", town.path(f"{name}.csv"), *more, "--out", town.path(f"{name}_access.csv")]
+        assert town.ran("access", *arguments, town.file)[2] == 0
     return town
 
 
-def people_of(small: Town, command: str, name: str, *words: str) -> str:
-    out, told, status = small.ran(command, small.path(name), "--people", small.path("people.csv"), *words)
-    assert (told, status) == ("", 0)
+def people_of(small: Town, command: str, name: str, *arguments: str) -> str:
+    out, errors, status = small.ran(command, small.path(name), "--people", small.path("people.csv"), *arguments)
+    assert (errors, status) == ("", 0)
     return out
 
 
@@ -43,12 +43,12 @@ def test_a_loser_of_the_nearest_needs_so_many_percent_longer(town: Town) -> None
     heads = "scenario,id,opportunity,percentile,nearest,seconds"
     path = town.write("access.csv", heads, [*table, ["cut", "B", "s", 50, 1, 60]])
     people = town.write("people.csv", "id,all", [["A", 3], ["B", 1]])
-    words = ["equity", path, "--people", people]
-    assert [row["losers_percent"] for row in read(town.ran(*words)[0])] == ["0", "75"]
-    assert [row["losers_percent"] for row in read(town.ran(*words, "--lose", "10.1")[0])] == ["0", "0"]
-    assert [row["losers_percent"] for row in read(town.ran(*words, "--base", "cut")[0])] == ["25", "0"]
-    told = "of times to the nearest ttm-tools bands draws a picture"
-    town.refused(f"{path}: {told}", *words, "--picture", town.path("p.png"), "--out", town.path("o.csv"))
+    arguments = ["equity", path, "--people", people]
+    assert [row["losers_percent"] for row in read(town.ran(*arguments)[0])] == ["0", "75"]
+    assert [row["losers_percent"] for row in read(town.ran(*arguments, "--lose", "10.1")[0])] == ["0", "0"]
+    assert [row["losers_percent"] for row in read(town.ran(*arguments, "--base", "cut")[0])] == ["25", "0"]
+    message = "of times to the nearest ttm-tools bands draws a picture"
+    town.refused(f"{path}: {message}", *arguments, "--picture", town.path("p.png"), "--out", town.path("o.csv"))
 
 
 def test_people_by_band_of_access(small: Town) -> None:
@@ -65,9 +65,9 @@ def test_people_by_band_of_access(small: Town) -> None:
 def test_people_by_band_of_the_nearest(small: Town) -> None:
     out = people_of(small, "bands", "schools_access.csv", "--bands", "0,29.9,30")
     assert out.splitlines()[0] == "opportunity,percentile,nearest,group,scenario,within_minutes,people,percent"
-    made = [(row["scenario"], row["within_minutes"], row["people"], row["percent"]) for row in read(out)]
-    assert made[:3] == [("base", "0", "100", "25"), ("base", "29.9", "100", "25"), ("base", "30", "400", "100")]
-    assert made[3:] == [("cut", limit, "100", "25") for limit in ("0", "29.9", "30")]
+    result = [(row["scenario"], row["within_minutes"], row["people"], row["percent"]) for row in read(out)]
+    assert result[:3] == [("base", "0", "100", "25"), ("base", "29.9", "100", "25"), ("base", "30", "400", "100")]
+    assert result[3:] == [("cut", limit, "100", "25") for limit in ("0", "29.9", "30")]
 
 
 def test_bars_are_stacked_to_all_people(small: Town, monkeypatch: pytest.MonkeyPatch) -> None:
@@ -78,11 +78,11 @@ def test_bars_are_stacked_to_all_people(small: Town, monkeypatch: pytest.MonkeyP
     monkeypatch.setattr(Figure, "savefig", lambda figure, *_, **__: figures.append(figure))
     for name, bands in (("jobs_access.csv", "10,11"), ("schools_access.csv", "29,30")):
         people_of(small, "bands", name, "--bands", bands, "--picture", small.path("b.png"), "--out", small.path("o"))
-    for made, labels, widths in (
+    for result, labels, widths in (
         (figures[0], ["11 jobs or more", "10 to 11", "less than 10"], [75, 0, 25, 0, 75, 25]),
         (figures[1], ["up to 29 min", "29 to 30 min", "more than 30 min, or not at all"], [25, 75, 0, 25, 0, 75]),
     ):
-        (axes,) = made.axes
+        (axes,) = result.axes
         assert [text.get_text() for text in axes.get_legend().get_texts()] == labels
         assert [round(bar.get_width()) for bar in axes.patches] == widths
         assert [tick.get_text() for tick in axes.get_yticklabels()] == ["residents, base", "residents, cut"]
@@ -92,35 +92,35 @@ def test_a_map_of_the_nearest(small: Town, monkeypatch: pytest.MonkeyPatch) -> N
     pytest.importorskip("matplotlib")
     from test_maps import figure
 
-    words = ["--opportunities", small.path("schools.csv")]
-    texts, key, classes = figure(small, monkeypatch, "nearest", *words)
-    told = "From 3 of 3 stops so many are reached, from half of these within 30 minutes"
-    assert texts[:2] == ["Travel time to the nearest schools", told] and key.startswith("Travel time in minutes")
+    arguments = ["--opportunities", small.path("schools.csv")]
+    texts, key, classes = figure(small, monkeypatch, "nearest", *arguments)
+    message = "From 3 of 3 stops so many are reached, from half of these within 30 minutes"
+    assert texts[:2] == ["Travel time to the nearest schools", message] and key.startswith("Travel time in minutes")
     assert classes[:2] == ["up to 10  (1)", "20 to 30  (2)"]
-    texts, _, classes = figure(small, monkeypatch, "difference", "--nearest", "1", *words)
+    texts, _, classes = figure(small, monkeypatch, "difference", "--nearest", "1", *arguments)
     assert texts[0] == "Travel time to the nearest schools: cut compared with base"
     assert texts[1] == "Of 3 stops 2 are cut off, 0 slower, 0 faster"
     assert classes[:2] == ["cut off: not reached now  (2)", "less than 1 min either way  (1)"]
     texts, *_ = figure(small, monkeypatch, "nearest", "--nearest", "11", "--opportunities", small.path("jobs.csv"))
-    assert texts[:2] == ["Travel time to the 11 nearest jobs", told.replace("3 of 3", "2 of 3")]
+    assert texts[:2] == ["Travel time to the 11 nearest jobs", message.replace("3 of 3", "2 of 3")]
 
 
 def test_a_map_of_the_nearest_needs_to_know_of_what(small: Town) -> None:
     common = ["--feed", small.feed, "--out", small.path("m.png"), small.file]
-    for words in (["nearest"], ["times", "--origin", "A", "--nearest", "1", "--opportunities", "x"]):
-        assert small.ran("map", *words, *common)[2] == 2
+    for arguments in (["nearest"], ["times", "--origin", "A", "--nearest", "1", "--opportunities", "x"]):
+        assert small.ran("map", *arguments, *common)[2] == 2
     both = small.write("both.csv", "stop_id,schools,jobs", [["C", 1, 1]])
-    told = f"{both}: it has the columns schools, jobs: name one by --column"
-    small.refused(told, "map", "nearest", "--opportunities", both, *common)
+    message = f"{both}: it has the columns schools, jobs: name one by --column"
+    small.refused(message, "map", "nearest", "--opportunities", both, *common)
 
 
 def test_gis_has_columns_of_the_nearest(small: Town) -> None:
-    out, words = small.path("a.geojson"), ["--opportunities", small.path("jobs.csv"), "--nearest", "1,11"]
-    assert small.ran("gis", "--feed", small.feed, *words, "--scenario", "base", "--out", out, small.file)[2] == 0
-    made = [it["properties"] for it in json.loads(Path(out).read_text())["features"]]
-    assert [(it["stop_id"], it["base_50_jobs_nearest_1"], it["base_50_jobs_nearest_11"]) for it in made] == [
+    out, arguments = small.path("a.geojson"), ["--opportunities", small.path("jobs.csv"), "--nearest", "1,11"]
+    assert small.ran("gis", "--feed", small.feed, *arguments, "--scenario", "base", "--out", out, small.file)[2] == 0
+    result = [feature["properties"] for feature in json.loads(Path(out).read_text())["features"]]
+    assert [(item["stop_id"], item["base_50_jobs_nearest_1"], item["base_50_jobs_nearest_11"]) for item in result] == [
         ("A", 600, 1800),
         ("B", 0, 1800),
         ("C", 0, None),
     ]
-    assert small.ran("gis", "--feed", small.feed, *words[:2], "--out", out, small.file)[2] == 2
+    assert small.ran("gis", "--feed", small.feed, *arguments[:2], "--out", out, small.file)[2] == 2

@@ -6,7 +6,6 @@ import signal
 import subprocess
 import sys
 import threading
-import time
 from concurrent.futures import ThreadPoolExecutor
 from pathlib import Path
 from typing import Any
@@ -16,7 +15,7 @@ import pytest
 
 import ttm_tools
 from asking import canned
-from helpers import CALENDAR, STOP_TIMES, Room
+from helpers import CALENDAR, LONGEST_WAIT, STOP_TIMES, Room, wait_until
 from ttm_tools.faults import WrongWords
 
 EIGHT, NINE = ("08:00", "08:00"), ("09:00", "09:00")
@@ -39,12 +38,8 @@ def is_there(process: int) -> bool:
     return True
 
 
-def wait_until_gone(process: int) -> bool:
-    for _ in range(100):
-        if not is_there(process):
-            return True
-        time.sleep(0.05)
-    return False
+def wait_until_gone(process: int) -> None:
+    wait_until(lambda: not is_there(process))
 
 
 def test_one_process_answers_question_after_question(room: Room) -> None:
@@ -56,9 +51,9 @@ def test_one_process_answers_question_after_question(room: Room) -> None:
 def test_a_fault_of_a_question_is_raised_and_the_next_is_answered_by_the_same_process(room: Room) -> None:
     with canned_network(room) as network:
         process = cell(network, EIGHT, "process")
-        with pytest.raises(ttm_tools.EngineFault) as told:
+        with pytest.raises(ttm_tools.EngineFault) as raised:
             network.matrix(EIGHT, origins=["fault"])
-        assert (told.value.file, told.value.record, told.value.ended) == ("origins", 2, 2)
+        assert (raised.value.file, raised.value.record, raised.value.ended) == ("origins", 2, 2)
         assert cell(network, EIGHT, "process") == process
 
 
@@ -76,10 +71,10 @@ def test_a_process_that_dies_says_its_last_line_and_the_next_question_begins_ano
 ) -> None:
     with canned_network(room) as network:
         process = cell(network, EIGHT, "process")
-        with pytest.raises(ttm_tools.EngineFault) as told:
+        with pytest.raises(ttm_tools.EngineFault) as raised:
             network.matrix(EIGHT, origins=[origin])
-        assert (told.value.line, told.value.ended) == (line, ended)
-        assert wait_until_gone(int(process))
+        assert (raised.value.line, raised.value.ended) == (line, ended)
+        wait_until_gone(int(process))
         assert cell(network, EIGHT, "process") != process
         assert cell(network, NINE) == 540
 
@@ -96,9 +91,9 @@ def test_a_process_that_is_killed_between_questions_is_told_and_replaced(room: R
 def test_what_is_wrong_with_the_network_is_raised_by_each_question(room: Room) -> None:
     with canned_network(room, walk=7) as network:
         for _ in range(2):
-            with pytest.raises(ttm_tools.EngineFault) as told:
+            with pytest.raises(ttm_tools.EngineFault) as raised:
                 network.matrix(EIGHT)
-            assert (told.value.line, told.value.ended, told.value.option) == ("ttm: bad walk", 2, "--walk")
+            assert (raised.value.line, raised.value.ended, raised.value.option) == ("ttm: bad walk", 2, "--walk")
 
 
 def test_threads_get_their_own_answers(room: Room) -> None:
@@ -112,11 +107,14 @@ def test_threads_get_their_own_answers(room: Room) -> None:
 
 
 def test_several_processes_answer_at_the_same_time(room: Room) -> None:
-    with canned_network(room, workers=4) as network, ThreadPoolExecutor(4) as pool:
-        list(pool.map(lambda _: cell(network, EIGHT, "slow"), range(4)))  # all have begun
-        begun = time.monotonic()
-        list(pool.map(lambda _: cell(network, EIGHT, "slow"), range(4)))
-        assert time.monotonic() - begun < 0.6  # one after the other they take 0.8
+    """Each waits for the others: asked one after another, the first would never answer."""
+    network, pool = canned_network(room, workers=4), ThreadPoolExecutor(4)
+    try:
+        answers = [pool.submit(cell, network, EIGHT, "meet") for _ in range(4)]
+        assert [answer.result(LONGEST_WAIT) for answer in answers] == [0] * 4
+    finally:
+        network.close()  # ends those that still wait
+        pool.shutdown()
 
 
 def test_a_closed_network_is_refused_and_leaves_nothing(room: Room) -> None:
@@ -125,27 +123,27 @@ def test_a_closed_network_is_refused_and_leaves_nothing(room: Room) -> None:
     assert folder.is_dir() and list(folder.iterdir()) == []
     network.close()
     network.close()
-    assert wait_until_gone(process) and not folder.exists()
+    wait_until_gone(process)
+    assert not folder.exists()
     with pytest.raises(WrongWords, match="the network is closed"):
         network.matrix(EIGHT)
 
 
 def test_closing_ends_a_question_that_is_being_answered(room: Room) -> None:
-    network, told = canned_network(room), list[BaseException]()
+    network, printed = canned_network(room), list[BaseException]()
 
     def ask() -> None:
         try:
-            for _ in range(100):
-                cell(network, EIGHT, "slow")
+            cell(network, EIGHT, "wait")
         except WrongWords as fault:
-            told.append(fault)
+            printed.append(fault)
 
     thread = threading.Thread(target=ask)
     thread.start()
-    time.sleep(0.3)
+    wait_until((room.folder / "asked").exists)
     network.close()
-    thread.join(10)
-    assert len(told) == 1 and not thread.is_alive()
+    thread.join(LONGEST_WAIT)
+    assert len(printed) == 1 and not thread.is_alive()
 
 
 def test_a_network_that_nobody_holds_ends(room: Room) -> None:
@@ -153,7 +151,7 @@ def test_a_network_that_nobody_holds_ends(room: Room) -> None:
     process = int(cell(network, EIGHT, "process"))
     del network
     gc.collect()
-    assert wait_until_gone(process)
+    wait_until_gone(process)
 
 
 def test_a_network_ends_with_the_interpreter(room: Room) -> None:
@@ -163,13 +161,14 @@ def test_a_network_ends_with_the_interpreter(room: Room) -> None:
     )
     canned(room.folder)
     path = os.pathsep.join(sys.path)
-    words = [sys.executable, "-c", text]
+    arguments = [sys.executable, "-c", text]
     ran = subprocess.run(
-        words, cwd=room.folder, env={**os.environ, "PYTHONPATH": path}, capture_output=True, timeout=30
+        arguments, cwd=room.folder, env={**os.environ, "PYTHONPATH": path}, capture_output=True, timeout=LONGEST_WAIT
     )
     process, folder = ran.stdout.decode().split()
     assert (ran.returncode, ran.stderr) == (0, b"")
-    assert wait_until_gone(int(process)) and not Path(folder).exists()
+    wait_until_gone(int(process))
+    assert not Path(folder).exists()
 
 
 def test_a_fork_asks_a_process_of_its_own_and_leaves_its_parents_alone(room: Room) -> None:
@@ -225,7 +224,7 @@ FAULTS: list[dict[str, Any]] = [{"origins": ["X"]}, {"origins": "nothing.csv"}, 
 
 def processes(network: ttm_tools.Network) -> list[int]:
     """Those that keep the network."""
-    return [it.process.pid for it in network.processes.running]
+    return [item.process.pid for item in network.processes.running]
 
 
 def test_the_program_reads_the_network_once(room: Room, program: str) -> None:
@@ -238,7 +237,7 @@ def test_the_program_reads_the_network_once(room: Room, program: str) -> None:
         for _ in range(3):
             np.testing.assert_array_equal(network.matrix(EIGHT).array("cut"), first.array("cut"))
         assert processes(network) == [process]
-    assert wait_until_gone(process)
+    wait_until_gone(process)
 
 
 @pytest.mark.parametrize("number", [signal.SIGKILL, signal.SIGTERM])
@@ -250,9 +249,9 @@ def test_a_program_that_is_killed_says_so_and_the_next_question_begins_another(
         whole = network.matrix(EIGHT).array()
         (process,) = processes(network)
         os.kill(process, number)
-        with pytest.raises(ttm_tools.EngineFault, match=f"ended by {number.name}") as told:
+        with pytest.raises(ttm_tools.EngineFault, match=f"ended by {number.name}") as raised:
             network.matrix(EIGHT)
-        assert told.value.ended == 128 + number
+        assert raised.value.ended == 128 + number
         np.testing.assert_array_equal(network.matrix(EIGHT).array(), whole)
         assert processes(network) != [process]
 
@@ -307,9 +306,9 @@ def test_faults_of_questions_are_those_of_runs(room: Room, program: str) -> None
             faulty = {name: room.path(value) if value == "nothing.csv" else value for name, value in faulty.items()}
             with pytest.raises(ttm_tools.EngineFault) as run:
                 ttm_tools.matrix(room.folder, "20260504", EIGHT, program=program, **faulty)
-            with pytest.raises(ttm_tools.EngineFault) as asked:
+            with pytest.raises(ttm_tools.EngineFault) as raised:
                 network.matrix(EIGHT, **faulty)
-            assert (asked.value.line, asked.value.ended) == (run.value.line, run.value.ended)
+            assert (raised.value.line, raised.value.ended) == (run.value.line, run.value.ended)
             assert network.matrix(EIGHT, origins=["A"]).array().tolist() == [[0, 600, 1800]]
 
 
@@ -317,7 +316,7 @@ def test_a_feed_that_is_refused_is_told_as_by_a_run(room: Room, program: str) ->
     write_town(room)
     room.write("trips.txt", "route_id,service_id,trip_id", [["R9", "M", "T1"]])
     with ttm_tools.Network(room.folder, "20260504", program=program) as network:
-        with pytest.raises(ttm_tools.EngineFault) as told:
+        with pytest.raises(ttm_tools.EngineFault) as raised:
             network.matrix(EIGHT)
-    assert (told.value.file, told.value.record, told.value.ended) == ("trips.txt", 2, 2)
-    assert told.value.column == "route_id"
+    assert (raised.value.file, raised.value.record, raised.value.ended) == ("trips.txt", 2, 2)
+    assert raised.value.column == "route_id"

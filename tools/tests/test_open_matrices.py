@@ -21,9 +21,9 @@ def replaced(name: str, **how: Any) -> Callable[[Any], None]:
     def damage(file: Any) -> None:
         attributes = dict(file[name].attrs)
         del file[name]
-        made = file.create_dataset(name, **how)
+        data = file.create_dataset(name, **how)
         for key, value in attributes.items():
-            made.attrs[key] = value
+            data.attrs[key] = value
 
     return damage
 
@@ -115,10 +115,10 @@ def test_scenarios_that_differ_by_a_stroke_alone_have_matrices_of_their_own(town
     rows = {"base": TOWN["base"], "a/b": TOWN["cut"], "a_b": TOWN["base"]}
     matrix = open_matrix(town.matrix(town_matrix(True, rows)))
     write_open_matrix(matrix, town.path("made.omx"))
-    made = open_matrix(town.path("made.omx"))
-    assert made.scenarios == ["base", "a/b", "a_b"]
-    for name in made.scenarios:
-        assert made.rows(name, 50, 0, 2).tobytes() == matrix.rows(name, 50, 0, 2).tobytes()
+    result = open_matrix(town.path("made.omx"))
+    assert result.scenarios == ["base", "a/b", "a_b"]
+    for name in result.scenarios:
+        assert result.rows(name, 50, 0, 2).tobytes() == matrix.rows(name, 50, 0, 2).tobytes()
 
 
 def test_bytes_that_are_damaged_are_told(town: Town, whole: Path) -> None:
@@ -129,9 +129,9 @@ def test_bytes_that_are_damaged_are_told(town: Town, whole: Path) -> None:
             some[draw.randrange(8, len(some))] = draw.randrange(256)
         Path(town.path("damaged.omx")).write_bytes(some)
         try:
-            made = open_matrix(town.path("damaged.omx"))
-            for name in made.scenarios:
-                made.rows(name, 50, 0, 2)
-                made.access(name, 50)
+            result = open_matrix(town.path("damaged.omx"))
+            for name in result.scenarios:
+                result.rows(name, 50, 0, 2)
+                result.access(name, 50)
         except BadInput as fault:
             assert str(fault).startswith(town.path("damaged.omx"))

@@ -35,11 +35,11 @@ def zipped(room: Room, files: dict[str, str] = FEED, name: str = "feed.zip", how
     return path
 
 
-def told(room: Room, *words: str, status: int = 1) -> str:
+def told(room: Room, *arguments: str, status: int = 1) -> str:
     """The one line that a command ends with, and which leaves nothing behind."""
     before = room.names()
-    out, said, ended = room.ran(*words)
-    begin = f"ttm-tools {words[0]}: "
+    out, said, ended = room.ran(*arguments)
+    begin = f"ttm-tools {arguments[0]}: "
     assert (out, ended) == ("", status), said
     assert said.count("\n") == 1 and said.startswith(begin) and room.names() == before
     return said.removeprefix(begin).rstrip("\n")
@@ -130,8 +130,8 @@ def test_nested_and_long_texts_of_toml_and_json_are_told(room: Room) -> None:
     deep, long = "[" * 5000, "1" * 5000
     for toml in (f"a = {deep}", f"a = {long}", "a = \x00", "a" * 5_000_000):
         Path(room.path("a.toml")).write_text(toml)
-        for words in (["study"], ["scenarios", "--out", room.path("out"), str(room.folder)]):
-            line = told(room, *words, room.path("a.toml"))
+        for arguments in (["study"], ["scenarios", "--out", room.path("out"), str(room.folder)]):
+            line = told(room, *arguments, room.path("a.toml"))
             assert line.startswith(f"{room.path('a.toml')}: "), line
     for json in (deep, '{"type":' * 5000, f'{{"type": "Polygon", "coordinates": {long}}}', f"[{deep}"):
         Path(room.path("a.geojson")).write_text(json)
@@ -148,17 +148,17 @@ def test_two_equal_columns_are_told(town: Town) -> None:
     points = town.write("cells.csv", "id,lat,lon,people, people", [["p", 0.0, 9.001, 1, 2]])
     twice = town.write("twice.csv", "id,id,lat,lon", [["p", "q", 0.0, 9.001]])
     jobs = town.write("jobs.csv", "stop_id,jobs,jobs", [["A", 1, 2]])
-    for name, path, words in (
+    for name, path, arguments in (
         ("people", points, ["points", "--out", town.path("out"), town.feed, points]),
         ("id", twice, ["points", "--out", town.path("out"), town.feed, twice]),
         ("jobs", jobs, ["access", "--opportunities", jobs, town.file]),
         ("jobs", jobs, ["equity", access, "--people", jobs]),
         ("jobs", jobs, ["page", "--feed", town.feed, "--people", jobs, "--out", town.path("out"), town.file]),
     ):
-        assert told(town, *words) == f"{path}: record 1: two columns {name}"
+        assert told(town, *arguments) == f"{path}: record 1: two columns {name}"
     town.matrix(town_matrix(True, stops=("A", "B", "C", "C")))
-    words = ["omx", "--out", town.path("out.omx"), town.file]
-    assert told(town, *words) == f"{town.file}: 'C' destination 4 is there twice"
+    arguments = ["omx", "--out", town.path("out.omx"), town.file]
+    assert told(town, *arguments) == f"{town.file}: 'C' destination 4 is there twice"
 
 
 def test_a_property_that_is_called_as_the_shapes_is_told(town: Town) -> None:
@@ -167,8 +167,8 @@ def test_a_property_that_is_called_as_the_shapes_is_told(town: Town) -> None:
     feature = '{"type": "Feature", "properties": {"id": "a", "geometry": 5}, ' + shape + "}"
     path = town.path("a.geojson")
     Path(path).write_text('{"type": "FeatureCollection", "features": [' + feature + "]}")
-    words = ["points", "--out", town.path("out"), town.feed, path]
-    assert told(town, *words).startswith(f"{path}: not read: ")
+    arguments = ["points", "--out", town.path("out"), town.feed, path]
+    assert told(town, *arguments).startswith(f"{path}: not read: ")
 
 
 def test_the_sources_of_a_feed_do_not_lead_out_of_it(room: Room) -> None:
@@ -196,10 +196,12 @@ def test_an_error_of_the_tools_own_is_a_line_with_a_log(
 def test_escape_sequences_of_a_feed_do_not_reach_the_terminal(room: Room) -> None:
     for name, text in FEED.items():
         Path(room.path(name)).write_text(text.replace("A", "A\x1b]0;owned\x07\x9b31m\u202e"))
-    for words in (["--check"], ["--check", "--repair"], ["--out", room.path("out")]):
+    for arguments in (["--check"], ["--check", "--repair"], ["--out", room.path("out")]):
         Path(room.path("stop_times.txt")).write_text(FEED["stop_times.txt"].replace("A,1", "\x1b[31m\x07,1"))
-        out, said, _ = room.ran("prepare", *words, str(room.folder))
-        assert out + said and not any(ord(it) < 32 and it != "\n" or it in "\x7f\x9b\u202e" for it in out + said)
+        out, said, _ = room.ran("prepare", *arguments, str(room.folder))
+        assert out + said and not any(
+            ord(item) < 32 and item != "\n" or item in "\x7f\x9b\u202e" for item in out + said
+        )
 
 
 TWICE: list[Callable[[Town], list[str]]] = [
@@ -225,9 +227,9 @@ def test_an_input_is_never_replaced_by_the_output(town: Town, make: Callable[[To
     town.write("origins.csv", "stop_id,more", [["A", 1], ["D", 2]])
     town.write("footpaths.csv", "from_stop_id,to_stop_id,seconds", [["A", "B", 7.5]])
     os.link(town.path("stops.txt"), town.path("link.json"))
-    words = make(town)
+    arguments = make(town)
     before = {path: path.read_bytes() for path in town.folder.iterdir()}
-    _, said, status = town.ran(*words)
+    _, said, status = town.ran(*arguments)
     assert status == 1 and said.splitlines()[-1].endswith(": is an input as well: name another output"), said
     assert {path: path.read_bytes() for path in town.folder.iterdir()} == before
 

@@ -29,18 +29,18 @@ HOSTILE = [
 
 @pytest.fixture(scope="module")
 def browser() -> Iterator[Browser]:
-    made = Browser()
-    yield made
-    made.close()
+    driver = Browser()
+    yield driver
+    driver.close()
 
 
-def page(town: Town, *words: str, name: str = "a page.html") -> Path:
+def page(town: Town, *arguments: str, name: str = "a page.html") -> Path:
     """Writes a page of the town's matrix into a folder with spaces in its name."""
     folder = town.folder / "to the council"
     folder.mkdir(exist_ok=True)
     out = folder / name
-    said, told, status = town.ran("page", "--feed", town.feed, "--out", str(out), *words, town.file)
-    assert (said, status) == ("", 0), told
+    said, errors, status = town.ran("page", "--feed", town.feed, "--out", str(out), *arguments, town.file)
+    assert (said, status) == ("", 0), errors
     return out
 
 
@@ -69,11 +69,56 @@ def test_a_click_shows_the_travel_times_of_the_matrix(town: Town, browser: Brows
     assert browser.complaints() == []
 
 
+def test_small_marks_have_the_colour_of_their_class(town: Town, browser: Browser) -> None:
+    town.matrix(town_matrix(True))
+    browser.open(page(town, *jobs(town)), "view=times&scenario=base&from=A")
+    large, empty = browser.colour("C", right=4), browser.colour("C", right=40)
+    browser.run("page.radius = () => 2; page.drawing.draw()")
+    assert browser.colour("C") == large == browser.run("return timeClasses().marks[1].colour")
+    assert browser.colour("C", right=4) == empty
+    faint = browser.run("state.minutes = 1; page.radius = () => 2.4; return show()")
+    assert faint is None and browser.colour("D") not in (large, empty)
+
+
+def test_many_marks_are_stamped_as_a_pen_draws_them(town: Town, browser: Browser) -> None:
+    """A stamp lies at most an eighth of a pixel aside, so that pixels at its edge differ a little."""
+    town.matrix(town_matrix(True))
+    drawn = (
+        "page.many = arguments[0]; page.radius = () => 3; page.drawing.draw();"
+        "const canvas = document.querySelector('canvas.places'), pen = canvas.getContext('2d');"
+        "const { data } = pen.getImageData(0, 0, canvas.width, canvas.height), before = window.alphas;"
+        "const alphas = window.alphas = data.filter((_, at) => at % 4 === 3);"
+        "const far = before?.reduce((most, it, at) => Math.max(most, Math.abs(it - alphas[at])), 0);"
+        "return [far, alphas.reduce((sum, it) => sum + it, 0) / 255];"
+    )
+    for words in ("scenario=base&minutes=6", "scenario=cut&difference=1"):
+        browser.open(page(town, *jobs(town)), f"view=times&from=A&{words}")
+        (_, by_pen), colours = browser.run(drawn, 1000), [browser.colour(it) for it in "BCD"]
+        far, by_stamps = browser.run(drawn, 1)
+        assert far < 96 and abs(by_stamps - by_pen) < 0.02 * by_pen and by_pen > 100
+        assert [browser.colour(it) for it in "BCD"] == colours
+    assert browser.complaints() == []
+
+
+def test_a_slider_that_is_dragged_leaves_the_last_address(town: Town, browser: Browser) -> None:
+    """Browsers take two hundred changes of the address in ten seconds."""
+    town.matrix(town_matrix(True))
+    browser.open(page(town, *jobs(town)), "view=times&scenario=base&from=A")
+    written, millis = browser.awaited(
+        "let count = 0; const kept = history.replaceState, begin = performance.now();"
+        "history.replaceState = (...all) => { count++; kept.apply(history, all); };"
+        "for (let at = 1; at <= 40; at++) await set({ minutes: at });"
+        "return [count, performance.now() - begin];"
+    )
+    assert written <= 1 + millis / 250 and "minutes=40" in browser.address()
+    assert browser.complaints() == []
+
+
 def test_the_difference_has_who_is_cut_off_as_a_class(town: Town, browser: Browser) -> None:
     town.matrix(town_matrix(True))
     browser.open(page(town, *jobs(town)), "view=times&scenario=cut&difference=1&from=A")
-    told = "cut compared with base: of 4 places 1 are cut off, 1 slower by 2 minutes or more, 0 faster, 0 new."
-    assert browser.text("told") == told
+    message = "cut compared with base: of 4 places 1 are cut off, 1 slower by 2 minutes or more, 0 faster, 0 new."
+    assert browser.text("told") == message
     key = {"cut off: not reached now": "1", "15 min or more slower": "1", "at most 1 min either way": "2"}
     assert browser.key() == key
     assert browser.colour("D") == "#000000"
@@ -134,10 +179,10 @@ def test_names_are_text_and_nothing_is_fetched(town: Town, browser: Browser) -> 
     }
     town.matrix(town_matrix(True, scenarios, stops=stops))
     town.write("jobs.csv", "stop_id,<u>jobs</u>", [["S1", 5]])
-    words = ["--title", HOSTILE[0], "--note", HOSTILE[1], "--words", "--date '</script><b>'", "--unit", "<b>jobs"]
-    browser.open(page(town, *words, "--opportunities", town.path("jobs.csv"), name="x & <y>.html"))
+    arguments = ["--title", HOSTILE[0], "--note", HOSTILE[1], "--words", "--date '</script><b>'", "--unit", "<b>jobs"]
+    browser.open(page(town, *arguments, "--opportunities", town.path("jobs.csv"), name="x & <y>.html"))
     assert browser.driver.title == browser.driver.find_element("tag name", "h1").text == HOSTILE[0]
-    browser.open(page(town, *words, "--opportunities", town.path("jobs.csv")), "view=times&from=S0")
+    browser.open(page(town, *arguments, "--opportunities", town.path("jobs.csv")), "view=times&from=S0")
     browser.press("#all-part summary")
     assert sorted(row[0] for row in browser.lines("all")[1:]) == sorted(
         f"{name} (S{n})" for n, name in enumerate(HOSTILE)
@@ -181,24 +226,26 @@ def test_drawn_matrices_come_out_as_they_are(town: Town, browser: Browser) -> No
     print("seed", seed)
     draw = np.random.default_rng(seed)
     stops = [f"S{number}" for number in range(40)]
-    town.write("stops.txt", "stop_id,stop_lat,stop_lon", [[it, *draw.uniform(1, 1.2, 2)] for it in stops])
+    town.write("stops.txt", "stop_id,stop_lat,stop_lon", [[stop, *draw.uniform(1, 1.2, 2)] for stop in stops])
     town.write("stop_times.txt", "trip_id,arrival_time,departure_time,stop_id,stop_sequence", [])
     cells = draw.choice([*range(0, 7200, 7), 15240, 20000, -1], (3, 30, 40))
     scenarios: dict[str, dict[str, list[int | str]]] = {
-        name: {stops[row]: ["" if it < 0 else it for it in cells[place, row].tolist()] for row in range(30)}
+        name: {stops[row]: ["" if cell < 0 else cell for cell in cells[place, row].tolist()] for row in range(30)}
         for place, name in enumerate(["base", "one", "two"])
     }
     town.matrix(town_matrix(True, scenarios, shares=(25, 50), stops=stops))
     browser.open(page(town))
     script = "return Promise.all(Array.from(numbers.rows, async (it) => Array.from(await minutesFrom(it, %d, %d))))"
     rows, columns = (
-        browser.run(f"return Array.from(numbers.{it}, (at) => head.identifiers[at])") for it in ("rows", "columns")
+        browser.run(f"return Array.from(numbers.{name}, (at) => head.identifiers[at])") for name in ("rows", "columns")
     )
     matrix = open_matrix(town.file)
     assert (sorted(rows), sorted(columns)) == (sorted(stops[:30]), sorted(stops))
     for scenario, name in enumerate(matrix.scenarios):
         for place, share in enumerate(matrix.shares):
-            wanted = [[minutes(matrix.seconds(name, share, row)[matrix.places[it]]) for it in columns] for row in rows]
+            wanted = [
+                [minutes(matrix.seconds(name, share, row)[matrix.places[column]]) for column in columns] for row in rows
+            ]
             assert browser.awaited(script % (scenario, place)) == wanted
 
 
@@ -213,9 +260,9 @@ def test_where_there_is_no_room_for_all_rows_are_drawn_or_named(
     town.matrix(town_matrix(True))
     monkeypatch.setattr(make, "MOST_CELLS", 8)
     out = town.path("few.html")
-    told = town.ran("page", "--feed", town.feed, "--out", out, "--seed", "3", town.file)[1]
+    errors = town.ran("page", "--feed", town.feed, "--out", out, "--seed", "3", town.file)[1]
     line = "The page has the travel times from 1 of 2 origins, which were drawn with the seed 3, and access from all."
-    assert told.splitlines()[1] == line
+    assert errors.splitlines()[1] == line
     browser.open(Path(out), "view=times&from=A")
     assert line in browser.text("meaning-part")
     drawn = browser.run("return head.identifiers[numbers.rows[0]]")
@@ -224,11 +271,11 @@ def test_where_there_is_no_room_for_all_rows_are_drawn_or_named(
     browser.open(Path(out), f"view=times&from={other}")
     assert browser.text("told") == "The page hasn't its travel times, but its access: choose another place."
     named = town.write("named.csv", "stop_id", [[other]])
-    told = town.ran("page", "--feed", town.feed, "--out", out, "--origins", named, town.file)[1]
-    assert "from 1 of 2 origins, which were named" in told
+    errors = town.ran("page", "--feed", town.feed, "--out", out, "--origins", named, town.file)[1]
+    assert "from 1 of 2 origins, which were named" in errors
     named = town.write("both.csv", "stop_id", [["A"], ["D"]])
-    told = f"{named}: travel times from its stops are 16, and a page takes 8"
-    town.refused(told, "page", "--feed", town.feed, "--origins", named, town.file)
+    errors = f"{named}: travel times from its stops are 16, and a page takes 8"
+    town.refused(errors, "page", "--feed", town.feed, "--origins", named, town.file)
 
 
 def test_points_alone_as_squares_and_a_new_line(town: Town, browser: Browser) -> None:
@@ -239,8 +286,8 @@ def test_points_alone_as_squares_and_a_new_line(town: Town, browser: Browser) ->
     cells = town.write("cells.csv", "id,lat,lon,name,width", [*points, ["Z", 1, 1, "elsewhere", 1]])
     files = [town.write("today.csv", "action,id,seconds", [["remove_trip", "U", ""]])]
     files += [town.write("tram.csv", "action,id,seconds", [])]
-    words = [word for path in files for word in ("--edits", path)] + ["--base", "today", "--scenario", "tram"]
-    browser.open(page(town, *words, "--points", cells), "view=times&from=A&minutes=120")
+    arguments = [word for path in files for word in ("--edits", path)] + ["--base", "today", "--scenario", "tram"]
+    browser.open(page(town, *arguments, "--points", cells), "view=times&from=A&minutes=120")
     assert sorted(browser.run("return head.identifiers")) == ["A", "C", "D"]
     assert browser.run("return head.scenarios") == ["today", "tram"]
     assert (
@@ -249,16 +296,16 @@ def test_points_alone_as_squares_and_a_new_line(town: Town, browser: Browser) ->
     )
     assert "trips that are added" in browser.text("lines-key") and "taken out" not in browser.text("lines-key")
     aside = int(browser.run("return 0.4 * page.sideOf(0) * 2 ** page.map.getZoom()"))  # pixels, within the square
-    assert [browser.colour(it, right=aside) for it in "CD"] == ["#1b5a9c", "#ffd92f"]
+    assert [browser.colour(letter, right=aside) for letter in "CD"] == ["#1b5a9c", "#ffd92f"]
     town.write("jobs.csv", "stop_id,jobs", [["A", 5], ["B", 20]])  # B isn't shown, but reached in 6 or 5 minutes
-    words += ["--points", cells, "--opportunities", town.path("jobs.csv")]
-    browser.open(page(town, *words), "view=access&of=points")
+    arguments += ["--points", cells, "--opportunities", town.path("jobs.csv")]
+    browser.open(page(town, *arguments), "view=access&of=points")
     assert browser.text("heading") == "Access: points within 30 minutes"
     browser.choose("counted", "jobs")
     browser.click("A")
     assert browser.lines("sums")[1] == ["jobs", "25", "25", "0", "0 %"]
-    told = "jobs: part of them is at stops that aren't shown; access counts all, the slider nothing."
-    assert told in browser.text("meaning-part")
+    message = "jobs: part of them is at stops that aren't shown; access counts all, the slider nothing."
+    assert message in browser.text("meaning-part")
     browser.press("#from-here")
     assert [row[0] for row in browser.lines("sums")] == ["Within 30 minutes", "places"]
 
@@ -269,8 +316,8 @@ def test_a_plan_brings_its_scenario_files_and_leaves_the_base_out(town: Town, br
     (town.folder / "scenarios").mkdir()
     town.write("scenarios/today.csv", "action,id,seconds", [["remove_trip", "T", ""]])
     town.write("scenarios/tram.csv", "action,id,seconds", [["remove_trip", "U", ""]])
-    told = town.ran("page", "--feed", town.feed, "--out", town.path("plan.html"), town.file)[1]
-    assert told.splitlines()[0] == f"{town.file}: base, which has the trips of all scenarios at once, is left out"
+    errors = town.ran("page", "--feed", town.feed, "--out", town.path("plan.html"), town.file)[1]
+    assert errors.splitlines()[0] == f"{town.file}: base, which has the trips of all scenarios at once, is left out"
     browser.open(Path(town.path("plan.html")))
     assert browser.run("return head.scenarios") == ["today", "tram"]
     key = ["where vehicles run", "trips that are taken out", "trips that are changed"]
@@ -286,10 +333,10 @@ def test_a_background_map_is_fetched_from_where_it_is_asked_for(town: Town, brow
     assert browser.driver.find_element("class name", "leaflet-control-attribution").text == "© <b>Somebody</b>"
     assert browser.run("return [...document.images].every((it) => it.src.startsWith('http://127.0.0.1:9/'))")
     assert browser.run("return document.images.length") > 0
-    told = "ttm-tools page: --tiles and --attribution go together\n"
-    assert town.ran("page", "--feed", town.feed, "--tiles", "https://x", town.file) == ("", told, 2)
-    told = "ttm-tools page: --tiles begins with https:// or http://\n"
-    assert town.ran("page", "--feed", town.feed, "--tiles", "x", "--attribution", "y", town.file) == ("", told, 2)
+    message = "ttm-tools page: --tiles and --attribution go together\n"
+    assert town.ran("page", "--feed", town.feed, "--tiles", "https://x", town.file) == ("", message, 2)
+    message = "ttm-tools page: --tiles begins with https:// or http://\n"
+    assert town.ran("page", "--feed", town.feed, "--tiles", "x", "--attribution", "y", town.file) == ("", message, 2)
 
 
 def test_the_town_as_the_program_computes_it(town: Town, browser: Browser, program: str) -> None:
@@ -313,9 +360,9 @@ def test_the_town_as_the_program_computes_it(town: Town, browser: Browser, progr
         times = [matrix.seconds(name, 50, chosen) for name in ("base", "no13")]
         shown = {row[0]: row[1:3] for row in browser.lines("all")[1:]}
         names = browser.run("return head.identifiers.map((_, place) => nameOf(place))")
-        told = dict(zip(browser.run("return head.identifiers"), names))
-        texts = [["not reached" if minutes(it) == 255 else f"{minutes(it)} min" for it in row] for row in times]
-        assert shown == {told[stop]: list(pair) for stop, pair in zip(matrix.stops, zip(*texts))}
+        printed = dict(zip(browser.run("return head.identifiers"), names))
+        texts = [["not reached" if minutes(item) == 255 else f"{minutes(item)} min" for item in row] for row in times]
+        assert shown == {printed[stop]: list(pair) for stop, pair in zip(matrix.stops, zip(*texts))}
         browser.press("#all-part summary")
     sources = browser.run("return document.getElementById('sources').textContent")
     assert "2026-05-04" in sources and "07:30 to 07:59" in sources
@@ -326,8 +373,8 @@ def test_bad_input_is_told_in_one_line(town: Town) -> None:
     if not LEAFLET.is_file():
         pytest.skip("without libjs-leaflet")
 
-    def refused(told: str, *words: str) -> None:
-        town.refused(told, "page", "--feed", town.feed, "--out", town.path("page.html"), *words, town.file)
+    def refused(message: str, *arguments: str) -> None:
+        town.refused(message, "page", "--feed", town.feed, "--out", town.path("page.html"), *arguments, town.file)
 
     lost = town.path("no")
     refused(f"no {lost}/leaflet.min.js, which the page needs: apt-get install libjs-leaflet", "--leaflet", lost)
@@ -337,9 +384,9 @@ def test_bad_input_is_told_in_one_line(town: Town) -> None:
     refused(f"{town.file}: it has no point of {points}", "--points", points)
     origins = town.write("origins.csv", "stop_id", [["B"]])
     refused(f"{origins}: record 2: B is no origin of the matrix", "--origins", origins)
-    words = jobs(town)
+    arguments = jobs(town)
     town.write("people.csv", "stop_id,jobs", [["A", 7]])
-    refused(f"{town.path('people.csv')}: a column jobs is among the opportunities too", *words)
+    refused(f"{town.path('people.csv')}: a column jobs is among the opportunities too", *arguments)
     town.matrix(town_matrix(True).replace("cut,D,", "cut,C,"))
     refused(f"{town.file}: 1 of 2 origins of base aren't in cut: D; 1 of 2 origins of cut aren't in base: C")
     town.matrix(town_matrix(True))
@@ -364,14 +411,16 @@ def test_cells_are_minutes_rounded_up_and_written_less_those_before(town: Town) 
     cells = parts.minutes_of(seconds)
     assert cells.tolist() == [[0, 1, 1, 2, 253, 254, 254, 255]]
     both = np.array([[1, 2], [3, 255]], np.uint8)
-    assert [it.tolist() for it in parts.blocks_of(both, None)] == [[[1, 2], [2, 253]]]
-    assert [it.tolist() for it in parts.blocks_of(both, np.array([[1, 1], [1, 1]], np.uint8))] == [[[0, 1], [2, 253]]]
+    assert [item.tolist() for item in parts.blocks_of(both, None)] == [[[1, 2], [2, 253]]]
+    assert [item.tolist() for item in parts.blocks_of(both, np.array([[1, 1], [1, 1]], np.uint8))] == [
+        [[0, 1], [2, 253]]
+    ]
 
 
 def test_neighbours_stand_together() -> None:
     """Along the line no step is longer than to a neighbour on a grid, each of whose cells comes once."""
     at = np.arange(16) * (places.CELLS // 16) + 5
-    x, y = (it.ravel() for it in np.meshgrid(at, at))
+    x, y = (item.ravel() for item in np.meshgrid(at, at))
     order = np.argsort(places.along_hilbert(x.astype(np.int64), y.astype(np.int64)))
     steps = np.abs(np.diff(x[order])) + np.abs(np.diff(y[order]))
     assert (steps == places.CELLS // 16).all()
@@ -425,5 +474,5 @@ def test_lines_of_a_city_leave_its_places_visible(
     script += "page.map.fire('viewreset'); kind.stroke = stroke; return found"
     drawn = browser.run(script)
     assert any(colour == wanted[0] and width == pytest.approx(wanted[1]) for colour, width in drawn), drawn[:9]
-    both = [it[0] for it in drawn if it[0] in ("#b9b9b9", "#dcdcdc")]
+    both = [mark[0] for mark in drawn if mark[0] in ("#b9b9b9", "#dcdcdc")]
     assert set(both) == {wanted[0]}

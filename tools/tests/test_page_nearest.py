@@ -15,9 +15,9 @@ pytest.importorskip("pandas")
 
 @pytest.fixture(scope="module")
 def browser() -> Iterator[Browser]:
-    made = Browser()
-    yield made
-    made.close()
+    driver = Browser()
+    yield driver
+    driver.close()
 
 
 def schools(town: Town) -> list[str]:
@@ -45,8 +45,8 @@ def test_the_time_to_the_nearest_is_that_of_the_matrix(town: Town, browser: Brow
 
 
 def test_the_difference_says_who_waits_longer_for_the_nearest(town: Town, browser: Browser) -> None:
-    words = "view=access&scenario=cut&difference=1&of=nearest+schools&within=1&from=A"
-    browser.open(page(town, *schools(town)), words)
+    arguments = "view=access&scenario=cut&difference=1&of=nearest+schools&within=1&from=A"
+    browser.open(page(town, *schools(town)), arguments)
     # in cut A reaches the third school after 1,900 seconds; D, which reached two, has all three after 1,700
     assert browser.key() == {
         "15 min or more slower": "1",
@@ -68,15 +68,15 @@ def test_areas_that_are_reached_lie_below_the_places(town: Town, browser: Browse
     assert browser.colour("B", aside) == "#000000"  # nothing is drawn there
     browser.press("#areas")
     assert browser.colour("B", aside) != "#000000"
-    assert "areas=1" in browser.run("return location.hash")
+    assert "areas=1" in browser.address()
     browser.press("#areas")
     assert browser.colour("B", aside) == "#000000"
 
 
 def test_cells_are_areas_themselves(town: Town, browser: Browser) -> None:
-    words = schools(town)
+    arguments = schools(town)
     points = town.write("mine.csv", "id,lat,lon,width", [["A", 0, 9, 400], ["B", 0, 9.01, 400], ["C", 0.01, 9.01, 400]])
-    browser.open(page(town, "--points", points, *words[:4]), "view=times&scenario=base&from=A")
+    browser.open(page(town, "--points", points, *arguments[:4]), "view=times&scenario=base&from=A")
     assert browser.run("return document.getElementById('areas-field').hidden")
 
 

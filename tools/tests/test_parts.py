@@ -12,7 +12,7 @@ import pytest
 
 from helpers import CALENDAR, STOP_TIMES, Room, launched
 from ttm_tools.faults import BadInput
-from ttm_tools.parts import Part, in_order, parts_of, write_whole
+from ttm_tools.parts import PartMatrix, in_order, parts_of, write_whole
 
 ORIGINS = ["A", 'b,"c"', "line\nend", "D", "E", "0004", "G"]
 SCENARIOS = ["base", "cut", "late,\nlater"]
@@ -39,14 +39,14 @@ def parts(room: Room, *origins: Sequence[str], scenarios: Sequence[str] = SCENAR
 
 def joined(paths: Sequence[str]) -> bytes:
     out = io.BytesIO()
-    write_whole(in_order([Part(path) for path in paths], ORIGINS, "origins.csv"), out)
+    write_whole(in_order([PartMatrix(path) for path in paths], ORIGINS, "origins.csv"), out)
     return out.getvalue()
 
 
-def refused(paths: Sequence[str], told: str) -> None:
+def refused(paths: Sequence[str], message: str) -> None:
     with pytest.raises(BadInput) as seen:
         joined(paths)
-    assert str(seen.value) == told
+    assert str(seen.value) == message
 
 
 def test_parts_in_any_order_give_the_bytes_of_the_whole(room: Room) -> None:
@@ -80,8 +80,8 @@ def test_other_headers_and_scenarios_are_refused(room: Room) -> None:
 
 
 def test_origins_that_are_interleaved_are_refused(room: Room) -> None:
-    told = "origins.csv: the parts aren't stretches of the study's origins in their order"
-    refused(parts(room, ORIGINS[::2], ORIGINS[1::2]), told)
+    message = "origins.csv: the parts aren't stretches of the study's origins in their order"
+    refused(parts(room, ORIGINS[::2], ORIGINS[1::2]), message)
 
 
 def test_a_matrix_that_was_cut_short_is_refused(room: Room) -> None:
@@ -126,16 +126,16 @@ def test_parts_with_other_shares_are_refused(room: Room) -> None:
 
 def test_parts_are_whole_in_order_and_about_equal() -> None:
     for count, number in itertools.product(range(30), range(1, 12)):
-        made = parts_of(list(range(count)), number)
-        assert list(itertools.chain(*made)) == list(range(count))
-        assert len(made) == max(1, min(number, count))
-        assert max(map(len, made)) - min(map(len, made)) <= 1
+        result = parts_of(list(range(count)), number)
+        assert list(itertools.chain(*result)) == list(range(count))
+        assert len(result) == max(1, min(number, count))
+        assert max(map(len, result)) - min(map(len, result)) <= 1
 
 
 def test_a_fault_leaves_no_part_behind(room: Room) -> None:
     room.write("some.csv", "stop_id", [["A"], ["B"], ["A"]])
-    told = f"{room.path('some.csv')}: record 4: A is there twice"
-    room.refused(told, "split", "--origins", room.path("some.csv"), "--parts", "2", "--out", room.path("parts"))
+    message = f"{room.path('some.csv')}: record 4: A is there twice"
+    room.refused(message, "split", "--origins", room.path("some.csv"), "--parts", "2", "--out", room.path("parts"))
     assert room.ran("split", "--feed", str(room.folder), "--parts", "0")[2] == 2
 
 
@@ -152,14 +152,14 @@ def test_the_parts_of_a_study_joined_are_the_study(room: Room, program: str, col
     room.write("cut.csv", "action,id,seconds", [["remove_route", "Q", ""]])
     ran = launched("split", "--feed", str(room.folder), "--parts", "4", "--out", room.path("parts"))
     assert (ran.returncode, ran.stderr) == (0, b"9 origins in 4 parts\n")
-    words = f"--feed {room.folder} --date 20260504 --from 08:00 --to 08:03 --trips 2 --walk 0 --share 25,50,75"
-    words += f" --within 300,600 --workers 1 --tries 1 {room.folder}/cut.csv"
+    arguments = f"--feed {room.folder} --date 20260504 --from 08:00 --to 08:03 --trips 2 --walk 0 --share 25,50,75"
+    arguments += f" --within 300,600 --workers 1 --tries 1 {room.folder}/cut.csv"
     if columns is not None:
         room.write("columns.csv", "stop_id", [[stop] for stop in columns])
-        words += f" --destinations {room.path('columns.csv')}"
+        arguments += f" --destinations {room.path('columns.csv')}"
 
     def run(*more: str) -> bytes:
-        return subprocess.run([program, *words.split(), *more], capture_output=True, check=True).stdout
+        return subprocess.run([program, *arguments.split(), *more], capture_output=True, check=True).stdout
 
     found = sorted((room.folder / "parts").glob("part_*.csv"))
     for part in found:

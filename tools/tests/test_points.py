@@ -50,28 +50,28 @@ def cells(room: Room, name: str = "cells.csv") -> str:
 
 def test_the_folder_has_what_a_run_needs(room: Room) -> None:
     town, out = feed(room), room.path("doors")
-    _, told, status = room.ran("points", town, cells(room), "--out", out, "--limit", "300", *PACE)
+    _, errors, status = room.ran("points", town, cells(room), "--out", out, "--limit", "300", *PACE)
     whole = f"{out}: 3 points, 4 footpaths; the words of a run are in {out}/words.txt"
     rounded = "1 numbers with decimals were rounded for ttm"
-    assert (told.splitlines(), status) == (["1 points have no stop in reach: 3", rounded, whole], 0)
-    made = {str(path.relative_to(out)): path.read_text() for path in Path(out).rglob("*") if path.is_file()}
-    assert made["footpaths.csv"] == "from_stop_id,to_stop_id,seconds\nA,1,30\nB,2,40\n1,A,30\n2,B,40\n"
-    assert made["origins.csv"] == made["destinations.csv"] == "stop_id\n1\n2\n3\n"
-    assert made["opportunities_people.csv"] == "stop_id,opportunities\n1,3\n2,1\n3,0\n"
-    assert made["opportunities_jobs.csv"] == "stop_id,opportunities\n1,1\n2,2\n3,0\n"
-    assert made["words.txt"].startswith(f"--feed {out}/feed\n--footpaths {out}/footpaths.csv\n--walk 300\n")
-    stops = made["feed/stops.txt"].splitlines()
+    assert (errors.splitlines(), status) == (["1 points have no stop in reach: 3", rounded, whole], 0)
+    result = {str(path.relative_to(out)): path.read_text() for path in Path(out).rglob("*") if path.is_file()}
+    assert result["footpaths.csv"] == "from_stop_id,to_stop_id,seconds\nA,1,30\nB,2,40\n1,A,30\n2,B,40\n"
+    assert result["origins.csv"] == result["destinations.csv"] == "stop_id\n1\n2\n3\n"
+    assert result["opportunities_people.csv"] == "stop_id,opportunities\n1,3\n2,1\n3,0\n"
+    assert result["opportunities_jobs.csv"] == "stop_id,opportunities\n1,1\n2,2\n3,0\n"
+    assert result["words.txt"].startswith(f"--feed {out}/feed\n--footpaths {out}/footpaths.csv\n--walk 300\n")
+    stops = result["feed/stops.txt"].splitlines()
     assert stops[0] == "stop_id,stop_lat,stop_lon,location_type,parent_station,stop_name"
     assert [line.split(",")[0] for line in stops[1:]] == ["A", "B", "1", "2", "3"]
     assert stops[3] == f"1,{30 * METRE!r},1.0,,,One"
-    points = list(csv.DictReader(made["feed/points.csv"].splitlines()))
+    points = list(csv.DictReader(result["feed/points.csv"].splitlines()))
     assert [(row["id"], row["name"], row["width"], row["people"], row["jobs"]) for row in points] == [
         ("1", "One", "50", "3", "0.5"),
         ("2", "2", "", "1", "2"),
         ("3", "3", "", "0", "0"),
     ]
     for name in ("routes.txt", "calendar.txt", "trips.txt", "stop_times.txt"):
-        assert made[f"feed/{name}"] == (Path(town) / name).read_text()
+        assert result[f"feed/{name}"] == (Path(town) / name).read_text()
 
 
 def test_the_scenarios_of_a_plan_stay_beside_its_feed(room: Room) -> None:
@@ -81,16 +81,16 @@ def test_the_scenarios_of_a_plan_stay_beside_its_feed(room: Room) -> None:
     Path(town, "new_stops.csv").write_text("stop_id\nB\n")
     Path(town, "footpaths.csv").write_text("from_stop_id,to_stop_id,seconds\n")
     assert room.ran("points", town, cells(room), "--out", out, *PACE)[2] == 0
-    made = {str(path.relative_to(town)): path.read_text() for path in Path(town).rglob("*.csv")}
-    del made["footpaths.csv"]
-    assert {name: Path(out, "feed", name).read_text() for name in made} == made
+    result = {str(path.relative_to(town)): path.read_text() for path in Path(town).rglob("*.csv")}
+    del result["footpaths.csv"]
+    assert {name: Path(out, "feed", name).read_text() for name in result} == result
     assert not Path(out, "feed", "footpaths.csv").exists()
 
 
 def test_points_without_a_stop_in_reach_are_left_out_if_asked_for(room: Room) -> None:
     out = room.path("doors")
-    _, told, _ = room.ran("points", feed(room), cells(room), "--out", out, "--leave-out", "--limit", "300", *PACE)
-    assert told.splitlines()[0] == "1 points have no stop in reach and are left out: 3"
+    _, errors, _ = room.ran("points", feed(room), cells(room), "--out", out, "--leave-out", "--limit", "300", *PACE)
+    assert errors.splitlines()[0] == "1 points have no stop in reach and are left out: 3"
     assert Path(out, "origins.csv").read_text() == "stop_id\n1\n2\n"
     assert Path(out, "footpaths.csv").read_text().splitlines()[1:] == ["A,1,30", "B,2,40", "1,A,30", "2,B,40"]
     assert Path(out, "feed", "points.csv").read_text().count("\n") == 3
@@ -100,8 +100,8 @@ def test_several_files_have_roles_and_collisions_get_the_name_of_the_file(room: 
     town, out = feed(room), room.path("doors")
     homes = room.write("homes.csv", "id,lat,lon,people", [["A", *place(30, 0), 3], ["2", *place(20, 0), 4]])
     schools = room.write("schools.csv", "lon,lat,id,places", [[*reversed(place(0, 990)), "2", 70]])
-    _, told, _ = room.ran("points", town, "--origins", homes, "--destinations", schools, "--out", out, *PACE)
-    assert told.splitlines()[:2] == [
+    _, errors, _ = room.ran("points", town, "--origins", homes, "--destinations", schools, "--out", out, *PACE)
+    assert errors.splitlines()[:2] == [
         f"{homes}: identifiers begin with homes: in the feed, since one of them was there",
         f"{out}: 3 points, 8 footpaths; the words of a run are in {out}/words.txt",
     ]
@@ -113,7 +113,7 @@ def test_several_files_have_roles_and_collisions_get_the_name_of_the_file(room: 
 
 
 @pytest.mark.parametrize(
-    "header, row, told",
+    "header, row, message",
     [
         ("id,lat", ["1", 0.1], "record 1: no column lon"),
         ("id,lat,lon", ["", 0.1, 1], "record 2: id is empty"),
@@ -128,34 +128,34 @@ def test_several_files_have_roles_and_collisions_get_the_name_of_the_file(room: 
         ),
     ],
 )
-def test_bad_points_are_refused_with_file_and_record(room: Room, header: str, row: list[Any], told: str) -> None:
+def test_bad_points_are_refused_with_file_and_record(room: Room, header: str, row: list[Any], message: str) -> None:
     town, bad = feed(room), room.write("bad.csv", header, [row])
-    room.refused(f"{bad}: {told}", "points", town, bad, "--out", room.path("doors"))
+    room.refused(f"{bad}: {message}", "points", town, bad, "--out", room.path("doors"))
 
 
 def test_what_is_there_twice_or_not_at_all_is_refused(room: Room) -> None:
     town = feed(room)
     twice = room.write("twice.csv", "id,lat,lon", [["1", 0.1, 1], ["2", 0.1, 1], ["1", 0.2, 1]])
-    words = ["--out", room.path("doors")]
-    room.refused(f"{twice}: record 4: 1 is there twice", "points", town, twice, *words)
+    arguments = ["--out", room.path("doors")]
+    room.refused(f"{twice}: record 4: 1 is there twice", "points", town, twice, *arguments)
     none = room.write("none.csv", "id,lat,lon", [])
-    room.refused(f"{none}: no points", "points", town, none, *words)
-    room.refused(f"{room.path('x.csv')}: No such file or directory", "points", town, room.path("x.csv"), *words)
+    room.refused(f"{none}: no points", "points", town, none, *arguments)
+    room.refused(f"{room.path('x.csv')}: No such file or directory", "points", town, room.path("x.csv"), *arguments)
     room.refused(f"{town}: is there already, and isn't empty", "points", town, cells(room), "--out", town)
 
 
 def test_what_ttm_does_not_take_is_told_before_anything_is_written(room: Room, monkeypatch: pytest.MonkeyPatch) -> None:
-    words = ["points", feed(room), cells(room), "--out", room.path("doors"), "--limit", "300", *PACE]
+    arguments = ["points", feed(room), cells(room), "--out", room.path("doors"), "--limit", "300", *PACE]
     helps = "--leave-out leaves out points without a stop in reach; or take parts of the region"
     monkeypatch.setattr(study, "MOST_STOPS", 4)
-    told = "2 locations of the feed and 3 points are more than the 4 that ttm takes"
-    room.refused(f"{room.path('cells.csv')}: {told}: {helps}", *words)
-    assert room.ran(*words, "--leave-out")[2] == 0
+    message = "2 locations of the feed and 3 points are more than the 4 that ttm takes"
+    room.refused(f"{room.path('cells.csv')}: {message}: {helps}", *arguments)
+    assert room.ran(*arguments, "--leave-out")[2] == 0
     monkeypatch.setattr(study, "MOST_STOPS", 65535)
     monkeypatch.setattr(study, "MOST_PAIRS", 3)
-    told = "4 walks are more than the 3 that ttm takes: a shorter --limit, or fewer points"
-    words[words.index("--out") + 1] = room.path("more")
-    room.refused(f"{room.path('cells.csv')}: {told}; {helps}", *words)
+    message = "4 walks are more than the 3 that ttm takes: a shorter --limit, or fewer points"
+    arguments[arguments.index("--out") + 1] = room.path("more")
+    room.refused(f"{room.path('cells.csv')}: {message}; {helps}", *arguments)
 
 
 def test_areas_become_points_inside_of_them(room: Room) -> None:
@@ -297,16 +297,16 @@ def test_drawn_towns_have_the_durations_of_journeys_that_begin_and_end_with_a_wa
     out = room.path("doors")
     points = room.write("points.csv", "id,lat,lon", rows)
     assert room.ran("points", town, points, "--limit", str(limit), "--out", out)[2] == 0
-    words = shlex.split(Path(out, "words.txt").read_text())
+    arguments = shlex.split(Path(out, "words.txt").read_text())
     doors, reached = Doors(plain, town, f"{out}/footpaths.csv", limit), 0
     for minute in range(0, 20, 4):
         own = f"--date 20260504 --from 08:{minute:02} --to 08:{minute:02} --trips 3 --share 100 --within 1800"
         own += " --workers 1 --tries 1 --back 0 --ahead 0"
-        ran = subprocess.run([program, *words, *own.split()], capture_output=True, text=True, check=True)
-        asked = plain.options([*words, *own.split()])
-        runs = plain.network(doors.feed, asked, None)
+        ran = subprocess.run([program, *arguments, *own.split()], capture_output=True, text=True, check=True)
+        args = plain.options([*arguments, *own.split()])
+        runs = plain.network(doors.feed, args, None)
         for row in csv.DictReader(ran.stdout.splitlines()):
-            expected = doors.durations(runs, names, row["origin"], asked.departures[0], 3)
+            expected = doors.durations(runs, names, row["origin"], args.departures[0], 3)
             assert [int(row[name]) if row[name] else None for name in names] == expected, (seed, minute, row["origin"])
             reached += sum(time is not None and time > limit for time in expected)
     assert reached > 0, f"seed {seed}: nobody rides"
@@ -326,11 +326,11 @@ def test_whatever_is_damaged_is_told_in_a_line(room: Room, seed: int) -> None:
         name, out = draw.choice(inputs), room.path(f"doors{trial}")
         Path(name).write_bytes(damaged(draw, whole[name]))
         before = room.names()
-        words = ["points", town, inputs[0], "--out", out, *(["--streets", streets] if name == streets else [])]
-        _, told, status = room.ran(*words)
+        arguments = ["points", town, inputs[0], "--out", out, *(["--streets", streets] if name == streets else [])]
+        _, errors, status = room.ran(*arguments)
         statuses.add(status)
-        lines = [line for line in told.splitlines() if line.startswith("ttm-tools points: ")]
-        assert (status, len(lines)) in ((0, 0), (1, 1)), (seed, trial, told)
+        lines = [line for line in errors.splitlines() if line.startswith("ttm-tools points: ")]
+        assert (status, len(lines)) in ((0, 0), (1, 1)), (seed, trial, errors)
         assert status == 0 or room.names() == before
         Path(name).write_bytes(whole[name])
     assert statuses == {0, 1}
@@ -339,24 +339,24 @@ def test_whatever_is_damaged_is_told_in_a_line(room: Room, seed: int) -> None:
 def test_columns_of_text_are_labels_and_columns_may_have_other_names(room: Room) -> None:
     near = [["p", *place(30, 0), "East", 3], ["q", *place(0, 1040), "", 4]]
     path, out = room.write("p.csv", "cell,y,x,quarter,jobs", near), room.path("doors")
-    words = ["--id", "cell", "--lat", "y", "--lon", "x", "--out", out]
-    assert room.ran("points", *words, feed(room), path)[2] == 0
+    arguments = ["--id", "cell", "--lat", "y", "--lon", "x", "--out", out]
+    assert room.ran("points", *arguments, feed(room), path)[2] == 0
     assert Path(out, "labels.csv").read_text() == "id,quarter\np,East\nq,\n"
     assert Path(out, "feed", "points.csv").read_text().splitlines()[0] == "id,name,lat,lon,width,jobs"
 
 
 def test_a_column_with_a_number_and_a_text_is_refused(room: Room) -> None:
     path = room.write("p.csv", "id,lat,lon,jobs", [["p", *place(30, 0), "many"], ["q", *place(0, 1040), 4]])
-    told = f"{path}: record 2: jobs 'many' is none; allowed: a number from 0 on"
-    room.refused(told, "points", "--out", room.path("doors"), feed(room), path)
+    message = f"{path}: record 2: jobs 'many' is none; allowed: a number from 0 on"
+    room.refused(message, "points", "--out", room.path("doors"), feed(room), path)
 
 
 def test_heights_of_cells_are_kept(room: Room) -> None:
     rows = [["p", *place(30, 0), 50, 80], ["q", *place(0, 1040), 60, ""]]
     path, out = room.write("p.csv", "id,lat,lon,width,height", rows), room.path("doors")
     assert room.ran("points", "--out", out, feed(room), path)[2] == 0
-    made = Path(out, "feed", "points.csv").read_text().splitlines()
-    assert made[0] == "id,name,lat,lon,width,height" and [it.split(",")[4:] for it in made[1:]] == [
+    result = Path(out, "feed", "points.csv").read_text().splitlines()
+    assert result[0] == "id,name,lat,lon,width,height" and [item.split(",")[4:] for item in result[1:]] == [
         ["50", "80"],
         ["60", "60"],
     ]

@@ -33,8 +33,8 @@ def edit(room: Room, name: str, old: str, new: str) -> None:
     path.write_text(text.replace(old, new))
 
 
-def checked(room: Room, *words: str) -> tuple[list[str], int]:
-    out, err, status = room.ran("prepare", "--check", *words, str(room.folder))
+def checked(room: Room, *arguments: str) -> tuple[list[str], int]:
+    out, err, status = room.ran("prepare", "--check", *arguments, str(room.folder))
     assert err == ""
     return out.splitlines(), status
 
@@ -72,8 +72,8 @@ def test_all_faults_are_told_at_once_in_the_order_of_ttm(feed: Room) -> None:
         "ttm: stop_times.txt: record 4: no time",
         "ttm: frequencies.txt: record 2: bad number",
     ]
-    told = "it is empty or a number: digits alone, 0 to 4294967295; 2 times: records 5, 7"
-    assert lines[1] == f'  column location_type is "1.0"; {told}'
+    message = "it is empty or a number: digits alone, 0 to 4294967295; 2 times: records 5, 7"
+    assert lines[1] == f'  column location_type is "1.0"; {message}'
     single = (feed.folder / "faults.csv").read_text().splitlines()
     assert single[0] == "file,record,column,value,fault,allowed"
     assert single[3:5] == [
@@ -126,8 +126,8 @@ def test_no_feed_is_told_in_a_line(room: Room) -> None:
     room.refused(f"{room.folder}: no GTFS in it", "prepare", "--check", str(room.folder))
     room.refused(f"{room.path('x.zip')}: no such file or folder", "prepare", "--check", room.path("x.zip"))
     (room.folder / "x.zip").write_bytes(b"x")
-    told = f"{room.path('x.zip')}: can't be unzipped: File is not a zip file"
-    room.refused(told, "prepare", "--check", room.path("x.zip"))
+    message = f"{room.path('x.zip')}: can't be unzipped: File is not a zip file"
+    room.refused(message, "prepare", "--check", room.path("x.zip"))
 
 
 @pytest.mark.parametrize("first", range(0, 200, 50))
@@ -136,11 +136,11 @@ def test_the_first_fault_is_what_the_program_tells(room: Room, program: str, fir
         assert first_fault_differs(program, seed, room.folder) == ""
 
 
-def first_line_of_both(room: Room, program: str, words: str = WORDS) -> str:
+def first_line_of_both(room: Room, program: str, arguments: str = WORDS) -> str:
     """The first line of a check, which is what the program prints."""
     lines, status = checked(room)
-    told = subprocess.run([program, "--feed", str(room.folder), *words.split()], capture_output=True, text=True)
-    assert (lines[0] + "\n", status) == (told.stderr, 1)
+    errors = subprocess.run([program, "--feed", str(room.folder), *arguments.split()], capture_output=True, text=True)
+    assert (lines[0] + "\n", status) == (errors.stderr, 1)
     return lines[0]
 
 
@@ -167,8 +167,10 @@ def test_the_row_with_which_there_are_too_many_footpaths(feed: Room, program: st
     assert checked(feed)[0][0] == "no faults"
     feed.write("transfers.txt", header, [*rows, ["T1", "T", 2, 60], ["B", "A", 2, 1]])
     assert first_line_of_both(feed, program) == "ttm: transfers.txt: record 26: too many"
-    told = "2 times: records 26, 27"
-    assert checked(feed)[0][1] == f"  at most 4,000,000 footpaths, one for each pair of stops of its two ends; {told}"
+    message = "2 times: records 26, 27"
+    assert (
+        checked(feed)[0][1] == f"  at most 4,000,000 footpaths, one for each pair of stops of its two ends; {message}"
+    )
 
 
 def test_a_long_file_is_read_alike_by_pandas(feed: Room, monkeypatch: pytest.MonkeyPatch) -> None:

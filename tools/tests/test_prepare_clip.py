@@ -50,10 +50,10 @@ def feed(room: Room) -> Room:
     return room
 
 
-def clipped(room: Room, *words: str) -> str:
-    out, told, status = room.ran("prepare", "--out", room.path("out"), *words, room.path("in"))
-    assert (out, status) == ("", 0), told
-    return told
+def clipped(room: Room, *arguments: str) -> str:
+    out, errors, status = room.ran("prepare", "--out", room.path("out"), *arguments, room.path("in"))
+    assert (out, status) == ("", 0), errors
+    return errors
 
 
 def texts(room: Room, name: str) -> list[str]:
@@ -125,50 +125,50 @@ def test_an_area_is_polygons_of_geojson(feed: Room) -> None:
         (feed.folder / "area.json").write_text(json.dumps(feature))
         out = f"out{geometry['type']}"
         assert feed.ran("prepare", "--out", feed.path(out), "--area", feed.path("area.json"), feed.path("in"))[2] == 0
-        made = (feed.folder / out / "stops.txt").read_text().splitlines()[1:]
-        assert [line.split(",")[0] for line in made] == ["A", "B", "S", "E"]
+        result = (feed.folder / out / "stops.txt").read_text().splitlines()[1:]
+        assert [line.split(",")[0] for line in result] == ["A", "B", "S", "E"]
 
 
 def test_areas_that_are_none_are_told(feed: Room) -> None:
     pytest.importorskip("shapely")
-    words = ["prepare", "--out", feed.path("out"), "--area", feed.path("area.json"), feed.path("in")]
-    feed.refused(f"{feed.path('area.json')}: No such file or directory", *words)
-    told = "no polygon in it; allowed: a GeoJSON Polygon or MultiPolygon, or features of these"
+    arguments = ["prepare", "--out", feed.path("out"), "--area", feed.path("area.json"), feed.path("in")]
+    feed.refused(f"{feed.path('area.json')}: No such file or directory", *arguments)
+    message = "no polygon in it; allowed: a GeoJSON Polygon or MultiPolygon, or features of these"
     cases: list[tuple[Any, str]] = [
-        ({"type": "Point", "coordinates": [1, 2]}, told),
-        ([], told),
+        ({"type": "Point", "coordinates": [1, 2]}, message),
+        ([], message),
         ({"type": "Polygon", "coordinates": [[[1, 1], [2, 1], [2, 2], [1, 1]]]}, "no stop of the feed lies in it"),
         (
             {"type": "Polygon", "coordinates": [[[0, 0], [5e6, 0], [5e6, 6e6], [0, 0]]]},
             "coordinates that are no degrees; allowed: longitude and latitude, WGS 84",
         ),
     ]
-    for read, told in cases:
+    for read, message in cases:
         (feed.folder / "area.json").write_text(json.dumps(read))
-        feed.refused(f"{feed.path('area.json')}: {told}", *words)
+        feed.refused(f"{feed.path('area.json')}: {message}", *arguments)
     (feed.folder / "area.json").write_text('{"type": "Polygon", "coordinates": [[1]]}')
-    assert "a polygon that is none" in feed.ran(*words)[1]
-    feed.refused("--box: no stop of the feed lies in it", *words[:3], "--box", "1,1,2,2", feed.path("in"))
+    assert "a polygon that is none" in feed.ran(*arguments)[1]
+    feed.refused("--box: no stop of the feed lies in it", *arguments[:3], "--box", "1,1,2,2", feed.path("in"))
 
 
 def test_routes_and_agencies_keep_their_trips_and_where_these_call(feed: Room) -> None:
     clipped(feed, "--routes", "Q")
     assert (firsts(feed, "trips.txt"), firsts(feed, "stops.txt")) == (["Q"], ["A", "C", "D"])
     assert (firsts(feed, "routes.txt"), texts(feed, "transfers.txt")) == (["Q"], ["A,C,2,60"])
-    words = ["prepare", "--out", feed.path("other")]
-    assert feed.ran(*words, "--agency", "X", feed.path("in"))[2] == 0
-    made = (feed.folder / "other" / "stops.txt").read_text().splitlines()[1:]
-    assert [line.split(",")[0] for line in made] == ["A", "B", "C", "D", "S", "E"]
-    words[2] = feed.path("no")
-    feed.refused("routes.txt: no route Z", *words, "--routes", "Z", feed.path("in"))
-    feed.refused("routes.txt: no agency Z", *words, "--agency", "Z", feed.path("in"))
+    arguments = ["prepare", "--out", feed.path("other")]
+    assert feed.ran(*arguments, "--agency", "X", feed.path("in"))[2] == 0
+    result = (feed.folder / "other" / "stops.txt").read_text().splitlines()[1:]
+    assert [line.split(",")[0] for line in result] == ["A", "B", "C", "D", "S", "E"]
+    arguments[2] = feed.path("no")
+    feed.refused("routes.txt: no route Z", *arguments, "--routes", "Z", feed.path("in"))
+    feed.refused("routes.txt: no agency Z", *arguments, "--agency", "Z", feed.path("in"))
 
 
 @pytest.mark.parametrize("day, kept", [("20260509", "TU"), ("20260510", "TU"), ("20260517", "V"), ("20260601", "")])
 def test_a_date_keeps_what_runs_on_it(feed: Room, day: str, kept: str) -> None:
-    told = clipped(feed, "--date", day, "--back", "0", "--ahead", str(int(day == "20260509")))
+    printed = clipped(feed, "--date", day, "--back", "0", "--ahead", str(int(day == "20260509")))
     runs = {"TU": "7 with 28 stop times", "V": "1 with 4 stop times", "": "0 with 0 stop times"}[kept]
-    assert f": {runs}\n" in told
+    assert f": {runs}\n" in printed
     assert [line.split(",")[2] for line in texts(feed, "trips.txt")] == list(kept)
     assert len(texts(feed, "stops.txt")) == 7
 
@@ -177,14 +177,14 @@ def test_what_is_too_much_is_told_with_what_helps(feed: Room) -> None:
     many: Table = [[f"s{n}", 10 + n / 70_000, 0.5, "", ""] for n in range(65_536)]
     feed.write("in/stops.txt", HEAD, STOPS + many)
     less = "fewer by --box, --area, --routes, --agency"
-    told = f"stops.txt: 65,543 records; ttm takes at most 65,535 records; {less}"
-    feed.refused(told, "prepare", "--out", feed.path("out"), feed.path("in"))
+    message = f"stops.txt: 65,543 records; ttm takes at most 65,535 records; {less}"
+    feed.refused(message, "prepare", "--out", feed.path("out"), feed.path("in"))
     clipped(feed, "--box", SOUTH)
 
 
 def test_wrong_boxes_and_dates(feed: Room) -> None:
-    for words in (["--box", "1,2,3"], ["--box", "1,2,3,x"], ["--box", "1,5,3,4"], ["--date", "20260230"]):
-        assert feed.ran("prepare", "--out", feed.path("out"), *words, feed.path("in"))[2] == 2
+    for arguments in (["--box", "1,2,3"], ["--box", "1,2,3,x"], ["--box", "1,5,3,4"], ["--date", "20260230"]):
+        assert feed.ran("prepare", "--out", feed.path("out"), *arguments, feed.path("in"))[2] == 2
 
 
 def test_a_box_west_of_greenwich_is_taken_as_it_is_written(feed: Room) -> None:
@@ -211,7 +211,7 @@ def only_within(feed: Damaged, kept: set[str]) -> None:
     for call in feed.files["stop_times.txt"][1:]:
         call[5:] = call[5:] if call[3] in kept else ["1", "1"]
     header, *walks = feed.files["transfers.txt"]
-    feed.files["transfers.txt"] = [header, *(it for it in walks if kept.issuperset(it[:2]))]
+    feed.files["transfers.txt"] = [header, *(walk for walk in walks if kept.issuperset(walk[:2]))]
 
 
 @pytest.mark.parametrize("first", range(0, 60, 20))
@@ -231,8 +231,8 @@ def test_times_in_a_region_are_those_of_boarding_and_alighting_in_it_alone(
         assert set(inside) == kept - set(feed.stations)
         only_within(feed, kept)
         feed.put_into(folder)
-        (status, clipped_matrix, told), whole = matrix_of(program, out), matrix_of(program, folder)
-        assert (seed, status, whole[0]) == (seed, 0, 0), told
+        (status, clipped_matrix, printed), whole = matrix_of(program, out), matrix_of(program, folder)
+        assert (seed, status, whole[0]) == (seed, 0, 0), printed
         assert (seed, cells(clipped_matrix, inside)) == (seed, cells(whole[1], inside))
 
 

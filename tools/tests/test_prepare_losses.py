@@ -29,10 +29,10 @@ def calendar(room: Room, *spans: Sequence[str]) -> None:
     room.write("in/calendar.txt", CALENDAR[0], [[name, *DAYS, *span] for name, span in zip("MN", spans)])
 
 
-def prepared(room: Room, *words: str) -> list[str]:
-    out, told, status = room.ran("prepare", "--repair", "--out", room.path("out"), *words, room.path("in"))
-    assert (out, status) == ("", 0), told
-    return told.splitlines()
+def prepared(room: Room, *arguments: str) -> list[str]:
+    out, errors, status = room.ran("prepare", "--repair", "--out", room.path("out"), *arguments, room.path("in"))
+    assert (out, status) == ("", 0), errors
+    return errors.splitlines()
 
 
 def written_dates(room: Room) -> list[str]:
@@ -59,16 +59,16 @@ def test_dates_are_mended_where_all_agree_on_one_reading(feed: Room, start: str,
 
 def test_dates_of_two_readings_are_not_mended(feed: Room) -> None:
     calendar(feed, ["4/5/2026", "6/7/2026"], ["4/5/2026", "6/7/2026"])
-    told = "rule value takes 2 of 2 records of calendar.txt; calendar.txt and calendar_dates.txt have no records; "
-    told += "no trip runs on any day (--allow-loss takes what is left; --check tells all)"
-    feed.refused(f"{feed.path('in')}: {told}", "prepare", "--repair", "--out", feed.path("out"), feed.path("in"))
+    message = "rule value takes 2 of 2 records of calendar.txt; calendar.txt and calendar_dates.txt have no records; "
+    message += "no trip runs on any day (--allow-loss takes what is left; --check tells all)"
+    feed.refused(f"{feed.path('in')}: {message}", "prepare", "--repair", "--out", feed.path("out"), feed.path("in"))
 
 
 def test_a_repair_that_takes_more_than_a_tenth_is_refused(feed: Room) -> None:
     calls: Table = [["T", "08:00:00", "08:00:00", "A", 0], ["T", "08:01:00", "08:01:00", "X", 1]]
     feed.write("in/stop_times.txt", STOP_TIMES, [*calls, ["U", "08:00:00", "08:00:00", "A", 0]])
-    told = "rule unknown takes 1 of 3 records of stop_times.txt (--allow-loss takes what is left; --check tells all)"
-    feed.refused(f"{feed.path('in')}: {told}", "prepare", "--repair", "--out", feed.path("out"), feed.path("in"))
+    message = "rule unknown takes 1 of 3 records of stop_times.txt (--allow-loss takes what is left; --check tells all)"
+    feed.refused(f"{feed.path('in')}: {message}", "prepare", "--repair", "--out", feed.path("out"), feed.path("in"))
     lines = prepared(feed, "--allow-loss")
     assert (
         "records left: stops.txt 12 of 12, routes.txt 1 of 1, calendar.txt 2 of 2, trips.txt 2 of 2,"
@@ -83,21 +83,21 @@ def test_a_record_that_is_there_twice_is_no_loss(feed: Room) -> None:
 
 def test_a_repair_that_leaves_no_trip_on_any_day_is_refused(feed: Room) -> None:
     calendar(feed, ["never", "20261231"], ["20260504", "never"])
-    words = ["prepare", "--repair", "--allow-loss", "--out", feed.path("out"), feed.path("in")]
-    lines = feed.ran(*words)[1].splitlines()
+    arguments = ["prepare", "--repair", "--allow-loss", "--out", feed.path("out"), feed.path("in")]
+    lines = feed.ran(*arguments)[1].splitlines()
     assert "no trip runs on any day" in lines and (feed.folder / "out" / "calendar.txt").exists()
 
 
 def test_a_feed_whose_trips_run_on_no_day_is_refused_without_a_loss_of_records(feed: Room) -> None:
     calendar(feed, ["20261231", "20260504"], ["20261231", "2026-05-04"])
-    told = "no trip runs on any day (--allow-loss takes what is left; --check tells all)"
-    feed.refused(f"{feed.path('in')}: {told}", "prepare", "--repair", "--out", feed.path("out"), feed.path("in"))
+    message = "no trip runs on any day (--allow-loss takes what is left; --check tells all)"
+    feed.refused(f"{feed.path('in')}: {message}", "prepare", "--repair", "--out", feed.path("out"), feed.path("in"))
 
 
 def test_a_feed_without_trips_on_the_date_is_refused(feed: Room) -> None:
-    words = ["prepare", "--repair", "--date", "20270601", "--out", feed.path("out"), feed.path("in")]
-    told = "no trip runs on 2027-06-01, but from 2026-05-04 to 2026-12-31"
-    feed.refused(f"{feed.path('in')}: {told} (--allow-loss takes what is left; --check tells all)", *words)
+    arguments = ["prepare", "--repair", "--date", "20270601", "--out", feed.path("out"), feed.path("in")]
+    message = "no trip runs on 2027-06-01, but from 2026-05-04 to 2026-12-31"
+    feed.refused(f"{feed.path('in')}: {message} (--allow-loss takes what is left; --check tells all)", *arguments)
 
 
 def test_a_repair_tells_the_days_that_are_left(feed: Room) -> None:
@@ -121,8 +121,8 @@ def test_bytes_that_are_not_utf_8_are_shown_as_windows_1252(feed: Room) -> None:
     path = feed.folder / "in" / "stops.txt"
     path.write_bytes(path.read_bytes().replace(b"A,\n", b"A,Caf\xe9\n"))
     prepared(feed)
-    made = (feed.folder / "out" / "prepared.csv").read_bytes()
-    assert b"\\udc" not in made
-    assert list(csv.reader(made.decode("utf-8").splitlines()))[1] == [
+    result = (feed.folder / "out" / "prepared.csv").read_bytes()
+    assert b"\\udc" not in result
+    assert list(csv.reader(result.decode("utf-8").splitlines()))[1] == [
         *["stops.txt", "2", "stop_name", "Café", "text", "now Café"]
     ]

@@ -25,44 +25,46 @@ def write_feed(room: Room, name: str, stops: str, route: str, agency: str) -> No
 
 def merged(room: Room, *names: str) -> str:
     paths = [room.path(name) for name in names]
-    out, told, status = room.ran("prepare", "--out", room.path("out"), *paths)
-    assert (out, status) == ("", 0), told
-    return told
+    out, errors, status = room.ran("prepare", "--out", room.path("out"), *paths)
+    assert (out, status) == ("", 0), errors
+    return errors
 
 
 def test_identifiers_that_collide_get_a_prefix(room: Room) -> None:
     write_feed(room, "bus", "AB", "R", "X")
     write_feed(room, "tram", "CD", "Q", "X")
-    told = merged(room, "bus", "tram")
+    printed = merged(room, "bus", "tram")
     kinds = ("stop", "service", "trip", "agency")
     lines = [f"tram: each {kind}'s identifier begins with tram:" for kind in kinds]
     lines.insert(0, "left out, since no rule merges them: bus/fares.txt, tram/fares.txt")
-    assert told.splitlines() == [*lines, f"{room.path('out')}: 6 stops and stations, 2 trips, 4 stop times"]
-    made = {path.name: path.read_text().splitlines()[1:] for path in (room.folder / "out").iterdir()}
-    assert made["stops.txt"] == ["A,,G", "B,,G", "G,1,", "tram:C,,tram:G", "tram:D,,tram:G", "tram:G,1,"]
-    assert made["routes.txt"] == ["R,X", "Q,tram:X"]
-    assert made["agency.txt"] == ["X,bus", "tram:X,tram"]
-    assert made["trips.txt"] == ["R,M,T", "Q,tram:M,tram:T"]
-    assert made["stop_times.txt"][2:] == ["tram:T,08:00:00,08:00:00,tram:C,0", "tram:T,08:01:00,08:01:00,tram:D,1"]
-    assert [line.split(",")[0] for line in made["calendar.txt"]] == ["M", "tram:M"]
-    assert "fares.txt" not in made and made["prepared.csv"] == []
+    assert printed.splitlines() == [*lines, f"{room.path('out')}: 6 stops and stations, 2 trips, 4 stop times"]
+    result = {path.name: path.read_text().splitlines()[1:] for path in (room.folder / "out").iterdir()}
+    assert result["stops.txt"] == ["A,,G", "B,,G", "G,1,", "tram:C,,tram:G", "tram:D,,tram:G", "tram:G,1,"]
+    assert result["routes.txt"] == ["R,X", "Q,tram:X"]
+    assert result["agency.txt"] == ["X,bus", "tram:X,tram"]
+    assert result["trips.txt"] == ["R,M,T", "Q,tram:M,tram:T"]
+    assert result["stop_times.txt"][2:] == ["tram:T,08:00:00,08:00:00,tram:C,0", "tram:T,08:01:00,08:01:00,tram:D,1"]
+    assert [line.split(",")[0] for line in result["calendar.txt"]] == ["M", "tram:M"]
+    assert "fares.txt" not in result and result["prepared.csv"] == []
 
 
 def test_a_feed_that_is_named_twice_gets_two_prefixes(room: Room) -> None:
     write_feed(room, "bus", "AB", "R", "X")
     merged(room, "bus", "bus", "bus")
-    made = (room.folder / "out" / "trips.txt").read_text().splitlines()[1:]
-    assert made == ["R,M,T", "bus:R,bus:M,bus:T", "bus2:R,bus2:M,bus2:T"]
+    result = (room.folder / "out" / "trips.txt").read_text().splitlines()[1:]
+    assert result == ["R,M,T", "bus:R,bus:M,bus:T", "bus2:R,bus2:M,bus2:T"]
 
 
 def test_rules_name_the_feed(room: Room) -> None:
     write_feed(room, "bus", "AB", "R", "X")
     write_feed(room, "tram", "CD", "Q", "X")
     room.write("tram/routes.txt", "route_id,agency_id", [["Q", "X"], ["Q", "X"]])
-    out, told, status = room.ran("prepare", "--repair", "--out", room.path("out"), room.path("bus"), room.path("tram"))
-    assert status == 0 and told.startswith("same: tram/routes.txt: 1 times record left out\n")
-    made = (room.folder / "out" / "prepared.csv").read_text().splitlines()[1:]
-    assert made == ["tram/routes.txt,3,route_id,Q,same,record left out"]
+    out, errors, status = room.ran(
+        "prepare", "--repair", "--out", room.path("out"), room.path("bus"), room.path("tram")
+    )
+    assert status == 0 and errors.startswith("same: tram/routes.txt: 1 times record left out\n")
+    result = (room.folder / "out" / "prepared.csv").read_text().splitlines()[1:]
+    assert result == ["tram/routes.txt,3,route_id,Q,same,record left out"]
 
 
 def cells(matrix: bytes) -> dict[tuple[str, str], str]:
@@ -79,10 +81,10 @@ def test_travel_times_of_each_feed_are_what_they_were(program: str, room: Room, 
             Damaged(2 * seed + part, 0).put_into(room.folder / name)
         out = room.path(f"out{seed}")
         assert room.ran("prepare", "--out", out, *map(room.path, names))[2] == 0
-        status, matrix, told = matrix_of(program, Path(out))
-        assert status == 0, told
-        made = cells(matrix)
+        status, matrix, printed = matrix_of(program, Path(out))
+        assert status == 0, printed
+        result = cells(matrix)
         for name, begins in zip(names, ("", f"two{seed}:")):
             alone = cells(matrix_of(program, room.folder / name)[1])
-            prefix = begins if any(stop.startswith(begins) for stop, _ in made) else ""
-            assert (seed, alone) == (seed, {pair: made[prefix + pair[0], prefix + pair[1]] for pair in alone})
+            prefix = begins if any(stop.startswith(begins) for stop, _ in result) else ""
+            assert (seed, alone) == (seed, {pair: result[prefix + pair[0], prefix + pair[1]] for pair in alone})

@@ -51,11 +51,11 @@ def firsts(room: Room, name: str) -> list[str]:
     return [line.split(",")[0] for line in (room.folder / "out" / name).read_text().splitlines()[1:]]
 
 
-@pytest.mark.parametrize("words", [("--routes", "R"), ("--agency", "X"), ("--box", "7,49,9,50.15")])
-def test_what_refers_to_what_went_goes_too(room: Room, words: tuple[str, str]) -> None:
+@pytest.mark.parametrize("arguments", [("--routes", "R"), ("--agency", "X"), ("--box", "7,49,9,50.15")])
+def test_what_refers_to_what_went_goes_too(room: Room, arguments: tuple[str, str]) -> None:
     write_feed(room)
-    out, told, status = room.ran("prepare", *words, "--out", room.path("out"), room.path("in"))
-    assert (out, status) == ("", 0), told
+    out, errors, status = room.ran("prepare", *arguments, "--out", room.path("out"), room.path("in"))
+    assert (out, status) == ("", 0), errors
     kept = {name: firsts(room, name) for name in OTHERS}
     assert kept == {
         "agency.txt": ["X", "Y"],
@@ -70,19 +70,19 @@ def test_what_refers_to_what_went_goes_too(room: Room, words: tuple[str, str]) -
     assert (
         "left out with what they name: attributions.txt 1 records, fare_attributes.txt 1 records, fare_rules.txt 2 "
         "records, pathways.txt 1 records, shapes.txt 1 records, stop_areas.txt 1 records, translations.txt 2 records"
-        in told.splitlines()
+        in errors.splitlines()
     )
-    assert "left out: stops.txt 2 of 4, routes.txt 1 of 2, trips.txt 1 of 2" in told
+    assert "left out: stops.txt 2 of 4, routes.txt 1 of 2, trips.txt 1 of 2" in errors
 
 
 def test_feeds_of_two_time_zones_are_refused(room: Room) -> None:
     write_feed(room, "one")
     write_feed(room, "two")
     room.write("two/agency.txt", "agency_id,agency_name,agency_timezone", [["X", "Ex", "Europe/London"]])
-    words = ["prepare", "--out", room.path("out"), room.path("one"), room.path("two")]
-    told = "the feeds have several time zones, Europe/Berlin (one), Europe/London (two)"
-    room.refused(f"agency.txt: {told}: --same-clock takes their times as those of one", *words)
-    assert room.ran(*words, "--same-clock")[2] == 0
+    arguments = ["prepare", "--out", room.path("out"), room.path("one"), room.path("two")]
+    message = "the feeds have several time zones, Europe/Berlin (one), Europe/London (two)"
+    room.refused(f"agency.txt: {message}: --same-clock takes their times as those of one", *arguments)
+    assert room.ran(*arguments, "--same-clock")[2] == 0
 
 
 def test_merged_feeds_keep_fares_pathways_and_the_publisher(room: Room) -> None:
@@ -111,8 +111,8 @@ def test_a_nameless_agency_is_named_where_feeds_are_merged(room: Room) -> None:
         write_feed(room, name)
         room.write(f"{name}/agency.txt", "agency_name,agency_timezone", [[name, "Europe/Berlin"]])
         room.write(f"{name}/routes.txt", "route_id", [["R"], ["Q"]])
-    _, told, status = room.ran("prepare", "--out", room.path("out"), room.path("one"), room.path("two"))
-    assert status == 0 and "one: 6 records name its agency, one" in told.splitlines()
+    _, errors, status = room.ran("prepare", "--out", room.path("out"), room.path("one"), room.path("two"))
+    assert status == 0 and "one: 6 records name its agency, one" in errors.splitlines()
     out = Path(room.path("out"))
     assert (out / "agency.txt").read_text().splitlines()[1:] == ["one,Europe/Berlin,one", "two,Europe/Berlin,two"]
     assert (out / "routes.txt").read_text().splitlines()[1:] == ["R,one", "Q,one", "two:R,two", "two:Q,two"]

@@ -19,7 +19,7 @@ from helpers import CALENDAR, LAUNCHER, STOP_TIMES, Room, Table
 from ttm_tools.gtfs import feeds, tables
 from ttm_tools.prepare.check import check
 from ttm_tools.prepare.repair import repair
-from ttm_tools.prepare.rules import RULES, help_table, markdown_table
+from ttm_tools.prepare.rules import RULES, help_table
 
 HEAD = "stop_id,stop_name,location_type,parent_station"
 STOPS = [["A", "Alpha", "", ""], ["B", "Beta", "", "S"], ["C", "Gamma", "0", ""], ["S", "Square", "1", ""]]
@@ -40,12 +40,12 @@ def feed(room: Room) -> Room:
     return room
 
 
-def written(room: Room, *words: str, feed: str = "in") -> list[str]:
+def written(room: Room, *arguments: str, feed: str = "in") -> list[str]:
     """The lines that tell what was done; a repair of so few records takes much of them."""
-    words = (*words, *(["--allow-loss"] if "--repair" in words else []))
-    out, told, status = room.ran("prepare", "--out", room.path("out"), *words, room.path(feed))
-    assert (out, status) == ("", 0), told
-    return told.splitlines()
+    arguments = (*arguments, *(["--allow-loss"] if "--repair" in arguments else []))
+    out, errors, status = room.ran("prepare", "--out", room.path("out"), *arguments, room.path(feed))
+    assert (out, status) == ("", 0), errors
+    return errors.splitlines()
 
 
 def texts(room: Room, name: str) -> list[str]:
@@ -85,7 +85,7 @@ def test_a_folder_with_a_folder_inside_is_taken(feed: Room) -> None:
 
 
 def test_what_holds_no_feed_or_several_is_told(feed: Room) -> None:
-    for name, members, told in [
+    for name, members, printed in [
         ("none.zip", ["readme.md"], "no GTFS in it"),
         ("zips.zip", ["a/bus.zip"], "no GTFS in it, but a/bus.zip: unzip it first"),
         ("two.zip", ["a/stops.txt", "b/stops.txt"], "several feeds in it, a and b: give them one by one"),
@@ -93,32 +93,32 @@ def test_what_holds_no_feed_or_several_is_told(feed: Room) -> None:
         with zipfile.ZipFile(feed.path(name), "w") as packed:
             for member in members:
                 packed.writestr(member, b"x")
-        feed.refused(f"{feed.path(name)}: {told}", "prepare", "--out", feed.path("out"), feed.path(name))
+        feed.refused(f"{feed.path(name)}: {printed}", "prepare", "--out", feed.path("out"), feed.path(name))
 
 
 def test_a_feed_with_faults_is_refused_without_repair(feed: Room) -> None:
     feed.write("in/routes.txt", "route_id", [["R"], ["R"], [""]])
-    told = "2 faults, first routes.txt: record 3: duplicate id (--check tells all, --repair mends what rules can)"
-    feed.refused(f"{feed.path('in')}: {told}", "prepare", "--out", feed.path("out"), feed.path("in"))
+    message = "2 faults, first routes.txt: record 3: duplicate id (--check tells all, --repair mends what rules can)"
+    feed.refused(f"{feed.path('in')}: {message}", "prepare", "--out", feed.path("out"), feed.path("in"))
 
 
 def test_what_is_missing_is_refused_with_repair_too(feed: Room) -> None:
     (feed.folder / "in" / "trips.txt").unlink()
-    told = "1 faults, first trips.txt: missing file (--check tells all; no rule mends them)"
-    feed.refused(f"{feed.path('in')}: {told}", "prepare", "--repair", "--out", feed.path("out"), feed.path("in"))
+    message = "1 faults, first trips.txt: missing file (--check tells all; no rule mends them)"
+    feed.refused(f"{feed.path('in')}: {message}", "prepare", "--repair", "--out", feed.path("out"), feed.path("in"))
 
 
 def test_a_folder_that_is_not_empty_is_not_written_to(feed: Room) -> None:
     (feed.folder / "out").mkdir()
     (feed.folder / "out" / "mine").write_bytes(b"")
-    told = f"{feed.path('out')}: is there already, and isn't empty"
-    feed.refused(told, "prepare", "--out", feed.path("out"), feed.path("in"))
+    message = f"{feed.path('out')}: is there already, and isn't empty"
+    feed.refused(message, "prepare", "--out", feed.path("out"), feed.path("in"))
 
 
 def test_words_that_do_not_go_together(feed: Room) -> None:
     wrong: list[list[str]] = [[], ["--check", "--out", feed.path("out")]]
-    for words in wrong:
-        assert feed.ran("prepare", *words, feed.path("in"))[1:] == (
+    for arguments in wrong:
+        assert feed.ran("prepare", *arguments, feed.path("in"))[1:] == (
             "ttm-tools prepare: one of --check and --out is needed\n",
             2,
         )
@@ -273,7 +273,7 @@ from ttm_tools import cli, files
 
 def wait(*_):
     print("begun", flush=True)
-    time.sleep(30)
+    time.sleep(600)
 
 ttm_tools.prepare.make.write_feed = wait
 files.unwind_on_signals()
@@ -283,9 +283,9 @@ sys.exit(cli.main(["prepare", "--repair", "--out", *sys.argv[2:]]))
 
 def test_an_interruption_leaves_nothing(feed: Room) -> None:
     source = str(Path(LAUNCHER).parent / "src")
-    words = [sys.executable, "-c", WAITING, source, feed.path("out"), feed.path("in")]
+    arguments = [sys.executable, "-c", WAITING, source, feed.path("out"), feed.path("in")]
     before, environment = feed.names(), {**os.environ, "TMPDIR": str(feed.folder)}
-    ran = subprocess.Popen(words, stdout=subprocess.PIPE, stderr=subprocess.PIPE, env=environment)
+    ran = subprocess.Popen(arguments, stdout=subprocess.PIPE, stderr=subprocess.PIPE, env=environment)
     assert ran.stdout is not None and ran.stdout.readline() == b"begun\n" and feed.names() != before
     ran.send_signal(signal.SIGTERM)
     assert ran.communicate()[1] == b"ttm-tools prepare: ended by SIGTERM\n"
@@ -293,14 +293,14 @@ def test_an_interruption_leaves_nothing(feed: Room) -> None:
 
 
 def test_a_disk_that_is_full_is_told_and_leaves_nothing(feed: Room) -> None:
-    words = [sys.executable, LAUNCHER, "prepare", "--repair", "--out", feed.path("out"), feed.path("in")]
+    arguments = [sys.executable, LAUNCHER, "prepare", "--repair", "--out", feed.path("out"), feed.path("in")]
     feed.write("in/routes.txt", "route_id", [["R"]] * 2)
     before = feed.names()
 
     def few_bytes() -> None:
         resource.setrlimit(resource.RLIMIT_FSIZE, (60, 60))
 
-    ran = subprocess.run(words, capture_output=True, preexec_fn=few_bytes)
+    ran = subprocess.run(arguments, capture_output=True, preexec_fn=few_bytes)
     assert (ran.returncode, ran.stdout, feed.names()) == (1, b"", before)
     assert re.fullmatch(rb"ttm-tools prepare: .*: File too large\n", ran.stderr), ran.stderr
 
@@ -317,9 +317,7 @@ def test_a_mended_feed_is_taken(program: str, tmp_path: Path, first: int) -> Non
         assert damage_stays(program, seed, tmp_path) == ""
 
 
-def test_the_page_lists_the_rules_that_run() -> None:
-    page = Path(__file__).resolve().parents[2] / "docs/howto/feed.md"
-    assert markdown_table() in page.read_text()
+def test_each_rule_has_its_function() -> None:
     functions = {rule.apply.partition(".") for rule in RULES}
     modules = {module: importlib.import_module(f"ttm_tools.prepare.{module}") for module, _, _ in functions}
     assert all(callable(getattr(modules[module], function)) for module, _, function in functions)

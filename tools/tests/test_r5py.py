@@ -38,32 +38,32 @@ def walking(room: Room, cache: None) -> r5py.TransportNetwork:
 
 @pytest.fixture
 def network(room: Room, cache: None, program: str) -> Iterator[r5py.TransportNetwork]:
-    with r5py.TransportNetwork(write_streets(room), [write_feed(room)], program=program) as made:
-        yield made
+    with r5py.TransportNetwork(write_streets(room), [write_feed(room)], program=program) as network_made:
+        yield network_made
 
 
-def minutes(made: Any, column: str = "travel_time") -> list[float | None]:
-    return [None if math.isnan(it) else it for it in made[column].tolist()]
+def minutes(result: Any, column: str = "travel_time") -> list[float | None]:
+    return [None if math.isnan(item) else item for item in result[column].tolist()]
 
 
 def from_home(network: Any, **more: Any) -> Any:
     ends = frame([HOME], ["home"]), frame([CLINIC], [7])
-    asked: Any = {"departure": SEVEN_45, **QUARTER, **more}
-    return r5py.TravelTimeMatrix(network, *ends, **asked)
+    options: Any = {"departure": SEVEN_45, **QUARTER, **more}
+    return r5py.TravelTimeMatrix(network, *ends, **options)
 
 
 def test_the_median_has_one_column_of_minutes_rounded_down(network: r5py.TransportNetwork) -> None:
-    made = from_home(network)
-    assert list(made.columns) == ["from_id", "to_id", "travel_time"]
+    result = from_home(network)
+    assert list(result.columns) == ["from_id", "to_id", "travel_time"]
     # 07:45 takes 46:40, each minute later one less, 07:54 takes 37:40; of ten the fifth is 41:40
-    assert made.values.tolist() == [["home", 7, 41.0]]
-    assert made.to_id.dtype == np.int64 and made.travel_time.dtype == np.float64
+    assert result.values.tolist() == [["home", 7, 41.0]]
+    assert result.to_id.dtype == np.int64 and result.travel_time.dtype == np.float64
 
 
 def test_percentiles_are_by_nearest_rank_in_the_order_in_which_they_are_given(network: r5py.TransportNetwork) -> None:
-    made = from_home(network, percentiles=[75, 25, 100, 1])
-    assert list(made.columns)[2:] == ["travel_time_p75", "travel_time_p25", "travel_time_p100", "travel_time_p1"]
-    assert made.values.tolist() == [["home", 7, 44.0, 39.0, 46.0, 37.0]]
+    result = from_home(network, percentiles=[75, 25, 100, 1])
+    assert list(result.columns)[2:] == ["travel_time_p75", "travel_time_p25", "travel_time_p100", "travel_time_p1"]
+    assert result.values.tolist() == [["home", 7, 44.0, 39.0, 46.0, 37.0]]
     assert list(from_home(network, percentiles=[25]).columns)[2:] == ["travel_time_p25"]
 
 
@@ -73,7 +73,7 @@ def test_the_end_of_the_window_is_no_departure(network: r5py.TransportNetwork) -
     late = from_home(network, departure_time_window=MINUTE, departure=SEVEN_45 + 10 * MINUTE)
     assert minutes(late) == [None]
     half = from_home(network, departure_time_window=2 * MINUTE, departure=SEVEN_45 + 9 * MINUTE, percentiles=[50, 51])
-    assert [minutes(half, f"travel_time_p{it}") for it in (50, 51)] == [[37], [None]]
+    assert [minutes(half, f"travel_time_p{number}") for number in (50, 51)] == [[37], [None]]
 
 
 def test_a_place_that_takes_as_long_as_the_most_is_not_reached(network: r5py.TransportNetwork) -> None:
@@ -112,9 +112,9 @@ def test_a_bus_alone_leads_to_its_last_stop(network: r5py.TransportNetwork) -> N
 
 
 def test_without_destinations_journeys_end_at_the_origins(network: r5py.TransportNetwork) -> None:
-    made = r5py.TravelTimeMatrix(network, frame([HOME, CLINIC], [2, 1]), departure=SEVEN_45, **QUARTER)
-    assert (made.from_id.tolist(), made.to_id.tolist()) == ([2, 2, 1, 1], [2, 1, 2, 1])
-    assert minutes(made) == [0, 41, None, 0]
+    result = r5py.TravelTimeMatrix(network, frame([HOME, CLINIC], [2, 1]), departure=SEVEN_45, **QUARTER)
+    assert (result.from_id.tolist(), result.to_id.tolist()) == ([2, 2, 1, 1], [2, 1, 2, 1])
+    assert minutes(result) == [0, 41, None, 0]
 
 
 def test_polygons_and_any_projection_are_taken_and_places_without_a_geometry_are_not_reached(
@@ -123,23 +123,23 @@ def test_polygons_and_any_projection_are_taken_and_places_without_a_geometry_are
     homes = geopandas.GeoDataFrame({"id": ["home"]}, geometry=[square(HOME, 20)], crs="EPSG:4326").to_crs(32631)
     clinics = frame([CLINIC, CLINIC], ["here", "nowhere"])
     clinics.loc[1, "geometry"] = None
-    made = r5py.TravelTimeMatrix(network, homes, clinics, departure=SEVEN_45, **QUARTER)
-    assert made.values.tolist()[0] == ["home", "here", 41] and minutes(made) == [41, None]
+    result = r5py.TravelTimeMatrix(network, homes, clinics, departure=SEVEN_45, **QUARTER)
+    assert result.values.tolist()[0] == ["home", "here", 41] and minutes(result) == [41, None]
 
 
 def test_walking_alone_takes_the_streets(walking: r5py.TransportNetwork) -> None:
     places = frame([HOME, (0.0, 0.0), (-30.0, 2000.0), CLINIC], ["home", "A", "B", "clinic"])
-    made = r5py.TravelTimeMatrix(walking, places, transport_modes=WALK, departure=SEVEN_45)
+    result = r5py.TravelTimeMatrix(walking, places, transport_modes=WALK, departure=SEVEN_45)
     # home to B 59.4 + 2300 + 30 metres; to the clinic 59.4 + 2300 + 2000 + 99.3
-    assert minutes(made)[:4] == [0, 6, 39, 74]
+    assert minutes(result)[:4] == [0, 6, 39, 74]
     short = r5py.TravelTimeMatrix(walking, places, transport_modes=WALK, max_time=39 * MINUTE, departure=SEVEN_45)
     assert minutes(short)[:4] == [0, 6, None, None]
-    assert minutes(made)[4:8] == [6, 0, 33, 68]
+    assert minutes(result)[4:8] == [6, 0, 33, 68]
 
 
 def test_walking_is_the_same_from_a_network_with_vehicles(network: r5py.TransportNetwork) -> None:
-    made = from_home(network, transport_modes=WALK, max_time_walking=120 * MINUTE)
-    assert minutes(made) == [74]
+    result = from_home(network, transport_modes=WALK, max_time_walking=120 * MINUTE)
+    assert minutes(result) == [74]
     # who may walk so far still takes the buses, which are faster
     assert minutes(from_home(network, max_time_walking=120 * MINUTE, departure_time_window=MINUTE)) == [46]
 
@@ -188,20 +188,20 @@ REFUSED: list[tuple[str, Any, str]] = [
 ]
 
 
-@pytest.mark.parametrize("argument, value, told", REFUSED)
+@pytest.mark.parametrize("argument, value, message", REFUSED)
 def test_what_is_not_to_be_had_is_named_with_what_to_do(
-    walking: r5py.TransportNetwork, argument: str, value: Any, told: str
+    walking: r5py.TransportNetwork, argument: str, value: Any, message: str
 ) -> None:
     more = {"departure": SEVEN_45, argument: value}
-    with pytest.raises(r5py.NotAvailable, match=f"^{argument}: .*{told}") as refused:
+    with pytest.raises(r5py.NotAvailable, match=f"^{argument}: .*{message}") as refused:
         r5py.TravelTimeMatrix(walking, frame([HOME], [1]), **more)
     assert refused.value.argument == argument and isinstance(refused.value, ValueError)
 
 
 def test_what_is_usual_is_taken_also_where_it_does_nothing(walking: r5py.TransportNetwork) -> None:
     more: Any = {"max_time_cycling": 120 * MINUTE, "speed_cycling": 12, "max_bicycle_traffic_stress": 3}
-    made = r5py.TravelTimeMatrix(walking, frame([HOME], [1]), departure=SEVEN_45, egress_modes=WALK, **more)
-    assert minutes(made) == [0]
+    result = r5py.TravelTimeMatrix(walking, frame([HOME], [1]), departure=SEVEN_45, egress_modes=WALK, **more)
+    assert minutes(result) == [0]
 
 
 def test_an_argument_that_r5py_has_not_either_is_a_type_error(walking: r5py.TransportNetwork) -> None:
@@ -276,11 +276,14 @@ def test_a_network_of_a_folder_and_its_extent(room: Room, cache: None) -> None:
 
 def test_more_walks_than_ttm_takes_are_named(network: r5py.TransportNetwork, monkeypatch: pytest.MonkeyPatch) -> None:
     monkeypatch.setattr("ttm_tools.walks.counting.MOST_PAIRS", 1)
-    with pytest.raises(r5py.NotAvailable, match="^max_time_walking: 0:15:00 gives more than the .* walks") as told:
+    monkeypatch.setattr("ttm_tools.r5py.split.MOST_FOOTPATHS", 4)  # with a change at each of three stops
+    with pytest.raises(r5py.NotAvailable, match="^max_time_walking: 0:15:00 gives more than the .* walks") as raised:
         from_home(network)
-    assert told.value.argument == "max_time_walking"
-    monkeypatch.setattr("ttm_tools.walks.counting.MOST_PAIRS", 2)  # home to A, and C to the clinic
+    assert raised.value.argument == "max_time_walking"
+    monkeypatch.setattr("ttm_tools.r5py.split.MOST_FOOTPATHS", 5)  # home to A, and C to the clinic
     assert minutes(from_home(network)) == [41]
+    monkeypatch.setattr("ttm_tools.walks.counting.MOST_PAIRS", 2)
+    assert minutes(from_home(network, max_time=85 * MINUTE)) == [41]
 
 
 def test_more_places_than_ttm_takes_are_named(network: r5py.TransportNetwork, monkeypatch: pytest.MonkeyPatch) -> None:

@@ -33,7 +33,9 @@ def draw_streets(room: Room, drawn: random.Random) -> str:
     for number in range(COUNT * COUNT):
         north, east = divmod(number, COUNT)
         nodes[number + 1] = (north * SIDE + drawn.uniform(-60, 60), east * SIDE + drawn.uniform(-60, 60))
-    pieces = [(it, it + 1) for it in nodes if it % COUNT] + [(it, it + COUNT) for it in nodes if it + COUNT in nodes]
+    pieces = [(node, node + 1) for node in nodes if node % COUNT] + [
+        (node, node + COUNT) for node in nodes if node + COUNT in nodes
+    ]
     ways: list[Way] = []
     for piece in pieces:
         tags = {"highway": drawn.choice(["footway", "residential", "steps"])}
@@ -79,30 +81,30 @@ def write_points(room: Room, name: str, places: list[Place]) -> str:
 def minute_by_minute(room: Room, program: str, feed: str, streets: str, ends: tuple[str, str]) -> Any:
     """The seconds that `ttm` has for the points of two files, for each departure by itself."""
     pace = ["--limit", str(LIMIT), "--speed", "1", "--detour", "1.3", "--near", "1600", "--streets", streets]
-    _, told, status = room.ran(
+    _, errors, status = room.ran(
         "points", feed, "--origins", ends[0], "--destinations", ends[1], "--out", room.path("doors"), *pace
     )
-    assert status == 0, told
-    doors, made = Path(room.path("doors")), []
+    assert status == 0, errors
+    doors, result = Path(room.path("doors")), []
     files: Any = {name: doors / f"{name}.csv" for name in ("origins", "destinations", "footpaths")}
     for minute in range(MINUTES):
         at = (BEGIN + minute * MINUTE).strftime("%H:%M")
         found = ttm_tools.matrix(doors / "feed", BEGIN.date(), (at, at), walk=LIMIT, program=program, **files)
         with open(files["origins"], newline="") as file:
             assert found.origins == [row["stop_id"] for row in csv.DictReader(file)]
-        made.append(found.array("base", 50).ravel())
-    return np.array(made, np.float64)
+        result.append(found.array("base", 50).ravel())
+    return np.array(result, np.float64)
 
 
 def nearest_rank(seconds: list[float], percentile: int) -> float | None:
     """The minutes of the least time that so many percent of all departures attain, below two hours."""
-    ordered = sorted(math.inf if math.isnan(it) else it for it in seconds)
+    ordered = sorted(math.inf if math.isnan(second) else second for second in seconds)
     found = ordered[math.ceil(percentile * len(ordered) / 100) - 1]
     return found // 60 if found < 7200 else None
 
 
 def listed(column: Any) -> list[float | None]:
-    return [None if math.isnan(it) else it for it in column.tolist()]
+    return [None if math.isnan(item) else item for item in column.tolist()]
 
 
 @pytest.mark.parametrize("seed", range(6))
@@ -123,7 +125,7 @@ def test_each_minute_and_each_percentile_are_those_of_ttm(
         for minute in range(MINUTES):
             one: Any = {"departure": BEGIN + minute * MINUTE, "departure_time_window": MINUTE}
             found = r5py.TravelTimeMatrix(network, **ends, **more, **one).travel_time
-            assert listed(found) == [nearest_rank([it], 50) for it in expected[minute].tolist()]
+            assert listed(found) == [nearest_rank([item], 50) for item in expected[minute].tolist()]
     for percentile in PERCENTILES:
         found = listed(whole[f"travel_time_p{percentile}"])
         assert found == [nearest_rank(pair, percentile) for pair in expected.T.tolist()]

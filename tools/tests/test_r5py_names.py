@@ -81,7 +81,9 @@ def test_arguments_have_their_names_order_and_defaults(name: str) -> None:
     for part in name.split("."):
         owner = getattr(owner, part)
     found = inspect.signature(owner).parameters
-    own = {it: plain(value.default) for it, value in found.items() if value.kind is not inspect.Parameter.KEYWORD_ONLY}
+    own = {
+        item: plain(value.default) for item, value in found.items() if value.kind is not inspect.Parameter.KEYWORD_ONLY
+    }
     expected = dict(SIGNATURES[name])
     if inspect.isclass(owner) or name.endswith("from_directory"):
         expected.pop("self", None)
@@ -90,14 +92,14 @@ def test_arguments_have_their_names_order_and_defaults(name: str) -> None:
         assert list(found)[3] == "departure"
         window = datetime.timedelta(minutes=1)
         before = datetime.datetime.now() - window
-        made = r5py.RegionalTask(None, departure_time_window=window).times.at(0)
-        assert before <= made <= datetime.datetime.now()
+        result = r5py.RegionalTask(None, departure_time_window=window).times.at(0)
+        assert before <= result <= datetime.datetime.now()
     assert list(own.items()) == list(expected.items())
 
 
 def test_what_it_has_beside_is_said_by_name_alone() -> None:
     found = inspect.signature(r5py.TransportNetwork).parameters.values()
-    beside = {it.name: it.default for it in found if it.kind is inspect.Parameter.KEYWORD_ONLY}
+    beside = {item.name: item.default for item in found if item.kind is inspect.Parameter.KEYWORD_ONLY}
     assert beside == {"repair": True, "program": None}
 
 
@@ -119,4 +121,4 @@ def test_a_route_type_is_of_a_mode(route_type: int, mode: str | None) -> None:
 
 
 def test_all_public_names_are_there() -> None:
-    assert set(r5py.__all__) >= {it.partition(".")[0] for it in SIGNATURES} | {"TransportMode", "NotAvailable"}
+    assert set(r5py.__all__) >= {item.partition(".")[0] for item in SIGNATURES} | {"TransportMode", "NotAvailable"}

@@ -36,12 +36,12 @@ def test_each_block_of_the_page_runs(
     monkeypatch.setenv("TTM_CACHE", room.path("cache"))
     commands = re.findall(r"^    python3 (bench/.*)$", PAGE.read_text(), re.MULTILINE)
     assert [command.split()[0] for command in commands] == [f"bench/{name}" for name in MAKERS]
-    assert len(blocks) == 7
+    assert len(blocks) == 6
     names: dict[str, object] = {}
     with standing_in(room.folder):
         for command in commands:
-            script, *words = command.split()
-            subprocess.run([sys.executable, str(ROOT / script), *words], check=True, capture_output=True)
+            script, *arguments = command.split()
+            subprocess.run([sys.executable, str(ROOT / script), *arguments], check=True, capture_output=True)
         for block in blocks:
             exec(compile(block, str(PAGE), "exec"), names)
 
@@ -50,7 +50,7 @@ def test_the_scripts_of_the_page_pass_mypy(room: Room, blocks: list[str]) -> Non
     if shutil.which("mypy") is None or not (ROOT / "tools" / "pyproject.toml").is_file():
         pytest.skip("without mypy")
     (room.folder / "client.py").write_text("".join(blocks))
-    words = ["mypy", "--strict", "--config-file", str(ROOT / "tools" / "pyproject.toml"), "--cache-dir", "cache"]
+    arguments = ["mypy", "--strict", "--config-file", str(ROOT / "tools" / "pyproject.toml"), "--cache-dir", "cache"]
     environment = {"MYPYPATH": str(ROOT / "tools" / "src"), "PATH": "/usr/bin:/bin"}
-    ran = subprocess.run([*words, "client.py"], cwd=room.folder, env=environment, capture_output=True, text=True)
+    ran = subprocess.run([*arguments, "client.py"], cwd=room.folder, env=environment, capture_output=True, text=True)
     assert (ran.returncode, ran.stdout) == (0, "Success: no issues found in 1 source file\n"), ran.stdout

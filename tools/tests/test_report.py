@@ -11,8 +11,10 @@ from helpers import Room
 from test_study import NO_MAPS, Place, place  # noqa: F401
 from ttm_tools.measures.comparison import KINDS
 from ttm_tools.study.document import Document
-from ttm_tools.study.report import as_words
-from ttm_tools.views.equity import HEADS, MEASURES
+from ttm_tools.study.report import as_phrase
+from ttm_tools.measures.columns import header as columns_of
+from ttm_tools.measures.equity import Equity
+from ttm_tools.views.equity import HEADS
 
 SPREAD = ["jobs_in_the_centre", 50, 30, "households_of_one", "evening_twice", *[1234567, "123456.7891"], "123456.7891"]
 SPREAD += ["12.3456", "0.1234", "12.3456", "123456.7891", "-12345.6789"]
@@ -22,23 +24,27 @@ PAPER = 680  # pixels, of 96 to the inch: an A4 sheet without its margins of 15 
 
 @pytest.fixture(scope="module")
 def browser() -> Iterator[Browser]:
-    made = Browser()
-    yield made
-    made.close()
+    driver = Browser()
+    yield driver
+    driver.close()
 
 
 def report(room: Room) -> Path:
     """A report with wide tables, a sum and a long line."""
-    made = Document("Report")
-    header = [as_words(it) for it in (*HEADS, *MEASURES)]
-    made.table("Access by groups of people (equity.csv)", header, [[str(it) for it in SPREAD]] * 3)
-    header = [as_words(it) for it in ("origin", "origin_name", "access_before", "access_after", "change", "percent")]
-    origin = [str(it) for it in ORIGIN]
-    made.table("Who gains most, of all origins (compare_evening.csv has all)", [*header, *KINDS], [origin] * 3)
-    made.table("Files", ["File", "SHA-256"], [["published/feed_of_the_whole_region_2026.zip", "0123456789abcdef" * 4]])
-    made.code(["ttm --feed inputs/feed " + "--scenario inputs/scenarios/evening.csv " * 5])
+    document = Document("Report")
+    header = [as_phrase(item) for item in (*HEADS, *columns_of(Equity))]
+    document.table("Access by groups of people (equity.csv)", header, [[str(item) for item in SPREAD]] * 3)
+    header = [
+        as_phrase(name) for name in ("origin", "origin_name", "access_before", "access_after", "change", "percent")
+    ]
+    origin = [str(item) for item in ORIGIN]
+    document.table("Who gains most, of all origins (compare_evening.csv has all)", [*header, *KINDS], [origin] * 3)
+    document.table(
+        "Files", ["File", "SHA-256"], [["published/feed_of_the_whole_region_2026.zip", "0123456789abcdef" * 4]]
+    )
+    document.code(["ttm --feed inputs/feed " + "--scenario inputs/scenarios/evening.csv " * 5])
     path = Path(room.path("report.html"))
-    path.write_text(made.as_html())
+    path.write_text(document.as_html())
     return path
 
 
@@ -73,9 +79,13 @@ def test_nothing_of_a_report_is_cut_off_on_paper(room: Room, browser: Browser) -
 
 def test_the_report_counts_who_loses_and_gains_as_compare_does(place: Place) -> None:  # noqa: F811
     assert place.ran("study", place.lay_out(NO_MAPS))[2] == 0
-    words = ["compare", "--by", "origin", "--share", "50", "--within", "1800", "--out", place.path("c.csv")]
-    _, told, status = place.ran(*words, place.path("nine/matrix.omx"))
-    counts = re.search(r"[0-9]+ lose[^,]*, [0-9]+ gain( \([^)]*\))?", told)
-    assert status == 0 and counts is not None, told
-    lines = [it for it in Path(place.path("nine/report.md")).read_text().splitlines() if " lose" in it and "gain" in it]
-    assert lines and all(counts[0] in it.replace("\\", "") for it in lines), (counts[0], lines)
+    arguments = ["compare", "--by", "origin", "--share", "50", "--within", "1800", "--out", place.path("c.csv")]
+    _, errors, status = place.ran(*arguments, place.path("nine/matrix.omx"))
+    counts = re.search(r"[0-9]+ lose[^,]*, [0-9]+ gain( \([^)]*\))?", errors)
+    assert status == 0 and counts is not None, errors
+    lines = [
+        line
+        for line in Path(place.path("nine/report.md")).read_text().splitlines()
+        if " lose" in line and "gain" in line
+    ]
+    assert lines and all(counts[0] in line.replace("\\", "") for line in lines), (counts[0], lines)

@@ -58,8 +58,8 @@ def test_a_new_line_of_a_feed_without_an_end_runs_on_all_its_days(room: Room) ->
     _, said, status = room.ran("scenarios", "--out", room.path("out"), feed, str(plan))
     assert status == 0, said
     days = days_of(read_feed(room.path("out"), room.folder))
-    made = dict(zip(days.services, days.runs.sum(axis=1).tolist()))
-    assert sorted(made.values())[-1] > 8000 and all(count > 8000 for count in made.values()), made
+    result = dict(zip(days.services, days.runs.sum(axis=1).tolist()))
+    assert sorted(result.values())[-1] > 8000 and all(count > 8000 for count in result.values()), result
 
 
 def test_names_are_text_wherever_they_are_rendered(town: Town) -> None:
@@ -72,14 +72,14 @@ def test_names_are_text_wherever_they_are_rendered(town: Town) -> None:
 
 
 def test_names_are_text_in_a_report() -> None:
-    made = Document(HOSTILE)
-    made.heading(HOSTILE)
-    made.table(HOSTILE, [HOSTILE], [[HOSTILE]])
-    made.link(HOSTILE, HOSTILE)
-    made.code([HOSTILE])
-    for text in (markdown(HOSTILE), made.as_html()):
+    result = Document(HOSTILE)
+    result.heading(HOSTILE)
+    result.table(HOSTILE, [HOSTILE], [[HOSTILE]])
+    result.link(HOSTILE, HOSTILE)
+    result.code([HOSTILE])
+    for text in (markdown(HOSTILE), result.as_html()):
         assert "<img src=x" not in text and "onerror" in text
-    outside = [line for line in made.as_markdown().splitlines() if not line.startswith("    ")]
+    outside = [line for line in result.as_markdown().splitlines() if not line.startswith("    ")]
     assert not [line for line in outside if "<img" in line or "[a](" in line]
 
 
@@ -101,9 +101,9 @@ def test_dollars_are_no_mathematics(town: Town, text: str, monkeypatch: pytest.M
 
     figures, save = list[Any](), Figure.savefig
 
-    def saved(figure: Any, *words: Any, **more: Any) -> None:
+    def saved(figure: Any, *arguments: Any, **more: Any) -> None:
         figures.append(figure)
-        save(figure, *words, **more)
+        save(figure, *arguments, **more)
 
     monkeypatch.setattr(Figure, "savefig", saved)
     town.matrix(town_matrix(True, {"base": {"A": [0, 300, 900, 2400]}, text: {"A": [0, 360, 1900, ""]}}))
@@ -113,17 +113,17 @@ def test_dollars_are_no_mathematics(town: Town, text: str, monkeypatch: pytest.M
     places = [[stop, text, number / 100, 9] for number, stop in enumerate("ABCD")]
     town.write("stops.txt", "stop_id,stop_name,stop_lat,stop_lon", places)
     out, table = ["--out", town.path("made.png"), "--feed", town.feed], ["--out", town.path("made.csv")]
-    for words in (
+    for arguments in (
         ["map", "access", "--unit", text, "--title", text, "--scenario", text, *out, town.file],
         ["map", "difference", "--unit", text, *out, town.file],
         ["map", "times", "--origin", "A", *out, town.file],
         ["equity", access, "--people", jobs, *table, "--picture", town.path("made.png")],
         ["bands", access, "--people", jobs, *table, "--bands", "10,20", "--picture", town.path("made.png")],
     ):
-        _, said, status = town.ran(*words)
+        _, said, status = town.ran(*arguments)
         assert status == 0, said
-        drawn = [it for it in figures.pop().findobj(Text) if text in it.get_text()]
-        assert drawn and not any(it.get_parse_math() for it in drawn), words
+        drawn = [item for item in figures.pop().findobj(Text) if text in item.get_text()]
+        assert drawn and not any(item.get_parse_math() for item in drawn), arguments
 
 
 def test_signs_that_are_not_printed_are_shown_as_ttm_shows_them() -> None:
@@ -131,11 +131,11 @@ def test_signs_that_are_not_printed_are_shown_as_ttm_shows_them() -> None:
 
 
 def test_old_parts_are_told_and_not_left_for_a_glob(town: Town) -> None:
-    words = ["split", "--feed", town.feed, "--out", town.path("parts")]
-    assert town.ran(*words, "--parts", "4")[2] == 0
+    arguments = ["split", "--feed", town.feed, "--out", town.path("parts")]
+    assert town.ran(*arguments, "--parts", "4")[2] == 0
     line = f"{town.path('parts')}/part_0003.csv: is of another split: name another folder, or remove it"
-    assert town.ran(*words, "--parts", "2") == ("", f"ttm-tools split: {line}\n", 1)
-    assert town.ran(*words, "--parts", "4")[2] == 0
+    assert town.ran(*arguments, "--parts", "2") == ("", f"ttm-tools split: {line}\n", 1)
+    assert town.ran(*arguments, "--parts", "4")[2] == 0
 
 
 def test_what_a_killed_command_left_in_the_temporary_folder_goes(room: Room, monkeypatch: pytest.MonkeyPatch) -> None:
@@ -147,7 +147,7 @@ def test_what_a_killed_command_left_in_the_temporary_folder_goes(room: Room, mon
     for name in (f"ttm-tools-feed.{ended.pid}.x", f"ttm-tools-feed.{os.getpid()}.x", f"mine.{ended.pid}.x"):
         (room.folder / "tmp" / name).mkdir()
     assert room.ran("prepare", "--check", feed)[2] == 0
-    left = sorted(it.name for it in (room.folder / "tmp").iterdir())
+    left = sorted(path.name for path in (room.folder / "tmp").iterdir())
     assert left == [f"mine.{ended.pid}.x", f"ttm-tools-feed.{os.getpid()}.x"]
 
 
@@ -167,8 +167,8 @@ def test_a_geopackage_that_is_not_whole_is_not_there(town: Town) -> None:
     pytest.importorskip("geopandas")
     town.matrix(town_matrix(True))
     program = "import resource; resource.setrlimit(resource.RLIMIT_FSIZE, (60_000, 60_000))\nimport runpy, sys\n"
-    words = ["ttm-tools", "gis", "--feed", town.feed, "--out", town.path("made.gpkg"), town.file]
-    program += f"sys.argv = {words!r}\nrunpy.run_path({LAUNCHER!r}, run_name='__main__')\n"
+    arguments = ["ttm-tools", "gis", "--feed", town.feed, "--out", town.path("made.gpkg"), town.file]
+    program += f"sys.argv = {arguments!r}\nrunpy.run_path({LAUNCHER!r}, run_name='__main__')\n"
     ran = subprocess.run([sys.executable, "-c", program], capture_output=True, text=True)
     assert ran.returncode == 1 and ran.stderr.count("\n") == 1, ran.stderr
     assert not [name for name in town.names() if "made.gpkg" in name]
@@ -196,13 +196,13 @@ def test_what_a_full_disk_does_not_take_is_not_there(room: Room, full_disk: Path
     times: dict[str, list[Cell]] = {name: [draw.randrange(3600) for _ in names] for name in names}
     (tmp_path / "matrix.csv").write_text(town_matrix(True, {"base": times}, stops=names))
     feed, matrix = str(tmp_path), room.path("matrix.csv")
-    for name, words in (
+    for name, arguments in (
         ("made.gpkg", ["gis", "--feed", feed, "--origin", "S0"]),
         ("made.json", ["gis", "--feed", feed, "--origin", "S0"]),
         ("made.omx", ["omx"]),
         ("made.csv", ["long", "--feed", feed]),
     ):
-        ran = launched(*words, "--out", str(full_disk / name), matrix)
+        ran = launched(*arguments, "--out", str(full_disk / name), matrix)
         said = ran.stderr.decode()
         assert ran.returncode == 1 and said.count("\n") == 1 and str(full_disk / name) in said, said
         assert list(full_disk.iterdir()) == [], said
@@ -217,8 +217,8 @@ def test_a_comma_for_a_point_and_formulas_are_told(room: Room) -> None:
     assert "stops.txt: 1 places have a comma where a point is meant, such as 50,5" in out
     assert "stops.txt: 2 names begin as formulas of spreadsheets do, such as =HYPERLINK" in out
     points = room.write("points.csv", "id,lat,lon", [["P", "51,5", 7]])
-    words = ["points", "--out", room.path("out"), feed, points]
-    assert "value" not in room.ran(*words)[1] and "'51,5' is no such number" in room.ran(*words)[1]
+    arguments = ["points", "--out", room.path("out"), feed, points]
+    assert "value" not in room.ran(*arguments)[1] and "'51,5' is no such number" in room.ran(*arguments)[1]
 
 
 def test_advice_is_of_what_was_not_done_yet(room: Room, monkeypatch: pytest.MonkeyPatch) -> None:
@@ -242,6 +242,6 @@ def test_many_pairs_are_told_while_they_are_counted(room: Room, monkeypatch: pyt
     points = room.write("points.csv", "id,lat,lon", [[f"P{n}", 50 + n / 1e5, 7] for n in range(300)])
     monkeypatch.setattr("ttm_tools.walks.counting.MOST_PAIRS", 1000)
     monkeypatch.setattr("ttm_tools.walks.straight.PAIRS_AT_ONCE", 500)
-    words: list[str] = ["points", "--out", room.path("out"), feed, points]
-    assert "more than the 1,000 walks that ttm takes" in room.ran(*words)[1]
-    assert "more than the 1,000 walks that ttm takes" in room.ran(*words, "--leave-out")[1]
+    arguments: list[str] = ["points", "--out", room.path("out"), feed, points]
+    assert "more than the 1,000 walks that ttm takes" in room.ran(*arguments)[1]
+    assert "more than the 1,000 walks that ttm takes" in room.ran(*arguments, "--leave-out")[1]

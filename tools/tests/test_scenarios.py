@@ -52,7 +52,7 @@ def small(room: Room) -> Room:
 
 def plan_of(room: Room, *actions: str, before: str = "") -> str:
     """A plan of one scenario, `new`."""
-    text = before + '[[scenario]]\nname = "new"\n' + "".join(f"[[scenario.action]]\n{it}\n" for it in actions)
+    text = before + '[[scenario]]\nname = "new"\n' + "".join(f"[[scenario.action]]\n{action}\n" for action in actions)
     (room.folder / "plan.toml").write_text(text)
     return room.path("plan.toml")
 
@@ -60,9 +60,9 @@ def plan_of(room: Room, *actions: str, before: str = "") -> str:
 def made(room: Room, *actions: str, before: str = "") -> tuple[dict[str, list[str]], list[str]]:
     """The calls of each trip of the feed in which the actions were carried out and nothing else, and what was told."""
     plan = plan_of(room, *actions, before=before)
-    out, told, status = room.ran("scenarios", room.path("feed"), plan, "--only", "new", "--out", room.path("out"))
-    assert (out, status) == ("", 0), told
-    return calls(room, "out"), told.splitlines()
+    out, errors, status = room.ran("scenarios", room.path("feed"), plan, "--only", "new", "--out", room.path("out"))
+    assert (out, status) == ("", 0), errors
+    return calls(room, "out"), errors.splitlines()
 
 
 def calls(room: Room, folder: str) -> dict[str, list[str]]:
@@ -83,7 +83,7 @@ R1 = ["A 08:00:00", "B 08:05:00 08:05:30", "C 08:11:00 08:11:30", "D 08:20:00"]
 
 
 def test_routes_and_trips_are_taken_out_and_shifted(small: Room) -> None:
-    feed, told = made(
+    feed, message = made(
         small,
         'do = "remove_route"\nroute = "Q"',
         'do = "remove_trip"\ntrip = ["R2", "R3"]',
@@ -94,7 +94,7 @@ def test_routes_and_trips_are_taken_out_and_shifted(small: Room) -> None:
         "R1": ["A 08:01:30", "B 08:06:30 08:07:00", "C 08:12:30 08:13:00", "D 08:21:30"],
         "S1": ["D 08:11:00", "C 08:20:00 08:20:30", "B 08:26:00 08:26:30", "A 08:31:00"],
     }
-    assert told[:4] == [
+    assert message[:4] == [
         "new: 1 remove_route Q: trips 1 taken out; trips 5 to 4, stops 4, stop times 18 to 16",
         "new: 2 remove_trip R2, R3: trips 2 taken out; trips 4 to 2, stops 4, stop times 16 to 8",
         "new: 3 shift_route R: trips 2 shifted; trips 2, stops 4, stop times 8",
@@ -103,9 +103,9 @@ def test_routes_and_trips_are_taken_out_and_shifted(small: Room) -> None:
 
 
 def test_trips_no_longer_call_at_a_stop(small: Room) -> None:
-    feed, told = made(small, 'do = "remove_stop"\nstop = ["A", "B"]')
+    feed, printed = made(small, 'do = "remove_stop"\nstop = ["A", "B"]')
     assert feed["R1"] == R1[2:] and feed["S1"] == ["D 08:10:00", "C 08:19:00 08:19:30"] and "Q1" not in feed
-    assert told[1] == "  1 trips taken out that were left with a single call"
+    assert printed[1] == "  1 trips taken out that were left with a single call"
     (small.folder / "out").rename(small.folder / "before")
     feed, _ = made(small, 'do = "remove_stop"\nstop = "A"\nroute = "Q"\n', 'do = "remove_stop"\nstop = "C"')
     assert "Q1" not in feed and feed["R1"] == [R1[0], R1[1], R1[3]]
@@ -121,11 +121,11 @@ seconds = [120, 180]
 dwell = 20
 departures = [{ first = "08:00", last = "08:20", every = 600 }, { first = 08:10:00, last = "08:20:00", every = 300 }]
 days = ["saturday", "sunday"]"""
-    feed, told = made(small, action, before=NEW_STOP)
+    feed, printed = made(small, action, before=NEW_STOP)
     assert len(feed) == 5 + 2 * 4  # at 8:00, 8:10, 8:15 and 8:20
     assert feed["T-0#3"] == ["A 08:15:00", "N 08:17:00 08:17:20", "D 08:20:20"]
     assert feed["T-1#1"] == ["D 08:00:00", "N 08:03:00 08:03:20", "A 08:05:20"]
-    assert told[:2] == [
+    assert printed[:2] == [
         "new: 1 add_line T: trips 8 added; trips 5 to 13, stops 4 to 5, stop times 18 to 42",
         "  route T: 3 stops in 00:05:20; 4 departures from each end",
     ]
@@ -137,21 +137,21 @@ days = ["saturday", "sunday"]"""
 
 def test_a_new_line_by_its_speed_in_one_direction(small: Room) -> None:
     """From A to N are 1,496 metres: 1,001 east (0.014 degrees at 50 degrees north) and 1,112 north."""
-    words = 'stops = ["A", "N"]\nspeed = 36\nboth = false\nservice = "M"'
+    arguments = 'stops = ["A", "N"]\nspeed = 36\nboth = false\nservice = "M"'
     times = 'departures = [{ first = "08:00", last = "08:09", every = 600 }]'
-    feed, _ = made(small, f'do = "add_line"\nroute = "T"\n{words}\n{times}', before=NEW_STOP)
+    feed, _ = made(small, f'do = "add_line"\nroute = "T"\n{arguments}\n{times}', before=NEW_STOP)
     assert feed["T-0#1"] == ["A 08:00:00", "N 08:02:30"] and "T-1#1" not in feed
 
 
 def test_departures_are_added_between_those_that_are_there(small: Room) -> None:
     # R1 leaves at 08:00 and R2 at 08:20; behind R2 the next departure on a Monday is that of R3, of another service
-    feed, told = made(small, 'do = "headway"\nroute = "R"\ntimes = 2\nfrom = "08:00"\nto = "09:00"')
+    feed, message = made(small, 'do = "headway"\nroute = "R"\ntimes = 2\nfrom = "08:00"\nto = "09:00"')
     assert [line for name, line in feed.items() if "#" in name] == [
         ["A 08:10:00", "B 08:15:00 08:15:30", "C 08:21:00 08:21:30", "D 08:30:00"],
         ["A 08:40:00", "B 08:45:00 08:45:30", "C 08:51:00 08:51:30", "D 09:01:00"],
     ]
     assert {"R1", "R2", "R3", "S1", "Q1"} <= feed.keys()
-    assert [line for line in told if "added between" in line] == [
+    assert [line for line in message if "added between" in line] == [
         "  route R, A to D: 2 departures added between 2",
         "  route R, D to A: 0 departures added between 1",
     ]
@@ -160,18 +160,18 @@ def test_departures_are_added_between_those_that_are_there(small: Room) -> None:
 
 
 def test_three_times_as_often_is_two_more_in_each_gap(small: Room) -> None:
-    words = 'route = "R"\ndirection = 0\ntimes = 3\nfrom = "08:00"\nto = "08:13"'
-    feed, _ = made(small, f'do = "headway"\n{words}')
+    arguments = 'route = "R"\ndirection = 0\ntimes = 3\nfrom = "08:00"\nto = "08:13"'
+    feed, _ = made(small, f'do = "headway"\n{arguments}')
     # a third and two thirds of 20 minutes behind 08:00, the latter past the end
     assert [line[0] for name, line in feed.items() if "#" in name] == ["A 08:06:40"]
 
 
 def test_copies_of_a_typical_trip_run_every_so_often(small: Room) -> None:
     """From A to D three trips leave from 8:00 to 9:00, in 20, 21 and 20 minutes: the median is 20, first R1."""
-    feed, told = made(small, 'do = "headway"\nroute = "R"\nevery = 1200\nfrom = "08:00"\nto = "09:01"')
+    feed, message = made(small, 'do = "headway"\nroute = "R"\nevery = 1200\nfrom = "08:00"\nto = "09:01"')
     assert sorted(feed) == ["Q1", "R1#1", "R1#2", "R1#3", "R1#4", "S1#1", "S1#2", "S1#3", "S1#4"]
     assert feed["R1#2"] == ["A 08:20:00", "B 08:25:00 08:25:30", "C 08:31:00 08:31:30", "D 08:40:00"]
-    assert told[1:3] == [
+    assert message[1:3] == [
         "  route R, A to D: 3 departures give way to 4, copies of trip R1 (4 calls, 00:20:00)",
         "  route R, D to A: 1 departures give way to 4, copies of trip S1 (4 calls, 00:20:00)",
     ]
@@ -180,8 +180,8 @@ def test_copies_of_a_typical_trip_run_every_so_often(small: Room) -> None:
 
 
 def test_only_the_trips_of_a_period_and_of_a_direction_give_way(small: Room) -> None:
-    words = 'route = "R"\ndirection = 0\nservice = "M"\nevery = 900\nfrom = "08:20"\nto = "09:00"'
-    feed, _ = made(small, f'do = "headway"\n{words}')
+    arguments = 'route = "R"\ndirection = 0\nservice = "M"\nevery = 900\nfrom = "08:20"\nto = "09:00"'
+    feed, _ = made(small, f'do = "headway"\n{arguments}')
     assert sorted(feed) == ["Q1", "R1", "R2#1", "R2#2", "R2#3", "R3", "S1"]
     assert [feed[f"R2#{number}"][0] for number in (1, 2, 3)] == ["A 08:20:00", "A 08:35:00", "A 08:50:00"]
 
@@ -189,11 +189,11 @@ def test_only_the_trips_of_a_period_and_of_a_direction_give_way(small: Room) -> 
 def test_departures_by_headways_give_way_too(small: Room) -> None:
     """Q1 leaves at 7:40, 7:50, .. 8:50 by its headways; from 8:00 to 8:30 three of them give way to two."""
     small.write("feed/frequencies.txt", "trip_id,start_time,end_time,headway_secs", [["Q1", "7:40:00", "8:55:00", 600]])
-    feed, told = made(small, 'do = "headway"\nroute = "Q"\nevery = 900\nfrom = "08:00"\nto = "08:30"')
+    feed, message = made(small, 'do = "headway"\nroute = "Q"\nevery = 900\nfrom = "08:00"\nto = "08:30"')
     assert feed["Q1#2"] == ["A 08:15:00", "D 08:45:00"] and "Q1" in feed
     found = [[row["trip_id"], row["start_time"], row["end_time"]] for row in rows(small, "out/frequencies.txt")]
     assert found == [["Q1", "07:40:00", "07:50:01"], ["Q1", "08:30:00", "08:50:01"]]
-    assert "3 departures give way to 2, copies of trip Q1" in told[1]
+    assert "3 departures give way to 2, copies of trip Q1" in message[1]
 
 
 def test_run_times_by_a_factor_add_up_without_drift(small: Room) -> None:
@@ -205,9 +205,9 @@ def test_run_times_by_a_factor_add_up_without_drift(small: Room) -> None:
 
 def test_run_times_between_two_stops_and_dwell_times(small: Room) -> None:
     """From B to C 330 seconds become 165; all later times move along."""
-    feed, told = made(small, 'do = "speed"\nroute = "R"\nfrom_stop = "B"\nto_stop = "C"\nfactor = 0.5')
+    feed, printed = made(small, 'do = "speed"\nroute = "R"\nfrom_stop = "B"\nto_stop = "C"\nfactor = 0.5')
     assert feed["R1"] == ["A 08:00:00", "B 08:05:00 08:05:30", "C 08:08:15 08:08:45", "D 08:17:15"]
-    assert feed["S1"][1] == "C 08:19:00 08:19:30" and told[0].startswith("new: 1 speed R: trips 3 changed;")
+    assert feed["S1"][1] == "C 08:19:00 08:19:30" and printed[0].startswith("new: 1 speed R: trips 3 changed;")
     (small.folder / "out").rename(small.folder / "before")
     feed, _ = made(small, 'do = "speed"\nroute = "R"\ndwell = -20')
     assert feed["R1"] == ["A 08:00:00", "B 08:05:00 08:05:10", "C 08:10:40 08:10:50", "D 08:19:20"]
@@ -244,9 +244,9 @@ def test_a_route_ends_earlier_and_begins_later(small: Room) -> None:
 def test_a_trip_that_ends_elsewhere_has_another_headsign(small: Room) -> None:
     trips = [["R", "M", "R1", 0, "Delta"], ["R", "M", "R2", 0, ""], ["Q", "M", "Q1", 0, "Delta"]]
     small.write("feed/trips.txt", "route_id,service_id,trip_id,direction_id,trip_headsign", trips)
-    times = [it for it in rows(small, "feed/stop_times.txt") if it["trip_id"] in ("R1", "R2", "Q1")]
+    times = [row for row in rows(small, "feed/stop_times.txt") if row["trip_id"] in ("R1", "R2", "Q1")]
     heads = "trip_id,arrival_time,departure_time,stop_id,stop_sequence,pickup_type,drop_off_type"
-    calls_with = [[*it.values(), "Delta"] for it in times]
+    calls_with = [[*time.values(), "Delta"] for time in times]
     small.write("feed/stop_times.txt", f"{heads},stop_headsign", calls_with)
     made(small, 'do = "cut"\nroute = "R"\nafter = "B"')
     signs = {row["trip_id"]: row["trip_headsign"] for row in rows(small, "out/trips.txt")}
@@ -272,9 +272,9 @@ def test_the_agency_of_a_new_line_is_told(small: Room) -> None:
 
 def test_an_action_that_is_none_is_told_with_all_that_there_are(small: Room) -> None:
     plan = plan_of(small, 'do = "frequency"')
-    _, told, status = small.ran("scenarios", small.path("feed"), plan, "--out", small.path("out"))
+    _, errors, status = small.ran("scenarios", small.path("feed"), plan, "--out", small.path("out"))
     actions = "remove_route, remove_trip, remove_stop, shift_route, shift_trip, add_line, headway, speed, extend, cut"
-    assert status == 1 and sorted(told.partition("allowed: ")[2].strip().split(", ")) == sorted(actions.split(", "))
+    assert status == 1 and sorted(errors.partition("allowed: ")[2].strip().split(", ")) == sorted(actions.split(", "))
 
 
 def test_headways_move_with_the_first_stop(small: Room) -> None:
@@ -469,10 +469,10 @@ FAULTS = [
 ]
 
 
-@pytest.mark.parametrize("action, told", FAULTS)
-def test_what_a_plan_can_not_mean_is_told_with_its_line(small: Room, action: str, told: str) -> None:
+@pytest.mark.parametrize("action, message", FAULTS)
+def test_what_a_plan_can_not_mean_is_told_with_its_line(small: Room, action: str, message: str) -> None:
     plan = plan_of(small, action)
-    small.refused(f"{plan}: {told}", "scenarios", small.path("feed"), plan, "--out", small.path("out"))
+    small.refused(f"{plan}: {message}", "scenarios", small.path("feed"), plan, "--out", small.path("out"))
 
 
 def test_plans_that_are_none(small: Room) -> None:
@@ -481,7 +481,7 @@ def test_plans_that_are_none(small: Room) -> None:
         '[[scenario]]\nname = "{}"\n[[scenario.action]]\ndo = "remove_route"\nroute = "R"\n',
     )
     allowed = "at most 100 bytes, no dot or space in front, none of / \\ @ # , and quotes; base and today are taken"
-    for text, told in (
+    for text, printed in (
         ("[[scenario]\n", ": is no TOML file: Expected ']]' at the end of an array declaration (at line 1, column 11)"),
         ("# nothing\n", ": line 1: scenario needed"),
         ("[[szenario]]\n", ": line 1: szenario isn't known; the nearest is 'scenario'; allowed: scenario, stop"),
@@ -496,21 +496,21 @@ def test_plans_that_are_none(small: Room) -> None:
         (one.format("x") + '[[stop]]\nid = "A"\n', ": line 7: id 'A' is there already"),
     ):
         plan.write_text(text)
-        small.refused(f"{plan}{told}", "scenarios", small.path("feed"), str(plan), "--out", small.path("out"))
+        small.refused(f"{plan}{printed}", "scenarios", small.path("feed"), str(plan), "--out", small.path("out"))
     plan.write_text(one.format("x"))
-    words = ["scenarios", small.path("feed"), str(plan), "--out", small.path("out")]
-    small.refused(f"{plan}: no scenario y", *words, "--only", "y")
+    arguments = ["scenarios", small.path("feed"), str(plan), "--out", small.path("out")]
+    small.refused(f"{plan}: no scenario y", *arguments, "--only", "y")
     Path(small.path("feed/stop_times.txt")).write_text("trip_id,stop_id,stop_sequence\nR1,X,1\n")
-    told = "2 faults, first stop_times.txt: record 2: unknown stop (ttm-tools prepare tells and mends them)"
-    small.refused(f"{small.path('feed')}: {told}", *words)
+    printed = "2 faults, first stop_times.txt: record 2: unknown stop (ttm-tools prepare tells and mends them)"
+    small.refused(f"{small.path('feed')}: {printed}", *arguments)
 
 
 def test_lines_are_counted_past_comments_and_long_texts(small: Room) -> None:
     text = '# [[scenario]]\n[[scenario]]\nname = """\\\n  new"""\n[[ scenario.action ]]\n'
     text += '"do" = "cut" # [\nroute = [\n "R",\n]\nafter = "X"\n'
     Path(small.path("plan.toml")).write_text(text)
-    told = f"{small.path('plan.toml')}: line 10: after 'X' is no stop of the feed or of the plan"
-    small.refused(told, "scenarios", small.path("feed"), small.path("plan.toml"), "--out", small.path("out"))
+    message = f"{small.path('plan.toml')}: line 10: after 'X' is no stop of the feed or of the plan"
+    small.refused(message, "scenarios", small.path("feed"), small.path("plan.toml"), "--out", small.path("out"))
 
 
 def test_today_is_the_base_and_what_has_everything_is_left_out(town: Town) -> None:
@@ -519,21 +519,21 @@ def test_today_is_the_base_and_what_has_everything_is_left_out(town: Town) -> No
     town.matrix(
         town_matrix(True, {"base": {"A": [0, 1, 2, 3]}, "today": {"A": today}, "tram": {"A": [0, 200, 900, 800]}})
     )
-    out, told, status = town.ran("compare", town.file)
-    assert (read(out)[0]["what"], told.split(":")[0], status) == ("new", "tram compared with today", 0)
-    told = town.ran("compare", "--base", "base", "--scenario", "tram", town.file)[1]
-    assert told.startswith("tram compared with base")
+    out, errors, status = town.ran("compare", town.file)
+    assert (read(out)[0]["what"], errors.split(":")[0], status) == ("new", "tram compared with today", 0)
+    errors = town.ran("compare", "--base", "base", "--scenario", "tram", town.file)[1]
+    assert errors.startswith("tram compared with base")
     left = f"{town.file}: base, which has the trips of all scenarios at once, is left out\n"
-    out, told, _ = town.ran("long", town.file)
-    assert (list(dict.fromkeys(row["scenario"] for row in read(out))), told) == (["today", "tram"], left)
+    out, errors, _ = town.ran("long", town.file)
+    assert (list(dict.fromkeys(row["scenario"] for row in read(out))), errors) == (["today", "tram"], left)
     assert town.ran("long", "--scenario", "base", town.file)[1] == ""
     pytest.importorskip("h5py")
     assert town.ran("omx", "--out", town.path("m.omx"), town.file)[1] == left
-    out, told, _ = town.ran("compare", town.path("m.omx"))
-    assert (read(out)[0]["what"], told.split(":")[0]) == ("new", "tram compared with today")
+    out, errors, _ = town.ran("compare", town.path("m.omx"))
+    assert (read(out)[0]["what"], errors.split(":")[0]) == ("new", "tram compared with today")
     jobs = town.write("jobs.csv", "stop_id,jobs", [["A", 7], ["D", 8]])
-    out, told, _ = town.ran("access", "--opportunities", jobs, town.file)
-    assert ([row["scenario"] for row in read(out)], told) == (["today", "tram"], left)
+    out, errors, _ = town.ran("access", "--opportunities", jobs, town.file)
+    assert ([row["scenario"] for row in read(out)], errors) == (["today", "tram"], left)
     Path(town.path("access.csv")).write_text(out)
     out, _, _ = town.ran("equity", town.path("access.csv"), "--people", town.write("p.csv", "id,all", [["A", 3]]))
     assert [(row["scenario"], row["mean"]) for row in read(out)] == [("today", "7"), ("tram", "15")]
@@ -543,17 +543,19 @@ def test_walks_that_bring_old_stops_nearer_are_told(small: Room) -> None:
     """From A to B by way of N 590 seconds; straight lines and these three sides of a triangle bring nothing nearer."""
     line = 'do = "add_line"\nroute = "T"\nstops = ["A", "N"]\nspeed = 30\nservice = "M"'
     made(small, f'{line}\ndepartures = [{{ first = "8:00", last = "8:00", every = 60 }}]', before=NEW_STOP)
-    told = f"{small.path('out/footpaths.csv')}: {{}} footpaths; {{}}\n"
-    assert small.ran("walks", "--limit", "3000", small.path("out"))[1] == told.format(20, "0 stops have no coordinates")
+    message = f"{small.path('out/footpaths.csv')}: {{}} footpaths; {{}}\n"
+    assert small.ran("walks", "--limit", "3000", small.path("out"))[1] == message.format(
+        20, "0 stops have no coordinates"
+    )
     table = [["A", "N", 290], ["N", "B", 300], ["A", "B", 590], ["B", "A", 600]]
     small.write("walks.csv", "from_stop_id,to_stop_id,seconds", table)
-    words = ["walks", "--table", small.path("walks.csv"), small.path("out")]
-    assert small.ran(*words)[1] == told.format(4, "0 seconds with decimals were rounded up")
+    arguments = ["walks", "--table", small.path("walks.csv"), small.path("out")]
+    assert small.ran(*arguments)[1] == message.format(4, "0 seconds with decimals were rounded up")
     small.write("walks.csv", "from_stop_id,to_stop_id,seconds", [*table[:2], ["A", "B", 591], ["B", "A", 600]])
     nearer = "walks to new stops bring 1 pairs of old stops nearer, so today isn't as it was: A and B, "
-    assert small.ran(*words)[1].splitlines()[1] == f"{nearer}590 seconds apart by way of them, and 591 without"
+    assert small.ran(*arguments)[1].splitlines()[1] == f"{nearer}590 seconds apart by way of them, and 591 without"
     small.write("walks.csv", "from_stop_id,to_stop_id,seconds", [*table[:2], ["B", "A", 600]])
-    assert small.ran(*words)[1].endswith("590 seconds apart by way of them, and out of reach without\n")
+    assert small.ran(*arguments)[1].endswith("590 seconds apart by way of them, and out of reach without\n")
 
 
 @pytest.fixture
@@ -571,20 +573,20 @@ NEARER = "walks to new stops bring 1 pairs of old stops nearer, so today isn't a
 def test_walks_that_bring_old_stops_nearer_are_told_in_python(with_new_stop: Room, program: str) -> None:
     """Where single walks end before the run's do: 300 seconds and 600."""
     ends = ("08:00", "08:00")
-    words: dict[str, Any] = {"footpaths": with_new_stop.path("walks.csv"), "program": program}
+    arguments: dict[str, Any] = {"footpaths": with_new_stop.path("walks.csv"), "program": program}
     with pytest.warns(UserWarning, match=NEARER):
-        found = ttm_tools.matrix(with_new_stop.path("out"), "20260504", ends, walk=600, **words)
+        found = ttm_tools.matrix(with_new_stop.path("out"), "20260504", ends, walk=600, **arguments)
     assert found.times().loc["A", "B"] == 300  # by the bus; on foot it takes 590
     with warnings.catch_warnings():
         warnings.simplefilter("error")
-        ttm_tools.matrix(with_new_stop.path("out"), "20260504", ends, walk=589, **words)
+        ttm_tools.matrix(with_new_stop.path("out"), "20260504", ends, walk=589, **arguments)
 
 
 def test_walks_that_bring_old_stops_nearer_are_told_by_explain(with_new_stop: Room, program: str) -> None:
-    words = ["--origin", "A", "--destination", "B", "--date", "20260504", "--from", "08:00", "--to", "08:00"]
-    words += ["--footpaths", with_new_stop.path("walks.csv"), "--program", program]
-    _, told, status = with_new_stop.ran("explain", with_new_stop.path("out"), *words)
-    assert status == 0 and told.startswith(NEARER), told
+    arguments = ["--origin", "A", "--destination", "B", "--date", "20260504", "--from", "08:00", "--to", "08:00"]
+    arguments += ["--footpaths", with_new_stop.path("walks.csv"), "--program", program]
+    _, errors, status = with_new_stop.ran("explain", with_new_stop.path("out"), *arguments)
+    assert status == 0 and errors.startswith(NEARER), errors
 
 
 def test_walks_that_bring_old_stops_nearer_are_told_by_points(
@@ -597,16 +599,16 @@ def test_walks_that_bring_old_stops_nearer_are_told_by_points(
         "ttm_tools.walks.walks_of", lambda *_: Walks(names, places[:, 0], places[:, 1], places[:, 2], 0)
     )
     points = with_new_stop.write("points.csv", "id,lat,lon", [["P", 50.0, 8.0]])
-    words = ["points", with_new_stop.path("out"), points, "--out", with_new_stop.path("doors"), "--limit", "590"]
-    _, told, status = with_new_stop.ran(*words)
-    assert status == 0 and told.splitlines()[-1].startswith(NEARER), told
+    arguments = ["points", with_new_stop.path("out"), points, "--out", with_new_stop.path("doors"), "--limit", "590"]
+    _, errors, status = with_new_stop.ran(*arguments)
+    assert status == 0 and errors.splitlines()[-1].startswith(NEARER), errors
 
 
 def test_limits_of_ttm_are_told_before_anything_is_written(small: Room, monkeypatch: pytest.MonkeyPatch) -> None:
     (small.folder / "plan.toml").write_text(TWO)
     plan = small.path("plan.toml")
-    words = ["scenarios", small.path("feed"), plan, "--out", small.path("out")]
-    for name, most, told in (
+    arguments = ["scenarios", small.path("feed"), plan, "--out", small.path("out")]
+    for name, most, printed in (
         ("limits.MOST_TRIPS", 5, ": the feed of all scenarios would have 6 trips, and ttm takes 5: {}"),
         ("limits.MOST_STOP_TIMES", 19, ": the feed of all scenarios would have 20 stop times, and ttm takes 19: {}"),
         (
@@ -619,7 +621,7 @@ def test_limits_of_ttm_are_told_before_anything_is_written(small: Room, monkeypa
         (small.folder / "plan.toml").write_text(TWO + NEW_STOP * name.endswith("STOPS"))
         with monkeypatch.context() as patch:
             patch.setattr(f"ttm_tools.plans.{name}", most)
-            small.refused(plan + told.format("fewer scenarios, or actions on fewer trips"), *words)
+            small.refused(plan + printed.format("fewer scenarios, or actions on fewer trips"), *arguments)
 
 
 def test_what_a_day_of_all_scenarios_has_is_told(small: Room, monkeypatch: pytest.MonkeyPatch) -> None:
@@ -627,7 +629,7 @@ def test_what_a_day_of_all_scenarios_has_is_told(small: Room, monkeypatch: pytes
     (small.folder / "plan.toml").write_text(TWO)
     what = "all scenarios together: on a day at most 6 runs with 20 stop times (2026-05-04)"
     more = "with a day before and one after {}: --back 0 --ahead 0, since ttm takes 1,000,000 and 20"
-    for most, told in (
+    for most, printed in (
         (60, what),
         (20, f"{what}; {more.format('16 runs with 52')}"),
         (19, f"{what}, and ttm takes 1,000,000 and 19: fewer scenarios, or actions on fewer trips"),
@@ -637,7 +639,7 @@ def test_what_a_day_of_all_scenarios_has_is_told(small: Room, monkeypatch: pytes
             patch.setattr("ttm_tools.plans.make.refuse_limits", lambda *_: None)
             out = small.path(f"out{most}")
             lines = small.ran("scenarios", small.path("feed"), small.path("plan.toml"), "--out", out)[1].splitlines()
-        assert lines[-1] == told
+        assert lines[-1] == printed
 
 
 @pytest.mark.parametrize("seed", range(4))
@@ -656,11 +658,11 @@ def test_whatever_is_damaged_is_told_in_a_line(small: Room, seed: int) -> None:
         whole = (small.folder / name).read_bytes()
         (small.folder / name).write_bytes(damaged(draw, whole))
         before = small.names()
-        _, told, status = small.ran(
+        _, errors, status = small.ran(
             "scenarios", small.path("feed"), small.path("plan.toml"), "--out", small.path("out")
         )
-        assert status in (0, 1), told
-        assert status == 0 or len(told.splitlines()) == 1 and small.names() == before, told
+        assert status in (0, 1), errors
+        assert status == 0 or len(errors.splitlines()) == 1 and small.names() == before, errors
         statuses.add(status)
         shutil.rmtree(small.folder / "out", ignore_errors=True)
         (small.folder / name).write_bytes(whole)
@@ -672,9 +674,9 @@ def test_the_journey_behind_a_cell_of_a_scenario_beside_today(small: Room, progr
     (small.folder / "plan.toml").write_text(TWO)
     small.ran("scenarios", small.path("feed"), small.path("plan.toml"), "--out", small.path("out"))
     files = [small.path(f"out/scenarios/{name}.csv") for name in ("today", "fast")]
-    words = ["--origin", "A", "--destination", "D", "--date", "20260504", "--from", "08:00", "--to", "08:00"]
-    out, told, status = small.ran("explain", small.path("out"), *files, *words, "--program", program)
-    assert (told, status) == ("", 0)
+    arguments = ["--origin", "A", "--destination", "D", "--date", "20260504", "--from", "08:00", "--to", "08:00"]
+    out, errors, status = small.ran("explain", small.path("out"), *files, *arguments, "--program", program)
+    assert (errors, status) == ("", 0)
     (heads,) = [line for line in out.splitlines() if line.startswith("today: ")]
     assert heads.split() == ["today:", "1200", "seconds", "fast:", "900", "seconds"]
 

@@ -8,7 +8,7 @@ import numpy as np
 import pytest
 
 from helpers import CALENDAR, STOP_TIMES, Room, read
-from ttm_tools.measures.service import Calls, Period, Running, vehicles_in
+from ttm_tools.measures.service import ServiceCalls, Period, ServiceRuns, vehicles_in
 
 NONE = np.zeros(0, np.int64)
 
@@ -36,8 +36,8 @@ def line(room: Room) -> Room:
     return room
 
 
-def service(line: Room, *words: str) -> list[dict[str, str]]:
-    out, _, status = line.ran("service", str(line.folder), *words, "--date", "20260504")
+def service(line: Room, *arguments: str) -> list[dict[str, str]]:
+    out, _, status = line.ran("service", str(line.folder), *arguments, "--date", "20260504")
     assert status == 0
     return read(out)
 
@@ -48,7 +48,7 @@ def numbers(row: dict[str, str]) -> list[str]:
 
 def test_a_direction_of_a_route_by_hand(line: Room) -> None:
     base, cut, back, *_ = service(line, line.path("cut.csv"))
-    assert [base[it] for it in ("scenario", "route", "route_name", "direction")] == ["base", "R", "7", "0"]
+    assert [base[name] for name in ("scenario", "route", "route_name", "direction")] == ["base", "R", "7", "0"]
     # gaps of 10 and 20 minutes; 3 km in 6 minutes, three times
     assert numbers(base) == ["3", "15", "20", "08:00:00", "08:36:00", "30", "1", "0.3", "9"]
     assert numbers(cut) == ["2", "10", "10", "08:00:00", "08:16:00", "30", "1", "0.2", "6"]
@@ -66,12 +66,12 @@ def test_periods_have_what_leaves_in_them(line: Room) -> None:
 
 
 def test_all_together_and_what_a_scenario_takes(line: Room) -> None:
-    out, told, _ = line.ran("service", str(line.folder), line.path("cut.csv"), "--by", "all", "--date", "20260504")
+    out, errors, _ = line.ran("service", str(line.folder), line.path("cut.csv"), "--by", "all", "--date", "20260504")
     base, cut = read(out)
     # 4 runs of 3 km and 6 minutes, and one of 1 km and 4 minutes; no two at once
     assert (base["departures"], base["vehicle_hours"], base["vehicle_kilometres"]) == ("5", "0.47", "13")
     assert (cut["departures"], cut["vehicles"]) == ("4", "1")
-    assert told.splitlines() == [
+    assert errors.splitlines() == [
         "base: 5 departures, 1 vehicles at once, 0.5 vehicle hours, 13.0 vehicle kilometres",
         "cut compared with base: departures 5 to 4, vehicles at once 1 to 1, vehicle hours 0.5 to 0.4, "
         "vehicle kilometres 13.0 to 10.0",
@@ -89,8 +89,8 @@ def test_departures_an_hour_by_stop(line: Room) -> None:
 
 
 def test_a_day_without_service_has_no_lines(line: Room) -> None:
-    out, told, status = line.ran("service", str(line.folder), "--date", "2026-06-04")
-    assert (out.count("\n"), status) == (1, 0) and told.startswith("base: 0 departures, 0 vehicles at once")
+    out, errors, status = line.ran("service", str(line.folder), "--date", "2026-06-04")
+    assert (out.count("\n"), status) == (1, 0) and errors.startswith("base: 0 departures, 0 vehicles at once")
 
 
 def test_headways_count_as_departures(line: Room) -> None:
@@ -101,8 +101,8 @@ def test_headways_count_as_departures(line: Room) -> None:
 
 def test_the_page_has_minutes_by_hour_for_each_scenario(line: Room) -> None:
     page = line.path("p.html")
-    words = [line.path("cut.csv"), "--page", page, "--out", line.path("o.csv")]
-    assert line.ran("service", str(line.folder), *words, "--date", "20260504")[2] == 0
+    arguments = [line.path("cut.csv"), "--page", page, "--out", line.path("o.csv")]
+    assert line.ran("service", str(line.folder), *arguments, "--date", "20260504")[2] == 0
     text = Path(page).read_text()
     assert "<h2>Route 7, direction 0</h2>" in text
     assert "<tr><th>08</th><td>00 10 30</td><td>00 10</td></tr>" in text and "<tr><th>24</th><td>10</td>" in text
@@ -111,8 +111,8 @@ def test_the_page_has_minutes_by_hour_for_each_scenario(line: Room) -> None:
 def test_the_page_takes_names_as_text(line: Room) -> None:
     line.write("routes.txt", "route_id,route_short_name", [["R", "<script>x</script>"], ["Q", ""]])
     page = line.path("p.html")
-    words = ["--page", page, "--out", line.path("o.csv"), "--date", "20260504"]
-    assert line.ran("service", str(line.folder), *words)[2] == 0
+    arguments = ["--page", page, "--out", line.path("o.csv"), "--date", "20260504"]
+    assert line.ran("service", str(line.folder), *arguments)[2] == 0
     assert "<script>" not in Path(page).read_text() and "Route &lt;script&gt;" in Path(page).read_text()
 
 
@@ -122,8 +122,8 @@ def test_lines_on_the_map_are_wider_where_more_run(line: Room, monkeypatch: pyte
 
     figures: list[Figure] = []
     monkeypatch.setattr(Figure, "savefig", lambda figure, *_, **__: figures.append(figure))
-    words = ["--picture", line.path("m.png"), "--periods", "08:00,09:00", "--out", line.path("o.csv")]
-    assert line.ran("service", str(line.folder), *words, "--date", "20260504")[2] == 0
+    arguments = ["--picture", line.path("m.png"), "--periods", "08:00,09:00", "--out", line.path("o.csv")]
+    assert line.ran("service", str(line.folder), *arguments, "--date", "20260504")[2] == 0
     (axes,) = figures[0].axes
     (pieces,) = axes.collections
     # A to B and B to C have four an hour, both ways together
@@ -147,16 +147,16 @@ def test_what_a_scenario_adds_to_a_route_is_of_that_route(line: Room) -> None:
     (line.folder / "scenarios").mkdir()
     line.write("scenarios/today.csv", "action,id,seconds", [["remove_trip", "S", ""], ["remove_trip", "N", ""]])
     line.write("scenarios/more.csv", "action,id,seconds", [])
-    made = [(row["scenario"], row["route"], row["departures"]) for row in service(line, "--by", "route")]
-    assert made == [("today", "R", "3"), ("more", "R", "4"), ("today", "X@more", "0"), ("more", "X@more", "1")]
+    result = [(row["scenario"], row["route"], row["departures"]) for row in service(line, "--by", "route")]
+    assert result == [("today", "R", "3"), ("more", "R", "4"), ("today", "X@more", "0"), ("more", "X@more", "1")]
 
 
 def test_wrong_words_are_told(line: Room) -> None:
-    for words in (["--periods", "08:00"], ["--periods", "9:00,08:00"], ["--periods", "08:00,x"], ["--by", "x"]):
-        assert line.ran("service", str(line.folder), "--date", "20260504", *words)[2] == 2
+    for arguments in (["--periods", "08:00"], ["--periods", "9:00,08:00"], ["--periods", "08:00,x"], ["--by", "x"]):
+        assert line.ran("service", str(line.folder), "--date", "20260504", *arguments)[2] == 2
     other = line.write("scenarios.csv", "action,id,seconds", [])
-    told = "scenario files are called by their names, each once, and none base"
-    line.refused(f"{other}, {other}: {told}", "service", str(line.folder), other, other, "--date", "20260504")
+    message = "scenario files are called by their names, each once, and none base"
+    line.refused(f"{other}, {other}: {message}", "service", str(line.folder), other, other, "--date", "20260504")
 
 
 @pytest.mark.parametrize("seed", range(5))
@@ -164,11 +164,11 @@ def test_vehicles_are_those_that_a_count_by_the_second_finds(seed: int) -> None:
     draw = random.Random(seed)
     start = np.array([draw.randrange(100) for _ in range(12)])
     end = start + np.array([draw.randrange(1, 40) for _ in range(12)])
-    running = Running(np.arange(12), start, end, np.zeros(12), Calls(NONE, NONE, NONE, NONE, NONE))
+    running = ServiceRuns(np.arange(12), start, end, np.zeros(12), ServiceCalls(NONE, NONE, NONE, NONE, NONE))
     chosen = np.array([draw.random() < 0.8 for _ in range(12)])
     period = Period(draw.randrange(50), draw.randrange(60, 120))
     most = max(
-        sum(it and begin <= second < last for it, begin, last in zip(chosen, start, end))
+        sum(item and begin <= second < last for item, begin, last in zip(chosen, start, end))
         for second in range(period.start, period.end)
     )
     assert vehicles_in(running, chosen, period) == most

@@ -19,19 +19,19 @@ def points(town: Town) -> str:
 
 def test_rows_and_columns_of_points_are_those_of_the_matrix(town: Town) -> None:
     whole = open_matrix(town.matrix(town_matrix(True, shares=(25, 50))))
-    made = Chosen(whole, ["D", "B", "X"])
-    assert (made.stops, made.origins("base", 50), made.is_any) == (["B", "D"], ["D"], True)
-    assert made.rows("cut", 50, 0, 1).tolist() == [[1700, 0]]
-    assert made.access("base", 50).tolist() == [[3]]
-    (block,) = made.blocks("cut", 25)
+    result = Chosen(whole, ["D", "B", "X"])
+    assert (result.stops, result.origins("base", 50), result.is_any) == (["B", "D"], ["D"], True)
+    assert result.rows("cut", 50, 0, 1).tolist() == [[1700, 0]]
+    assert result.access("base", 50).tolist() == [[3]]
+    (block,) = result.blocks("cut", 25)
     assert (block.origins, block.seconds.tolist()) == (["D"], [[850, 0]])
 
 
 def test_where_no_row_is_a_point_all_rows_stay(town: Town) -> None:
     whole = open_matrix(town.matrix(town_matrix(True)))
-    made = Chosen(whole, ["C"])
-    assert (made.stops, made.origins("base", 50)) == (["C"], ["A", "D"])
-    assert made.rows("base", 50, 0, 2).tolist() == [[900], [600]]
+    result = Chosen(whole, ["C"])
+    assert (result.stops, result.origins("base", 50)) == (["C"], ["A", "D"])
+    assert result.rows("base", 50, 0, 2).tolist() == [[900], [600]]
     assert not Chosen(whole, ["X"]).is_any
 
 
@@ -49,32 +49,32 @@ def test_lines_are_those_between_points_with_their_names(town: Town) -> None:
 def test_points_in_the_folder_of_a_feed_are_found(town: Town) -> None:
     town.matrix(town_matrix(True))
     points(town)
-    out, told, status = town.ran("compare", "--feed", town.feed, town.file)
+    out, errors, status = town.ran("compare", "--feed", town.feed, town.file)
     assert (out.splitlines()[1:], status) == (['D,Delta,B,"Béta, ""the"" square",new,,1700,'], 0)
-    assert told.startswith("cut compared with base: of 2 pairs 0 cut off, 0 slower, 1 new, 0 faster")
+    assert errors.startswith("cut compared with base: of 2 pairs 0 cut off, 0 slower, 1 new, 0 faster")
 
 
 def test_access_is_measured_at_points_alone(town: Town) -> None:
     town.matrix(town_matrix(True))
     counts = town.write("counts.csv", "id,lat,lon,width,schools", [["B", 0, 9.01, "", 2], ["D", 0.02, 9, 400, 0.5]])
-    words = ["access", "--opportunities", counts, "--points", points(town), "--scenario", "cut", town.file]
-    assert town.ran(*words)[0].splitlines()[1:] == ["D,schools,50,30,2.5"]
+    arguments = ["access", "--opportunities", counts, "--points", points(town), "--scenario", "cut", town.file]
+    assert town.ran(*arguments)[0].splitlines()[1:] == ["D,schools,50,30,2.5"]
 
 
 def test_an_open_matrix_file_of_points(town: Town) -> None:
     pytest.importorskip("h5py")
     town.matrix(town_matrix(True))
     assert town.ran("omx", "--points", points(town), "--out", town.path("m.omx"), town.file) == ("", "", 0)
-    made = open_matrix(town.path("m.omx"))
-    assert (made.stops, made.origins("base", 50)) == (["B", "D"], ["D"])
-    assert made.rows("cut", 50, 0, 1).tolist() == [[1700, 0]]
+    result = open_matrix(town.path("m.omx"))
+    assert (result.stops, result.origins("base", 50)) == (["B", "D"], ["D"])
+    assert result.rows("cut", 50, 0, 1).tolist() == [[1700, 0]]
 
 
 def test_points_for_a_geographic_information_system(town: Town) -> None:
     town.matrix(town_matrix(True))
-    words = ["gis", "--feed", town.feed, "--points", points(town), "--origin", "D", "--out", town.path("p.geojson")]
+    arguments = ["gis", "--feed", town.feed, "--points", points(town), "--origin", "D", "--out", town.path("p.geojson")]
     assert (
-        town.ran(*words, "--scenario", "cut", town.file)[1]
+        town.ran(*arguments, "--scenario", "cut", town.file)[1]
         == f"{town.path('p.geojson')}: 2 stops; 0 have no coordinates\n"
     )
     features = json.loads(Path(town.path("p.geojson")).read_text())["features"]
@@ -87,8 +87,8 @@ def test_points_for_a_geographic_information_system(town: Town) -> None:
 def test_an_origin_that_is_no_column_is_drawn_too(town: Town) -> None:
     """As in a matrix whose columns are other stops than its origins."""
     town.matrix(town_matrix(True, {name: {"D": TOWN[name]["D"][:3]} for name in TOWN}, stops=("A", "B", "C")))
-    words = ["gis", "--feed", town.feed, "--out", town.path("p.geojson"), town.file]
-    assert town.ran(*words)[1] == f"{town.path('p.geojson')}: 4 stops; 0 have no coordinates\n"
+    arguments = ["gis", "--feed", town.feed, "--out", town.path("p.geojson"), town.file]
+    assert town.ran(*arguments)[1] == f"{town.path('p.geojson')}: 4 stops; 0 have no coordinates\n"
     features = json.loads(Path(town.path("p.geojson")).read_text())["features"]
     assert [feature["properties"]["base_50_access_1800"] for feature in features] == [None, None, None, 2]
 
@@ -98,13 +98,23 @@ def test_squares_as_wide_as_the_file_says_and_marks_for_the_others(town: Town, m
     figures: list[Any] = []
     monkeypatch.setattr(matplotlib.Figure, "savefig", lambda figure, *_, **__: figures.append(figure))
     town.matrix(town_matrix(True))
-    words = ["--feed", town.feed, "--points", points(town), "--scenario", "cut", "--out", town.path("m.png"), town.file]
-    assert town.ran("map", "times", "--origin", "D", *words) == ("", "", 0)
-    assert town.ran("map", "access", *words) == ("", "", 0)
+    arguments = [
+        "--feed",
+        town.feed,
+        "--points",
+        points(town),
+        "--scenario",
+        "cut",
+        "--out",
+        town.path("m.png"),
+        town.file,
+    ]
+    assert town.ran("map", "times", "--origin", "D", *arguments) == ("", "", 0)
+    assert town.ran("map", "access", *arguments) == ("", "", 0)
     times, access = figures
     assert times.texts[1].get_text() == "1 of 1 other points are reached, half of them within 29 minutes"
     assert "In brackets: number of points." in times.texts[-1].get_text().replace("\n", " ")
-    squares = [it for it in access.axes[0].collections if type(it).__name__ == "PolyCollection"]
+    squares = [collection for collection in access.axes[0].collections if type(collection).__name__ == "PolyCollection"]
     (corners,) = squares[0].get_paths()
     wide = corners.vertices.max(axis=0) - corners.vertices.min(axis=0)
     assert wide.tolist() == pytest.approx([0.4, 0.4])

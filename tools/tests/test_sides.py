@@ -17,30 +17,32 @@ from ttm_tools.measures.comparison import sides_of
 @pytest.fixture(scope="module")
 def browser() -> Iterator[Browser]:
     pytest.importorskip("jinja2")
-    made = Browser()
-    yield made
-    made.close()
+    driver = Browser()
+    yield driver
+    driver.close()
 
 
 def two_scenarios(access: list[list[int]]) -> str:
     """A matrix of four origins with this access in base and in the scenario cut."""
     lines = ["scenario,origin,access,A"]
-    lines += [f"{name},{stop},{it},0" for name, row in zip(("base", "cut"), access) for stop, it in zip("ABCD", row)]
+    lines += [
+        f"{name},{stop},{item},0" for name, row in zip(("base", "cut"), access) for stop, item in zip("ABCD", row)
+    ]
     return "\n".join(lines) + "\n"
 
 
 def test_an_origin_that_gains_from_nothing_is_newly_reached(town: Town, monkeypatch: pytest.MonkeyPatch) -> None:
     town.matrix(two_scenarios([[0, 5, 1000, 7], [1, 0, 999, 7]]))
     texts, _, classes = figure(town, monkeypatch, "difference")
-    told = "Of 4 stops 2 lose (1 of them cut off), 1 gain (1 of them newly reached); the most: 100 %"
-    assert texts[1].startswith(told)
+    message = "Of 4 stops 2 lose (1 of them cut off), 1 gain (1 of them newly reached); the most: 100 %"
+    assert texts[1].startswith(message)
     wanted = ["cut off: all of it lost  (1)", "less than 1 % either way  (2)", "newly reached: none before  (1)"]
     assert classes[:3] == wanted
 
 
 def test_the_sides_of_origins() -> None:
     sides = sides_of(np.array([0, 5, 1000, 7, 0]), np.array([1, 0, 999, 8, 0]))
-    assert [it.tolist() for it in (sides.lose, sides.gain, sides.cut_off, sides.newly_reached)] == [
+    assert [item.tolist() for item in (sides.lose, sides.gain, sides.cut_off, sides.newly_reached)] == [
         [False, True, True, False, False],
         [True, False, False, True, False],
         [False, True, False, False, False],
@@ -56,10 +58,10 @@ def test_map_page_and_compare_count_alike(
     town.matrix(two_scenarios([[draw.choice([0, 0, 1, 1000, 1001]) for _ in "ABCD"] for _ in range(2)]))
     texts = figure(town, monkeypatch, "difference")[0]
     monkeypatch.undo()
-    _, told, _ = town.ran("compare", "--by", "origin", "--feed", town.feed, "--out", town.path("c.csv"), town.file)
+    _, errors, _ = town.ran("compare", "--by", "origin", "--feed", town.feed, "--out", town.path("c.csv"), town.file)
     assert town.ran("page", "--feed", town.feed, "--out", town.path("p.html"), town.file)[2] == 0
     browser.open(Path(town.path("p.html")), "view=access")
-    counts = re.search(r"[0-9]+ lose( \([0-9]+ of them cut off\))?, [0-9]+ gain( \([^)]* reached\))?", told)
-    assert counts is not None, told
+    counts = re.search(r"[0-9]+ lose( \([0-9]+ of them cut off\))?, [0-9]+ gain( \([^)]* reached\))?", errors)
+    assert counts is not None, errors
     assert texts[1].startswith(f"Of 4 stops {counts[0]}")
     assert browser.text("told") == f"cut compared with base: of 4 places {counts[0]}."

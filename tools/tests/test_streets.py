@@ -21,11 +21,11 @@ NODES = {1: (0.0, 0.0), 2: (0.0, 400.0), 3: (100.0, 0.0), 4: (100.0, 400.0)}
 SOUTH, NORTH, BRIDGE, MOTORWAY = [1, 2], [3, 4], [2, 4], [1, 3]
 
 
-def walked(room: Room, *words: str, limit: int = 1000, detour: float = 1.0) -> dict[tuple[str, str], int]:
+def walked(room: Room, *arguments: str, limit: int = 1000, detour: float = 1.0) -> dict[tuple[str, str], int]:
     """The footpaths that the command writes, at a metre a second."""
     pace = ["--limit", str(limit), "--speed", "1", "--detour", str(detour)]
-    _, told, status = room.ran("walks", *pace, *words, str(room.folder))
-    assert status == 0, told
+    _, errors, status = room.ran("walks", *pace, *arguments, str(room.folder))
+    assert status == 0, errors
     with open(room.folder / "footpaths.csv", newline="") as file:
         return {(row["from_stop_id"], row["to_stop_id"]): int(row["seconds"]) for row in csv.DictReader(file)}
 
@@ -80,9 +80,9 @@ def test_what_is_far_from_a_street_is_told_and_joined_by_a_straight_line(room: R
     room.stops(("A", -9.5, 50), ("D", -250, 200), ("E", -3000, 0), ("F", None, None))
     streets = river(room, STREET)
     assert walked(room, "--streets", streets, detour=2)["A", "D"] == math.ceil(9.5 + 150 + 2 * 250)
-    _, told, _ = room.ran("walks", "--speed", "1", "--streets", streets, str(room.folder))
+    _, errors, _ = room.ran("walks", "--speed", "1", "--streets", streets, str(room.folder))
     here = "1 stops have no coordinates; 1 are more than 100 metres from a street and joined to it by a straight line"
-    assert told == f"{room.path('footpaths.csv')}: 2 footpaths; {here}; 1 have no street in reach\n"
+    assert errors == f"{room.path('footpaths.csv')}: 2 footpaths; {here}; 1 have no street in reach\n"
     assert walked(room, "--streets", streets, "--near", "250.5", detour=2)["A", "D"] == math.ceil(9.5 + 150 + 250)
 
 
@@ -134,15 +134,15 @@ def test_which_ways_may_be_walked() -> None:
 
 def test_what_is_no_file_of_streets_is_told(room: Room) -> None:
     room.stops(("A", 0, 0))
-    words = ["walks", str(room.folder), "--streets"]
-    room.refused(f"{room.path('no.osm')}: No such file or directory", *words, room.path("no.osm"))
+    arguments = ["walks", str(room.folder), "--streets"]
+    room.refused(f"{room.path('no.osm')}: No such file or directory", *arguments, room.path("no.osm"))
     rails = write_osm(room.folder / "rails.osm", NODES, [(SOUTH, {"railway": "rail"})])
-    room.refused(f"{rails}: no way that may be walked", *words, rails)
+    room.refused(f"{rails}: no way that may be walked", *arguments, rails)
     Path(room.path("bad.osm")).write_text("stop_id\nA\n")
     before = room.names()
-    _, told, status = room.ran(*words, room.path("bad.osm"))
-    assert status == 1 and told.startswith(f"ttm-tools walks: {room.path('bad.osm')}: not read as OpenStreetMap: ")
-    assert len(told.splitlines()) == 1 and room.names() == before
+    _, errors, status = room.ran(*arguments, room.path("bad.osm"))
+    assert status == 1 and errors.startswith(f"ttm-tools walks: {room.path('bad.osm')}: not read as OpenStreetMap: ")
+    assert len(errors.splitlines()) == 1 and room.names() == before
     table = ["--table", "walks.csv", "--streets", "x.osm", str(room.folder)]
     assert room.ran("walks", *table)[2] == 2
 
@@ -165,7 +165,7 @@ def network(nx: Any, nodes: dict[int, tuple[float, float]], ways: list[Way], pla
     graph = nx.DiGraph()
     for name, place in places.items():
         found = [(nearest(place, nodes[a], nodes[b]), number) for number, (a, b, _) in enumerate(lines)]
-        (along, metres), number = min(found, key=lambda it: it[0][1])
+        (along, metres), number = min(found, key=lambda item: item[0][1])
         on[number].append((along, ("put", name)))
         join(graph, ("place", name), ("put", name), metres if metres <= 100 else 1.3 * metres)
         for end in (0, 1):

@@ -22,5 +22,5 @@ def test_each_study_answers_as_the_page_says(room: Room, program: str) -> None:
     text = PAGE.read_text()
     pages.write_files(text, room.folder)
     page = [pages.Command(PATH), *pages.commands(text)]
-    assert len(page) > 20
+    assert len(page) > 18
     assert pages.differences(page, room.folder, environment_of(room)) == []

@@ -25,9 +25,10 @@ from ttm_tools.study.slurm import ranges
 from ttm_tools.study.stages import Folder
 from ttm_tools.study.study_file import read_study
 from ttm_tools.study.task import write_task
-from ttm_tools.study.template import page, template
+from ttm_tools.study import result_list
+from ttm_tools.study.template import template
 from ttm_tools.study.ttm import fault_of, version_of
-from ttm_tools.study.wishes import PartWish
+from ttm_tools.study.settings import PartSettings
 from ttm_tools.study.work import make_study
 
 for _package in ("h5py", "pandas", "matplotlib"):
@@ -90,11 +91,13 @@ class Place(Room):
     def made(self, out: str = "nine") -> dict[str, bytes]:
         """All files of the study's folder but for what tells of times, with their bytes."""
         folder = self.folder / out
-        found = {str(it.relative_to(folder)): it for it in folder.rglob("*") if it.is_file()}
-        made = {name: it.read_bytes() for name, it in found.items() if not name.startswith((".lock", "stages/"))}
-        notes = json.loads(made.pop("study.json"))
+        found = {str(path.relative_to(folder)): path for path in folder.rglob("*") if path.is_file()}
+        contents = {
+            name: item.read_bytes() for name, item in found.items() if not name.startswith((".lock", "stages/"))
+        }
+        notes = json.loads(contents.pop("study.json"))
         assert notes.pop("times")["began"]
-        return {**made, "study.json": json.dumps(notes).encode()}
+        return {**contents, "study.json": json.dumps(notes).encode()}
 
 
 @pytest.fixture
@@ -154,17 +157,17 @@ def test_a_study_killed_at_drawn_moments_has_the_bytes_of_one_that_was_not(place
 
 def test_the_matrix_is_that_of_one_run_and_every_result_is_there(place: Place, program: str) -> None:
     make_study(read_study(place.lay_out()), place.folder / "nine", Means(2))
-    made = place.made()
-    words = json.loads(made["study.json"])["words"]
-    whole = subprocess.run([program, *words], cwd=place.folder / "nine", capture_output=True, check=True).stdout
-    assert made["matrix.csv"] == whole
-    report = made["report.md"].decode()
-    assert made["compare_cut.csv"].splitlines()[1].startswith(b"S8,Stop S8,")
-    for told in ("Who loses if Q goes?", "18 times mended", sum_of(place.path("jobs.csv")), "proved"):
-        assert told in report
-    assert {"access.csv", "equity.csv", "maps/access.png", "maps/access_cut.png", "matrix.omx"} < set(made)
+    files = place.made()
+    arguments = json.loads(files["study.json"])["words"]
+    whole = subprocess.run([program, *arguments], cwd=place.folder / "nine", capture_output=True, check=True).stdout
+    assert files["matrix.csv"] == whole
+    report = files["report.md"].decode()
+    assert files["compare_cut.csv"].splitlines()[1].startswith(b"S8,Stop S8,")
+    for printed in ("Who loses if Q goes?", "18 times mended", sum_of(place.path("jobs.csv")), "proved"):
+        assert printed in report
+    assert {"access.csv", "equity.csv", "maps/access.png", "maps/access_cut.png", "matrix.omx"} < set(files)
     # who sets out from S0 after 08:00 reaches S1 on foot and nothing else today: 0.4 and 100.4 jobs
-    assert made["access.csv"].splitlines()[1:3] == [b"base,S0,jobs,25,10,100.8", b"base,S0,jobs,25,30,100.8"]
+    assert files["access.csv"].splitlines()[1:3] == [b"base,S0,jobs,25,10,100.8", b"base,S0,jobs,25,30,100.8"]
 
 
 def test_the_notes_say_what_was_run_from_what_and_by_which_versions(place: Place, program: str) -> None:
@@ -172,7 +175,7 @@ def test_the_notes_say_what_was_run_from_what_and_by_which_versions(place: Place
     folder = place.folder / "nine"
     notes = json.loads((folder / "study.json").read_text())
     known = {name: was for stage in notes["stages"].values() for name, was in stage["files"].items()}
-    files = {str(it.relative_to(folder)) for it in folder.rglob("*") if it.is_file()}
+    files = {str(path.relative_to(folder)) for path in folder.rglob("*") if path.is_file()}
     assert {name for name in files if not name.startswith((".lock", "stages/", "study.json"))} == set(known)
     assert known == {name: sum_of(folder / name) for name in known}
     assert notes["sources"]["jobs.csv"] == sum_of(place.path("jobs.csv"))
@@ -188,19 +191,19 @@ def test_parts_of_any_number_and_processes_give_the_same_results(place: Place) -
     for count, workers in ((1, 1), (9, 3)):
         study = read_study(place.say(NO_MAPS.replace("count = 4", f"count = {count}\nkeep = true")))
         make_study(study, place.folder / str(count), Means(workers))
-        made = place.made(str(count))
+        files = place.made(str(count))
         assert sorted(path.name for path in (place.folder / str(count) / "parts").iterdir())[-1] == f"{count:04}"
         for name in ("matrix.csv", "matrix.omx", "access.csv", "equity.csv", "compare_cut.csv"):
-            assert made[name] == wanted[name]
+            assert files[name] == wanted[name]
 
 
 def test_what_is_done_is_not_done_again_and_what_changed_is(place: Place) -> None:
     path = place.lay_out(NO_MAPS.replace("count = 4", "count = 4\nkeep = true"))
 
     def stages() -> list[str]:
-        _, told, status = place.ran("study", path)
-        assert status == 0, told
-        return [line.removesuffix(" ..") for line in told.splitlines() if line.endswith(" ..")]
+        _, errors, status = place.ran("study", path)
+        assert status == 0, errors
+        return [line.removesuffix(" ..") for line in errors.splitlines() if line.endswith(" ..")]
 
     before = ["feed", "scenarios", "walks", "origins", "counted", "opportunities", "people", "days"]
     results = ["access", "equity", "compare_cut", "report"]
@@ -253,38 +256,40 @@ def test_a_part_that_fails_is_named_and_the_others_go_on(
 ) -> None:
     path = place.lay_out(NO_MAPS)
     bad = place.folder / "bad"
-    words = f'#!/bin/sh\ncase "$*" in *parts/0002/*) echo ttm: out of memory >&2; exit 3 ;; esac\nexec {program} "$@"\n'
-    bad.write_text(words)
+    arguments = (
+        f'#!/bin/sh\ncase "$*" in *parts/0002/*) echo ttm: out of memory >&2; exit 3 ;; esac\nexec {program} "$@"\n'
+    )
+    bad.write_text(arguments)
     bad.chmod(0o755)
     monkeypatch.setenv("TTM_PROGRAM", str(bad))
-    _, told, status = place.ran("study", path)
+    _, errors, status = place.ran("study", path)
     line = "parts/0002: ttm: out of memory (1 of 4 parts have no matrix; the same command tries them again)"
-    assert (status, told.splitlines()[-1]) == (1, f"ttm-tools study: {line}")
-    assert "part 2: ttm: out of memory" in told.splitlines()
+    assert (status, errors.splitlines()[-1]) == (1, f"ttm-tools study: {line}")
+    assert "part 2: ttm: out of memory" in errors.splitlines()
     there = sorted(path.parent.name for path in (place.folder / "nine/parts").glob("*/key"))
     assert there == ["0001", "0003", "0004"]
     monkeypatch.setenv("TTM_PROGRAM", program)
-    _, told, status = place.ran("study", path)
-    assert (status, "parts: 3 of 4 are there already" in told) == (0, True)
+    _, errors, status = place.ran("study", path)
+    assert (status, "parts: 3 of 4 are there already" in errors) == (0, True)
 
 
 def test_verification_computes_rows_again_and_tells_what_was_changed(place: Place) -> None:
     make_study(read_study(place.lay_out(NO_MAPS)), place.folder / "nine", Means(2))
     folder = place.path("nine")
-    told = (
+    message = (
         "sums: 21 files are as study.json says\nrows: those of 1 of 9 origins, drawn by --seed 7, have the same bytes\n"
     )
-    assert place.ran("study", "--verify", folder, "--seed", "7") == ("", told, 0)
+    assert place.ran("study", "--verify", folder, "--seed", "7") == ("", message, 0)
     (place.folder / "nine/access.csv").write_text("spoilt\n")
-    told = "ttm-tools study: access.csv: has another sum than study.json says: it was changed\n"
-    assert place.ran("study", "--verify", folder) == ("", told, 1)
+    message = "ttm-tools study: access.csv: has another sum than study.json says: it was changed\n"
+    assert place.ran("study", "--verify", folder) == ("", message, 1)
 
 
 def test_verification_removes_what_one_that_was_killed_left_aside(place: Place) -> None:
     make_study(read_study(place.lay_out(NO_MAPS)), place.folder / "nine", Means(2))
     ended = subprocess.Popen(["true"])
     ended.wait()
-    left, own = (place.folder / "nine" / f".part.{it}.room" for it in (ended.pid, os.getpid()))
+    left, own = (place.folder / "nine" / f".part.{item}.room" for item in (ended.pid, os.getpid()))
     left.mkdir()
     assert place.ran("study", "--verify", place.path("nine"))[2] == 0
     assert not left.exists() and not own.exists()
@@ -301,8 +306,8 @@ def test_verification_finds_a_row_that_ttm_does_not_compute(place: Place) -> Non
     notes["stages"]["matrix"]["files"]["matrix.csv"] = sum_of(place.folder / "nine/matrix.csv")
     (place.folder / "nine/study.json").write_text(json.dumps(notes))
     drawn = {random.Random(seed).sample(range(9), 1)[0]: seed for seed in range(99)}
-    told = "matrix.csv: the row of base, share 25, origin S0 isn't what ttm computes"
-    for origin, (line, status) in {0: (f"ttm-tools study: {told}", 1), 1: ("rows: those of 1", 0)}.items():
+    message = "matrix.csv: the row of base, share 25, origin S0 isn't what ttm computes"
+    for origin, (line, status) in {0: (f"ttm-tools study: {message}", 1), 1: ("rows: those of 1", 0)}.items():
         _, said, ended = place.ran("study", "--verify", place.path("nine"), "--seed", str(drawn[origin]))
         assert (said.splitlines()[-1].startswith(line), ended) == (True, status)
 
@@ -329,47 +334,50 @@ def test_wrong_words_of_a_study_are_told_with_their_line_and_the_nearest_name(ba
         ("count = 4", "count = "): "is no TOML file: Invalid value (at line 21, column 9)",
         ("[feed]\n", "[feed]\nready = true\nrepair = true\n"): "line 5: repair doesn't go with ready; allowed: one of",
     }
-    for (old, new), told in cases.items():
+    for (old, new), printed in cases.items():
         assert STUDY.count(old) == 1
         path = bare.say(STUDY.replace(old, new))
         with pytest.raises(BadInput) as seen:
             read_study(path)
-        assert str(seen.value).startswith(f"{path}: {told}"), (new, str(seen.value))
+        assert str(seen.value).startswith(f"{path}: {printed}"), (new, str(seen.value))
 
 
 def test_the_file_that_new_prints_can_be_read_with_every_field(bare: Place) -> None:
-    out, told, status = bare.ran("study", "--new")
-    assert (out, told, status) == (template(), "", 0)
+    out, errors, status = bare.ran("study", "--new")
+    assert (out, errors, status) == (template(), "", 0)
     for name in ("feed.zip", "region.geojson"):
         (bare.folder / name).touch()
     study = read_study(bare.say(out))
     assert (study.run.first, study.run.shares, study.results.access) == ("07:30", (50,), True)
-    assert page() in (ROOT / "docs" / "reference" / "study-file.md").read_text()
+    assert out == (ROOT / "docs" / "reference" / "study.toml").read_text()
+    table = result_list.markdown_table()
+    assert table in (ROOT / "docs" / "reference" / "study-file.md").read_text()
+    assert all(callable(result.stages()) for result in result_list.RESULTS)
 
 
 def test_words_that_do_not_go_together_are_wrong_words(bare: Place) -> None:
     path = bare.lay_out()
     wrong: list[list[str]] = [[], ["--new", path], [path, "--slurm", "--hosts", ":"], [path, "--option", "time=1"]]
     wrong += [["--verify", path, "--part", "1"], ["--new", "--part", "1"], [path, "--seed", "1"]]
-    for words in wrong:
-        assert bare.ran("study", *words)[2] == 2
+    for arguments in wrong:
+        assert bare.ran("study", *arguments)[2] == 2
 
 
 def test_parts_are_cut_by_time_and_memory() -> None:
     # a second for each of 10,000 origins, after 20: five minutes are 280 of them, 36 parts
     costs = Costs(setup=20, each=1, network=10**9, row=10**6, free=10**11)
-    assert shape_of(PartWish(), costs, 10_000, 4).parts == 36
+    assert shape_of(PartSettings(), costs, 10_000, 4).parts == 36
     # with 8 GB four share 6.4 GB: 1.6 GB each, 1 GB of which is the network, leave 600 rows
     tight = Costs(setup=0, each=0.01, network=10**9, row=10**6, free=8 * 10**9)
-    made = shape_of(PartWish(), tight, 10_000, 4)
-    assert (made.parts, made.at_once, made.threads) == (20, 4, 1)
+    shape = shape_of(PartSettings(), tight, 10_000, 4)
+    assert (shape.parts, shape.at_once, shape.threads) == (20, 4, 1)
     # a network of 3 GB with 143 rows of 1 MB fits twice into 6.4 GB, so two run at once with two threads each
     wide = Costs(0, 1, 3 * 10**9, 10**6, 8 * 10**9)
-    made = shape_of(PartWish(count=70), wide, 10_000, 4)
-    assert (made.parts, made.at_once, made.threads) == (70, 2, 2)
+    shape = shape_of(PartSettings(count=70), wide, 10_000, 4)
+    assert (shape.parts, shape.at_once, shape.threads) == (70, 2, 2)
     # with 1,429 rows, 4.4 GB, it fits once
-    made = shape_of(PartWish(count=7), wide, 10_000, 4)
-    assert (made.parts, made.at_once, made.threads) == (7, 1, 4)
+    shape = shape_of(PartSettings(count=7), wide, 10_000, 4)
+    assert (shape.parts, shape.at_once, shape.threads) == (7, 1, 4)
 
 
 def test_a_machine_whose_clock_is_slow_cuts_no_more_parts(place: Place, program: str, tmp_path: Path) -> None:
@@ -377,9 +385,8 @@ def test_a_machine_whose_clock_is_slow_cuts_no_more_parts(place: Place, program:
     slow.write_text(f'#!/bin/sh\nsleep 1\nexec {program} "$@"\n')
     slow.chmod(0o755)
     (tmp_path / "folder/stages").mkdir(parents=True)
-    with contextlib.chdir(tmp_path / "folder"), pytest.MonkeyPatch.context() as patch:
-        inputs = make_inputs(study, Folder(Path(".")))
-        patch.setenv("TTM_PROGRAM", str(slow))
+    with contextlib.chdir(tmp_path / "folder"):
+        inputs = make_inputs(study, Folder(Path(".")), str(slow))
         costs = costs_of(inputs, STOPS, Path("."))
     assert 0 < costs.setup + costs.each < 0.5
 
@@ -387,10 +394,10 @@ def test_a_machine_whose_clock_is_slow_cuts_no_more_parts(place: Place, program:
 def test_more_processes_than_before_stay_within_the_memory() -> None:
     # twenty parts of 500 rows of 1 MB, 1.5 GB with the network, were cut for four at once: 6.4 GB hold four of them
     costs = Costs(setup=0, each=0.01, network=10**9, row=10**6, free=8 * 10**9)
-    made = shape_of(PartWish(), costs, 10_000, 8, known=20)
-    assert (made.parts, made.at_once, made.threads) == (20, 4, 2)
-    made = shape_of(PartWish(memory=3000), costs, 10_000, 4, known=20)
-    assert (made.parts, made.at_once, made.threads) == (20, 2, 2)
+    shape = shape_of(PartSettings(), costs, 10_000, 8, known=20)
+    assert (shape.parts, shape.at_once, shape.threads) == (20, 4, 2)
+    shape = shape_of(PartSettings(memory=3000), costs, 10_000, 4, known=20)
+    assert (shape.parts, shape.at_once, shape.threads) == (20, 2, 2)
 
 
 def test_how_many_parts_are_done_is_told_with_the_time_that_is_left(
@@ -400,8 +407,8 @@ def test_how_many_parts_are_done_is_told_with_the_time_that_is_left(
     clock = iter([0.0, 61.0, 122.0, 183.0])
     monkeypatch.setattr("ttm_tools.study.running.time", SimpleNamespace(monotonic=lambda: next(clock)))
     assert list(shown(iter([None] * 3), 3)) == [None] * 3
-    told = ["parts: 1 of 3, about 0:02:02 more", "parts: 2 of 3, about 0:01:01 more"]
-    assert capsys.readouterr().err.splitlines() == told
+    printed = ["parts: 1 of 3, about 0:02:02 more", "parts: 2 of 3, about 0:01:01 more"]
+    assert capsys.readouterr().err.splitlines() == printed
 
 
 def test_arrays_name_the_parts_that_are_missing() -> None:
@@ -412,33 +419,33 @@ def test_arrays_name_the_parts_that_are_missing() -> None:
 def test_one_part_is_computed_where_the_folder_says_so(place: Place, monkeypatch: pytest.MonkeyPatch) -> None:
     study = read_study(place.lay_out(NO_MAPS.replace("count = 4", "count = 4\nkeep = true")))
     make_study(study, place.folder / "nine", Means(2))
-    folder, words = place.folder / "nine", ["study", "--part", "3", place.path("nine")]
-    told = f"ttm-tools study: {folder}: is no folder of a study with parts to compute: no parts/run.json\n"
-    assert place.ran(*words) == ("", told, 1)
+    folder, arguments = place.folder / "nine", ["study", "--part", "3", place.path("nine")]
+    message = f"ttm-tools study: {folder}: is no folder of a study with parts to compute: no parts/run.json\n"
+    assert place.ran(*arguments) == ("", message, 1)
     inputs = {"words": json.loads((folder / "study.json").read_text())["run"]}
     part = folder / "parts/0003"
     wanted = {name: (part / name).read_bytes() for name in ("matrix.csv", "key")}
     monkeypatch.chdir(folder)
     known = parts_for(STOPS, 4, key_of_study(folder))
-    assert [it.key for it in known] == [
+    assert [item.key for item in known] == [
         json.loads((folder / f"parts/000{n}/key").read_text())["key"] for n in range(1, 5)
     ]
-    write_task(Run(**inputs["words"]), 4, key_of_study(folder), version_of(os.environ["TTM_PROGRAM"]))
-    assert place.ran(*words) == ("", "", 0)
+    write_task(Run(**inputs["words"]), known, key_of_study(folder), version_of(os.environ["TTM_PROGRAM"]))
+    assert place.ran(*arguments) == ("", "", 0)
     (part / "key").unlink()
     (part / "matrix.csv").unlink()
-    assert place.ran(*words) == ("", "", 0)
+    assert place.ran(*arguments) == ("", "", 0)
     assert {name: (part / name).read_bytes() for name in wanted} == wanted
-    write_task(Run(**inputs["words"]), 4, key_of_study(folder), ["ttm 0.0.1"])
+    write_task(Run(**inputs["words"]), known, key_of_study(folder), ["ttm 0.0.1"])
     (part / "key").unlink()
-    _, said, status = place.ran(*words)
+    _, said, status = place.ran(*arguments)
     assert (status, "and the study's ttm is another one" in said, (part / "told.txt").exists()) == (1, True, True)
     assert place.ran("study", "--part", "5", place.path("nine"))[1].endswith(": has no part 5, but 1 to 4\n")
 
 
 def key_of_study(folder: Path) -> str:
     """The sum of a study's inputs, words and version, as its stage of days has it."""
-    inputs = make_inputs(read_study(str(folder.with_suffix(".toml"))), Folder(Path(".")))
+    inputs = make_inputs(read_study(str(folder.with_suffix(".toml"))), Folder(Path(".")), os.environ["TTM_PROGRAM"])
     return study_key(inputs, version_of(os.environ["TTM_PROGRAM"]))
 
 

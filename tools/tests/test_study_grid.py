@@ -26,19 +26,19 @@ def laid_out(place: Place, more: str) -> str:  # noqa: F811
 
 def test_the_cells_are_those_of_points_with_a_grid(place: Place) -> None:  # noqa: F811
     path = laid_out(place, '[opportunities]\ncolumns = ["doctors"]\ngroups = ["residents"]\n')
-    _, told, status = place.ran("study", path)
-    assert status == 0, told
+    _, errors, status = place.ran("study", path)
+    assert status == 0, errors
     feed, out = place.path("nine/inputs/feed"), place.path("cells")
-    words = ["--grid", "300", "--people", place.path("addresses.csv"), "--out", out]
-    assert place.ran("points", feed, *words)[2] == 0
+    arguments = ["--grid", "300", "--people", place.path("addresses.csv"), "--out", out]
+    assert place.ran("points", feed, *arguments)[2] == 0
     for name in ("feed/points.csv", "feed/stops.txt", "footpaths.csv", "origins.csv", "destinations.csv"):
         assert Path(out, name).read_bytes() == Path(place.path(f"nine/inputs/points/{name}")).read_bytes()
     cells = read(Path(place.path("nine/inputs/grid.csv")).read_text())
-    assert [it["residents"] for it in cells if it["residents"] != "0"] == ["2", "5"]
+    assert [cell["residents"] for cell in cells if cell["residents"] != "0"] == ["2", "5"]
     (line,) = read(Path(place.path("nine/equity.csv")).read_text())[1:2]
     assert (line["group"], line["people"]) == ("residents", "7")
     matrix = open_matrix(place.path("nine/matrix.omx"))
-    assert matrix.origins("base", 50) == matrix.stops == [it["id"] for it in cells]
+    assert matrix.origins("base", 50) == matrix.stops == [cell["id"] for cell in cells]
     report = Path(place.path("nine/report.md")).read_text()
     assert "inputs/grid.csv" not in report.split("SHA-256 checksums")[1].split("What was done")[0]
     assert place.ran("study", "--verify", place.path("nine"))[2] == 0
@@ -49,7 +49,7 @@ def test_cells_are_the_end_that_no_file_names(place: Place) -> None:  # noqa: F8
     assert place.ran("study", laid_out(place, more))[2] == 0
     matrix = open_matrix(place.path("nine/matrix.omx"))
     assert matrix.stops == ["one"] and len(matrix.origins("base", 50)) > 9
-    (line,) = [it for it in read(Path(place.path("nine/equity.csv")).read_text()) if it["percentile"] == "50"]
+    (line,) = [row for row in read(Path(place.path("nine/equity.csv")).read_text()) if row["percentile"] == "50"]
     # the 5 people who live 20 metres from the doctor reach one; no bus along leaves S0 after 08:00 for the 2 at S0
     assert (line["opportunity"], line["people"], line["mean"]) == ("doctors", "7", f"{5 / 7:.4f}")
 
@@ -58,9 +58,9 @@ def test_what_is_done_of_a_grid_is_not_done_again(place: Place) -> None:  # noqa
     path = laid_out(place, '[opportunities]\ngroups = ["residents"]\n')
 
     def stages() -> list[str]:
-        _, told, status = place.ran("study", path)
-        assert status == 0, told
-        return [line.removesuffix(" ..") for line in told.splitlines() if line.endswith(" ..")]
+        _, errors, status = place.ran("study", path)
+        assert status == 0, errors
+        return [line.removesuffix(" ..") for line in errors.splitlines() if line.endswith(" ..")]
 
     assert stages()[:3] == ["feed", "grid", "points"]
     assert stages() == []
@@ -69,7 +69,7 @@ def test_what_is_done_of_a_grid_is_not_done_again(place: Place) -> None:  # noqa
 
 
 @pytest.mark.parametrize(
-    "more, told",
+    "more, message",
     [
         ('[points]\ngrid_area = "region.geojson"\nfiles = ["homes.csv"]\n', "grid_area needs grid"),
         ('[points]\ngrid = 300\norigins = ["homes.csv"]\ndestinations = ["homes.csv"]\n', "cells are the other end"),
@@ -78,14 +78,14 @@ def test_what_is_done_of_a_grid_is_not_done_again(place: Place) -> None:  # noqa
         ('[points]\ngrid = 300\ngrid_people = ["none.csv"]\n', "grid_people 'none.csv' isn't there"),
     ],
 )
-def test_grids_that_do_not_fit_are_told(bare: Place, more: str, told: str) -> None:  # noqa: F811
+def test_grids_that_do_not_fit_are_told(bare: Place, more: str, message: str) -> None:  # noqa: F811
     path = bare.lay_out(RUN + more)
     for name in ("region.geojson", "homes.csv"):
         (bare.folder / name).touch()
     out, said, status = bare.ran("study", path)
-    assert (out, status) == ("", 1) and told in said and said.count("\n") == 1, said
+    assert (out, status) == ("", 1) and message in said and said.count("\n") == 1, said
 
 
 def test_a_column_that_no_cell_has_is_told(place: Place) -> None:  # noqa: F811
-    _, told, status = place.ran("study", laid_out(place, '[opportunities]\ngroups = ["elderly"]\n'))
-    assert status == 1 and "[opportunities] names a group elderly; there are residents, doctors" in told
+    _, printed, status = place.ran("study", laid_out(place, '[opportunities]\ngroups = ["elderly"]\n'))
+    assert status == 1 and "[opportunities] names a group elderly; there are residents, doctors" in printed

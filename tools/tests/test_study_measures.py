@@ -24,22 +24,31 @@ def test_the_nearest_and_bands_of_people_by_hand(place: Place) -> None:  # noqa:
     path = place.lay_out(STUDY.replace("csv = true\n", MEASURES))
     assert place.ran("study", path)[2] == 0
     kind = {"scenario": "base", "opportunity": "schools", "percentile": "50", "nearest": "1"}
-    found = [it for it in table(place, "nearest.csv") if kind.items() <= it.items()]
-    assert [it["seconds"] for it in found] == ["435", "0", "420", "0", "435", "0", "435", "0", "435"]
-    (people,) = [it for it in table(place, "equity_nearest.csv") if kind.items() <= it.items()]
+    found = [row for row in table(place, "nearest.csv") if kind.items() <= row.items()]
+    assert [item["seconds"] for item in found] == ["435", "0", "420", "0", "435", "0", "435", "0", "435"]
+    (people,) = [row for row in table(place, "equity_nearest.csv") if kind.items() <= row.items()]
     # people are 1, 3, 5, 7, 9 at the stops without a school, and 20 of 45 at those with one: 23 need up to 7 minutes
     assert people["mean_minutes"] == f"{(22 * 7.25 + 3 * 7) / 45:.4f}" and people["reached_percent"] == "100"
     assert (people["median_minutes"], people["nine_tenths_minutes"]) == ("7", "7.25")
-    bands = [it for it in table(place, "bands_nearest.csv") if kind.items() <= it.items()]
-    assert [(it["within_minutes"], it["people"], it["percent"]) for it in bands] == [
+    bands = [row for row in table(place, "bands_nearest.csv") if kind.items() <= row.items()]
+    assert [(band["within_minutes"], band["people"], band["percent"]) for band in bands] == [
         ("5", "20", "44.4444"),
         ("8", "45", "100"),
     ]
     kind = {"scenario": "base", "opportunity": "schools", "percentile": "50", "cutoff": "10"}
-    (all_of_them,) = [it for it in table(place, "bands.csv") if kind.items() <= it.items()]
+    (all_of_them,) = [row for row in table(place, "bands.csv") if kind.items() <= row.items()]
     assert (all_of_them["at_least"], all_of_them["people"]) == ("1", "45")
     report = Path(place.path("nine/report.md")).read_text()
     assert "pairs beyond 30 minutes count as not reached" in report and "bands\\_nearest.csv" in report
+
+
+def test_people_by_band_have_stacked_bars_in_the_report(place: Place) -> None:  # noqa: F811
+    path = place.lay_out(STUDY.replace("csv = true\n", MEASURES.replace("maps = false\n", "")))
+    assert place.ran("study", path)[2] == 0
+    report = Path(place.path("nine/report.md")).read_text()
+    for name in ("bands/jobs.png", "bands/schools.png", "bands_nearest/jobs.png", "bands_nearest/schools.png"):
+        assert Path(place.path(f"nine/{name}")).read_bytes()[1:4] == b"PNG" and f"({name})" in report
+    assert place.ran("study", "--verify", place.path("nine"))[2] == 0
 
 
 def test_maps_show_the_nearest_of_each_thing_counted(place: Place) -> None:  # noqa: F811
@@ -47,37 +56,40 @@ def test_maps_show_the_nearest_of_each_thing_counted(place: Place) -> None:  # n
     text = STUDY.replace("csv = true\n", "nearest = [1]\n").replace('column = "jobs"', 'columns = ["schools"]')
     place.say(text)
     assert place.ran("study", path)[2] == 0
-    names = {it.name for it in Path(place.path("nine/maps")).iterdir()}
+    names = {path.name for path in Path(place.path("nine/maps")).iterdir()}
     assert {"nearest_schools.png", "nearest_schools_cut.png"} <= names
 
 
 def test_areas_are_written_for_each_named_place(place: Place) -> None:  # noqa: F811
     pytest.importorskip("shapely")
-    words = 'isochrones = ["S0", "S4"]\nisochrone_bands = [5, 10]\n'
-    path = place.lay_out(STUDY.replace("csv = true\n", words))
+    arguments = 'isochrones = ["S0", "S4"]\nisochrone_bands = [5, 10]\n'
+    path = place.lay_out(STUDY.replace("csv = true\n", arguments))
     assert place.ran("study", path)[2] == 0
     features = json.loads(Path(place.path("nine/isochrones/S4.geojson")).read_text())["features"]
-    made = {(it["properties"]["scenario"], it["properties"]["minutes"]): it["properties"] for it in features}
+    result = {
+        (feature["properties"]["scenario"], feature["properties"]["minutes"]): feature["properties"]
+        for feature in features
+    }
     # within 10 minutes one walks from S4 to S3 and S5, which have a school each
-    assert (made["base", 10]["reached"], made["base", 10]["schools"], made["base", 5]["reached"]) == (3, 2, 1)
+    assert (result["base", 10]["reached"], result["base", 10]["schools"], result["base", 5]["reached"]) == (3, 2, 1)
     # in five minutes one gets 300 s * 1.33 / 1.3 as the crow flies
-    assert made["cut", 5]["square_km"] == pytest.approx(3.1326 * (0.3 * 1.33 / 1.3) ** 2, rel=1e-3)
+    assert result["cut", 5]["square_km"] == pytest.approx(3.1326 * (0.3 * 1.33 / 1.3) ** 2, rel=1e-3)
     assert "isochrones" in Path(place.path("nine/report.md")).read_text()
-    maps = {f"isochrones_{it}.png" for it in ("S0", "S4", "S0_cut", "S4_cut")}
-    assert maps < {it.name for it in Path(place.path("nine/maps")).iterdir()}
+    maps = {f"isochrones_{name}.png" for name in ("S0", "S4", "S0_cut", "S4_cut")}
+    assert maps < {path.name for path in Path(place.path("nine/maps")).iterdir()}
     place.say(STUDY.replace("csv = true\n", 'isochrones = ["S9"]\n'))
     assert "isochrones of [results]: S9 is no origin of the study" in place.ran("study", path)[1]
 
 
 @pytest.mark.parametrize(
-    "more, told",
+    "more, message",
     [
         ("max_minutes = 20", "max_minutes '20.0' ends before the limit of tables and maps; allowed: at least 30"),
         ("nearest_bands = [5]", "nearest_bands needs nearest"),
         ("bands = [5]\naccess = false", "bands needs access, and people of [opportunities]"),
     ],
 )
-def test_what_does_not_go_together_is_told(bare: Place, more: str, told: str) -> None:  # noqa: F811
+def test_what_does_not_go_together_is_told(bare: Place, more: str, message: str) -> None:  # noqa: F811
     path = bare.lay_out(STUDY.replace("csv = true", more))
     out, said, status = bare.ran("study", path)
-    assert (out, status) == ("", 1) and told in said and said.count("\n") == 1
+    assert (out, status) == ("", 1) and message in said and said.count("\n") == 1

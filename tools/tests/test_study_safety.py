@@ -50,7 +50,7 @@ def bare(tmp_path: Path, capsysbinary: pytest.CaptureFixture[bytes]) -> Place:
 
 
 def contents(folder: Path) -> dict[str, bytes]:
-    return {str(it.relative_to(folder)): it.read_bytes() for it in folder.rglob("*") if it.is_file()}
+    return {str(path.relative_to(folder)): path.read_bytes() for path in folder.rglob("*") if path.is_file()}
 
 
 @pytest.mark.parametrize("name", ["maps/mine.png", "inputs/feed/stops.txt", "parts/0001/matrix.csv", "notes.txt"])
@@ -61,8 +61,8 @@ def test_a_folder_with_files_of_a_person_is_refused(bare: Place, name: str) -> N
     file.write_text("mine")
     before = contents(bare.folder)
     choices: list[list[str]] = [[], ["--out", bare.path("nine")]]
-    for words in choices:
-        _, said, status = bare.ran("study", path, *words)
+    for arguments in choices:
+        _, said, status = bare.ran("study", path, *arguments)
         line = f"{bare.path('nine')}: isn't empty, and no study's folder: name a new one by --out"
         assert (said, status) == (f"ttm-tools study: {line}\n", 1)
         assert contents(bare.folder) == before
@@ -82,13 +82,13 @@ def test_what_a_study_did_not_write_is_never_replaced(place: Place) -> None:
         _, said, status = place.ran("study", path)
         line = f"{name}: isn't this study's, which would replace it: move it elsewhere"
         assert (said.splitlines()[-1], status) == (f"ttm-tools study: {line}", 1)
-        assert all((folder / it).read_text() == "mine" for it in mine)
+        assert all((folder / item).read_text() == "mine" for item in mine)
         (folder / name).unlink()
         mine.remove(name)
     _, said, status = place.ran("study", path)
     assert status == 0, said
     assert (folder / "parts/mine/notes.txt").read_text() == "mine"
-    assert sorted(it.name for it in (folder / "parts").iterdir()) == ["mine"]
+    assert sorted(path.name for path in (folder / "parts").iterdir()) == ["mine"]
 
 
 @pytest.mark.parametrize("moment", ["before", "within", "after"])
@@ -104,8 +104,8 @@ def test_what_is_put_into_a_folder_that_a_kill_left_is_never_removed(
         def make() -> list[str]:
             if kill == "before":
                 os.kill(os.getpid(), signal.SIGKILL)
-            with many_written_aside("maps") as made:
-                (made / "access.png").write_text("drawn")
+            with many_written_aside("maps") as aside:
+                (aside / "access.png").write_text("drawn")
                 if kill == "within":
                     os.kill(os.getpid(), signal.SIGKILL)
             if kill == "after":
@@ -138,8 +138,8 @@ def test_a_kill_while_old_outputs_are_removed_leaves_the_study_its_own(
     folder = stages.Folder(Path("."))
 
     def make() -> list[str]:
-        with many_written_aside("maps") as made:
-            (made / "access.png").write_text("drawn")
+        with many_written_aside("maps") as aside:
+            (aside / "access.png").write_text("drawn")
         return []
 
     folder.do(stages.Stage("maps", {}, ["maps"], make))
@@ -156,16 +156,16 @@ def test_hosts_find_the_folder_whatever_it_is_called(room: Room) -> None:
         folder = room.folder / name
         (folder / "parts").mkdir(parents=True)
         (folder / "parts/one_part.sh").write_text('printf %s "$1" > "made_$1"\n')
-        words = command(str(folder)).replace("{}", "7")
+        arguments = command(str(folder)).replace("{}", "7")
         for shell in filter(shutil.which, ("sh", "bash", "csh", "zsh")):
             (folder / "made_7").unlink(missing_ok=True)
-            subprocess.run([shell, "-c", words], cwd=room.folder, check=True)
+            subprocess.run([shell, "-c", arguments], cwd=room.folder, check=True)
             assert (folder / "made_7").read_text() == "7"
         if shutil.which("parallel"):
             called = ["parallel", "--sshlogin", "2/:", command(str(folder)), ":::", "1", "2"]
             subprocess.run(called, cwd=room.folder, check=True, stdin=subprocess.DEVNULL)
             assert (folder / "made_1").exists() and (folder / "made_2").exists()
-    assert not [it for it in room.folder.rglob("y")]
+    assert not [path for path in room.folder.rglob("y")]
 
 
 @pytest.mark.parametrize("name", HOSTILE)
@@ -189,7 +189,7 @@ def test_a_study_in_a_folder_of_any_name_is_made_by_slurm_and_by_hosts(
         _, said, status = place.ran("study", place.path("nine.toml"), "--out", str(out), *way)
         assert status == 0, said
         assert (out / "matrix.csv").exists()
-    assert not [it for it in place.folder.rglob("y")]
+    assert not [path for path in place.folder.rglob("y")]
 
 
 def changed_during(monkeypatch: pytest.MonkeyPatch, name: str, change: Callable[[], object]) -> None:
@@ -197,11 +197,11 @@ def changed_during(monkeypatch: pytest.MonkeyPatch, name: str, change: Callable[
     module = study_inputs if hasattr(study_inputs, name) else counted
     whole = getattr(module, name)
 
-    def called(*words: Any, **more: Any) -> Any:
+    def called(*arguments: Any, **more: Any) -> Any:
         monkeypatch.setattr(module, name, whole)
-        made = whole(*words, **more)
+        result = whole(*arguments, **more)
         change()
-        return made
+        return result
 
     monkeypatch.setattr(module, name, called)
 
@@ -231,8 +231,8 @@ def test_a_source_that_changes_while_it_is_read_ends_the_stage(
 
 
 def noted(write: Callable[..., None], wanted: str, change: Callable[[], object]) -> Callable[..., None]:
-    def called(path: str, *words: Any) -> None:
-        write(path, *words)
+    def called(path: str, *arguments: Any) -> None:
+        write(path, *arguments)
         if path == wanted:
             change()
 
@@ -296,11 +296,11 @@ def test_a_broken_log_is_read_as_far_as_it_is_whole(place: Place) -> None:
 
 def test_files_of_names_never_meet() -> None:
     names = ["a", "a_pairs", "A", "a/b", "a_b", "é" * 200, "é" * 201, "..", ".", "", "x" * 245, "x" * 246]
-    made = file_names(names, ("", "_pairs"))
-    files = [f"{it}{end}".casefold() for it in made.values() for end in ("", "_pairs")]
+    result = file_names(names, ("", "_pairs"))
+    files = [f"{item}{end}".casefold() for item in result.values() for end in ("", "_pairs")]
     assert len(set(files)) == len(files) == 2 * len(names)
-    assert all(len(it.encode()) < 120 and "/" not in it and not it.startswith(".") for it in files)
-    assert made["a"] == "a" and made["x" * 245] != made["x" * 246]
+    assert all(len(file.encode()) < 120 and "/" not in file and not file.startswith(".") for file in files)
+    assert result["a"] == "a" and result["x" * 245] != result["x" * 246]
 
 
 def test_scenarios_of_long_and_like_names_have_files_of_their_own(place: Place) -> None:
@@ -309,7 +309,7 @@ def test_scenarios_of_long_and_like_names_have_files_of_their_own(place: Place) 
         shutil.copyfile(
             place.path("cut.csv") if place.folder.joinpath("cut.csv").exists() else place.lay_out(), place.path("any")
         )
-    text = NO_MAPS.replace('["cut.csv"]', json.dumps([f"{it}.csv" for it in names])).replace(
+    text = NO_MAPS.replace('["cut.csv"]', json.dumps([f"{name}.csv" for name in names])).replace(
         "csv = true", "pairs = true"
     )
     place.say(text)
@@ -318,8 +318,8 @@ def test_scenarios_of_long_and_like_names_have_files_of_their_own(place: Place) 
     _, said, status = place.ran("study", place.path("nine.toml"))
     assert status == 0, said
     assert f"files of {'x' * 245} are called {'x' * 80}_" in said
-    made = sorted(it.name for it in (place.folder / "nine").glob("compare_*"))
-    assert len(made) == 6
+    result = sorted(path.name for path in (place.folder / "nine").glob("compare_*"))
+    assert len(result) == 6
 
 
 def test_links_of_a_ready_feed_do_not_lead_out_of_it(bare: Place) -> None:
@@ -360,5 +360,7 @@ def test_walks_that_bring_old_stops_nearer_are_told_by_a_study(place: Place, wal
     _, said, status = place.ran("study", place.say(study.replace("limits =", "walk = 600\nlimits =")))
     assert status == 0, said
     line = "  walks to new stops bring "
-    assert [it for it in said.splitlines() if it.startswith(line) and it.endswith(" and out of reach without")], said
+    assert [
+        text for text in said.splitlines() if text.startswith(line) and text.endswith(" and out of reach without")
+    ], said
     assert line.strip() in (place.folder / "nine/report.md").read_text()

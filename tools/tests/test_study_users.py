@@ -7,7 +7,7 @@ import pytest
 
 from test_study import STUDY, Place, bare, place  # noqa: F401
 from ttm_tools.matrices import open_matrix
-from ttm_tools.study.report import told_apart
+from ttm_tools.study.report import texts_apart
 from ttm_tools.study.study_file import read_study
 
 DOORS = STUDY[: STUDY.index("[opportunities]")] + '[points]\norigins = ["homes.csv"]\ndestinations = ["schools.csv"]\n'
@@ -50,7 +50,7 @@ def test_homes_and_schools_in_files_of_their_own(place: Place) -> None:  # noqa:
     matrix = open_matrix(place.path("nine/matrix.omx"))
     assert (matrix.origins("base", 50), matrix.stops) == (["h0", "h1"], ["s0", "s1", "s2"])
     assert "| schools | 30 | " in report_of(place) and "residents" not in report_of(place)
-    sizes = [it.stat().st_size for it in (place.folder / "nine").rglob("matrix.csv")]
+    sizes = [path.stat().st_size for path in (place.folder / "nine").rglob("matrix.csv")]
     assert sizes == []  # the parts' matrices are gone
 
 
@@ -68,12 +68,12 @@ def test_people_at_points_that_are_left_out_are_told(place: Place) -> None:  # n
     place.write("people.csv", "id,residents", [["h0", 3], ["far", 4]])
     study = (place.folder / "nine.toml").read_text().replace("[points]", "[points]\nleave_out = true")
     place.say(study + '[opportunities]\npeople = "people.csv"\n')
-    _, told, status = place.ran("study", path)
-    assert status == 0 and "not counted, at points that are left out: 4 residents" in told
+    _, errors, status = place.ran("study", path)
+    assert status == 0 and "not counted, at points that are left out: 4 residents" in errors
 
 
 @pytest.mark.parametrize(
-    "name, header, rows, told",
+    "name, header, rows, message",
     [
         ("people.csv", "id,residents", [["s0", 3]], "people.csv: record 2: s0 is no point at which journeys begin"),
         ("jobs.csv", "id,jobs", [["S0", 3]], "jobs.csv: record 2: S0 is no point of the study"),
@@ -81,7 +81,7 @@ def test_people_at_points_that_are_left_out_are_told(place: Place) -> None:  # n
     ],
 )
 def test_files_that_do_not_fit_are_told_before_any_work(
-    bare: Place, name: str, header: str, rows: list[list[object]], told: str  # noqa: F811
+    bare: Place, name: str, header: str, rows: list[list[object]], message: str  # noqa: F811
 ) -> None:
     path = doors(bare)
     bare.write("people.csv", "id,residents", [["h0", 3]])
@@ -93,7 +93,7 @@ def test_files_that_do_not_fit_are_told_before_any_work(
     monkey.setenv("TTM_PROGRAM", "/bin/echo")
     _, said, status = bare.ran("study", path)
     monkey.undo()
-    assert status == 1 and told in said, said
+    assert status == 1 and message in said, said
     assert not (bare.folder / "nine" / "inputs").exists()
 
 
@@ -101,11 +101,11 @@ def test_opportunities_are_called_as_their_file(place: Place) -> None:  # noqa: 
     study = STUDY.replace('column = "jobs"\n', "").replace("page = false", "page = true")
     path = place.lay_out(study.replace("csv = true", "maps = false"))
     place.write("jobs.csv", "stop_id,opportunities", [[f"S{n}", n] for n in range(9)])
-    _, told, status = place.ran("study", path)
-    assert status == 0, told
+    _, errors, status = place.ran("study", path)
+    assert status == 0, errors
     assert {line.split(",")[2] for line in Path(place.path("nine/access.csv")).read_text().splitlines()[1:]} == {"jobs"}
     names = re.findall(r'"of":"([^"]*)"', Path(place.path("nine/page.html")).read_text())
-    assert "jobs" in names and not [it for it in names if "opportunities" in it]
+    assert "jobs" in names and not [name for name in names if "opportunities" in name]
 
 
 def test_a_plan_of_one_scenario_neither_warns_nor_runs_base(place: Place) -> None:  # noqa: F811
@@ -114,8 +114,8 @@ def test_a_plan_of_one_scenario_neither_warns_nor_runs_base(place: Place) -> Non
     assert "Warnings: none." in report
     assert "the rows of tram are those of base, as its file takes nothing out" in report
     assert open_matrix(place.path("nine/matrix.omx")).scenarios == ["today", "tram"]
-    told = place.ran("study", "--verify", place.path("nine"))
-    assert told[2] == 0, told
+    errors = place.ran("study", "--verify", place.path("nine"))
+    assert errors[2] == 0, errors
 
 
 def test_the_rows_of_base_are_those_of_the_scenario_that_takes_nothing_out(place: Place) -> None:  # noqa: F811
@@ -135,8 +135,8 @@ def test_the_rows_of_base_are_those_of_the_scenario_that_takes_nothing_out(place
 
 def test_walks_longer_than_ttm_takes_are_refused_and_shorter_ones_told(place: Place) -> None:  # noqa: F811
     path = place.lay_out(STUDY + "[walks]\nlimit = 700\n")
-    told = place.ran("study", path)
-    assert told[2] == 1 and "limit '700' is more than walk of [run], 600" in told[1]
+    errors = place.ran("study", path)
+    assert errors[2] == 1 and "limit '700' is more than walk of [run], 600" in errors[1]
     place.say(STUDY + "[walks]\nlimit = 500\n")
     assert place.ran("study", path)[2] == 0
     sentence = "a single walk takes 500 seconds at most ([walks] limit), one of several in turn 600 ([run] walk)"
@@ -145,8 +145,8 @@ def test_walks_longer_than_ttm_takes_are_refused_and_shorter_ones_told(place: Pl
 
 def test_a_date_without_trips_is_refused(place: Place) -> None:  # noqa: F811
     path = place.lay_out(STUDY.replace("2026-05-04", "2027-05-04"))
-    _, told, status = place.ran("study", path)
-    assert status == 1 and "no trip runs on 2027-05-04, but from 2026-05-04 to 2026-05-31" in told
+    _, errors, status = place.ran("study", path)
+    assert status == 1 and "no trip runs on 2027-05-04, but from 2026-05-04 to 2026-05-31" in errors
     assert (
         place.ran(
             "study",
@@ -174,18 +174,18 @@ def test_a_date_without_trips_is_refused_of_a_feed_that_is_ready_and_of_a_clippe
     times.write_text(
         re.sub(r"8:([0-9]+):0,", r"08:\1:00,", times.read_text().replace("08:", "8:").replace(":00,", ":0,"))
     )
-    _, told, status = place.ran("study", path)
-    assert status == 1 and f"no trip runs on {date}, " in told.splitlines()[-1], told
+    _, errors, status = place.ran("study", path)
+    assert status == 1 and f"no trip runs on {date}, " in errors.splitlines()[-1], errors
     assert not (place.folder / "nine" / "matrix.omx").exists()
     if "ready" in feed:
-        _, told, status = place.ran("study", place.say(study.replace(feed, f"{feed}\nallow_loss = true")))
-        assert status == 0, told
+        _, errors, status = place.ran("study", place.say(study.replace(feed, f"{feed}\nallow_loss = true")))
+        assert status == 0, errors
 
 
 def test_numbers_have_the_digits_that_show_a_change() -> None:
-    assert told_apart([0.31, 0.32]) == ["0.31", "0.32"]
-    assert told_apart([1234.5, 1234.5]) == ["1,234.5", "1,234.5"]
-    assert told_apart([1.00001, 1.00002, 1.00001]) == ["1.00001", "1.00002", "1.00001"]
+    assert texts_apart([0.31, 0.32]) == ["0.31", "0.32"]
+    assert texts_apart([1234.5, 1234.5]) == ["1,234.5", "1,234.5"]
+    assert texts_apart([1.00001, 1.00002, 1.00001]) == ["1.00001", "1.00002", "1.00001"]
 
 
 def test_the_report_is_whole_in_one_file(place: Place) -> None:  # noqa: F811

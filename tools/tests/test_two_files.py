@@ -27,36 +27,36 @@ def heading(two: Town, more: str = "", base: str = "") -> str:
 
 
 def test_pairs_are_those_of_two_scenarios_of_one_file(two: Town) -> None:
-    out, told, status = two.ran("compare", "--base", two.path("old.csv"), two.file)
+    out, errors, status = two.ran("compare", "--base", two.path("old.csv"), two.file)
     assert (out.splitlines()[1:], status) == (PAIRS, 0)
     counts = "of 8 pairs 1 cut off, 1 slower, 1 new, 1 faster (by more than 60 seconds)"
-    assert told.splitlines() == [heading(two), f"new compared with old: {counts}"]
-    words = ["compare", "--by", "origin", "--base", two.path("old.csv")]
-    assert two.ran(*words, two.file)[0].splitlines()[1:] == ["A,3,2,-1,-33.3,1,1,0,0", "D,3,4,1,33.3,0,0,1,1"]
+    assert errors.splitlines() == [heading(two), f"new compared with old: {counts}"]
+    arguments = ["compare", "--by", "origin", "--base", two.path("old.csv")]
+    assert two.ran(*arguments, two.file)[0].splitlines()[1:] == ["A,3,2,-1,-33.3,1,1,0,0", "D,3,4,1,33.3,0,0,1,1"]
 
 
 def test_another_order_and_other_stops_are_matched_by_identifiers(two: Town) -> None:
     rows: dict[str, list[Cell]] = {"D": [0, "", 600, 1500, 7], "Z": [0, 0, 0, 0, 0], "A": [2400, 300, 900, 0, 7]}
     Path(two.path("old.csv")).write_text(town_matrix(True, {"base": rows}, stops="DBCAY"))
-    out, told, status = two.ran("compare", "--base", two.path("old.csv"), two.file)
+    out, errors, status = two.ran("compare", "--base", two.path("old.csv"), two.file)
     assert (out.splitlines()[1:], status) == (PAIRS, 0)
     old, new = two.path("old.csv"), two.path("new.csv")
-    assert told.splitlines()[:2] == [
+    assert errors.splitlines()[:2] == [
         f"1 of 3 origins of {old} aren't in {new}, and are left out: Z",
         f"1 of 5 stops of {old} aren't in {new}, and are left out: Y",
     ]
-    assert told.splitlines()[2] == heading(two)
+    assert errors.splitlines()[2] == heading(two)
 
 
 def test_other_percentiles_are_said_and_common_ones_are_taken(two: Town) -> None:
     Path(two.path("old.csv")).write_text(town_matrix(True, OLD, shares=(25, 50, 75)))
     assert two.ran("compare", "--base", two.path("old.csv"), two.file)[0].splitlines()[1:] == PAIRS
     Path(two.path("new.csv")).write_text(town_matrix(True, NEW, shares=(40,)))
-    told = f"{two.path('old.csv')}: no percentile in common with {two.file}, which has 40"
-    two.refused(told, "compare", "--base", two.path("old.csv"), two.file)
+    message = f"{two.path('old.csv')}: no percentile in common with {two.file}, which has 40"
+    two.refused(message, "compare", "--base", two.path("old.csv"), two.file)
     Path(two.path("old.csv")).write_text(town_matrix(True, OLD))
-    told = two.ran("compare", "--base", two.path("old.csv"), two.file)[1]
-    assert told.splitlines()[0] == heading(two, ", percentile 40", ", percentile 50")
+    message = two.ran("compare", "--base", two.path("old.csv"), two.file)[1]
+    assert message.splitlines()[0] == heading(two, ", percentile 40", ", percentile 50")
 
 
 def test_days_and_windows_are_those_that_studies_tell(two: Town) -> None:
@@ -67,17 +67,17 @@ def test_days_and_windows_are_those_that_studies_tell(two: Town) -> None:
         (folder / "matrix.csv").write_text(texts[f"{name}.csv"])
         (folder / "study.json").write_text(json.dumps({"run": {"date": day, "window": window}}))
     new, old = two.path("new/matrix.csv"), two.path("old/matrix.csv")
-    told = two.ran("compare", "--base", old, new)[1]
+    errors = two.ran("compare", "--base", old, new)[1]
     first = f"new is {new} (scenario base, 2026-05-03, 19:00 to 20:59)"
-    assert told.splitlines()[0] == f"{first}; old is {old} (scenario base, 2026-05-04, 07:00 to 08:59)"
+    assert errors.splitlines()[0] == f"{first}; old is {old} (scenario base, 2026-05-04, 07:00 to 08:59)"
 
 
 def test_a_scenario_of_the_base_may_be_named(two: Town) -> None:
     Path(two.path("old.csv")).write_text(town_matrix(True, {"base": TOWN["cut"], "best": TOWN["base"]}))
-    words = ["compare", "--base", two.path("old.csv"), "--base-scenario"]
-    assert two.ran(*words, "best", two.file)[0].splitlines()[1:] == PAIRS
-    told = f"{two.path('old.csv')}: no scenario worst; it has base, best"
-    two.refused(told, *words, "worst", two.file)
+    arguments = ["compare", "--base", two.path("old.csv"), "--base-scenario"]
+    assert two.ran(*arguments, "best", two.file)[0].splitlines()[1:] == PAIRS
+    message = f"{two.path('old.csv')}: no scenario worst; it has base, best"
+    two.refused(message, *arguments, "worst", two.file)
     assert two.ran("compare", "--base-scenario", "base", two.file)[2] == 2
 
 
@@ -102,8 +102,8 @@ def test_map_page_and_isochrones_take_a_base_too(two: Town, monkeypatch: pytest.
     assert '"scenarios":["old","new"]' in page and "Matrix: old.csv" in page
     out = two.path("a.geojson")
     assert two.ran("isochrones", *old, "--origin", "A", "--bands", "10", "--out", out, two.file)[2] == 0
-    made = [it["properties"] for it in json.loads(Path(out).read_text())["features"]]
-    assert [(it["scenario"], it["reached"]) for it in made] == [("old", 2), ("new", 2)]
+    result = [feature["properties"] for feature in json.loads(Path(out).read_text())["features"]]
+    assert [(item["scenario"], item["reached"]) for item in result] == [("old", 2), ("new", 2)]
 
 
 def test_equity_takes_the_base_of_another_table(two: Town) -> None:
@@ -112,10 +112,10 @@ def test_equity_takes_the_base_of_another_table(two: Town) -> None:
     more = [["base", "C", "j", 50, 30, 1], ["base", "A", "j", 50, 30, 5]]
     new = two.write("sunday.csv", heads, [*more, ["base", "B", "j", 50, 30, 4]])
     people = two.write("people.csv", "id,all", [["A", 1], ["B", 3]])
-    out, told, status = two.ran("equity", new, "--base", old, "--people", people)
-    assert (told, status) == (f"1 of 3 origins of {new} aren't in {old}, and are left out: C\n", 0)
-    made = [(row["scenario"], row["mean"], row["losers_percent"]) for row in read(out)]
-    assert made == [("monday", "5.5", "0"), ("sunday", "4.25", "25")]
+    out, errors, status = two.ran("equity", new, "--base", old, "--people", people)
+    assert (errors, status) == (f"1 of 3 origins of {new} aren't in {old}, and are left out: C\n", 0)
+    result = [(row["scenario"], row["mean"], row["losers_percent"]) for row in read(out)]
+    assert result == [("monday", "5.5", "0"), ("sunday", "4.25", "25")]
 
 
 def test_files_are_called_by_what_tells_them_apart() -> None:

@@ -16,8 +16,8 @@ from ttm_tools.walks import Pace, straight_walks
 
 
 def found(room: Room, limit: float = 600, speed: float = 1.0, detour: float = 1.0) -> dict[tuple[str, str], int]:
-    made = straight_walks(read_stops(str(room.folder)), Pace(limit, speed, detour))
-    return {(a, b): seconds for a, b, seconds in made.rows()}
+    result = straight_walks(read_stops(str(room.folder)), Pace(limit, speed, detour))
+    return {(a, b): seconds for a, b, seconds in result.rows()}
 
 
 def both(*pairs: tuple[str, str, int]) -> dict[tuple[str, str], int]:
@@ -42,8 +42,8 @@ def test_stops_at_one_place_are_0_seconds_apart(room: Room) -> None:
 def test_a_stop_without_coordinates_has_no_footpath_and_is_counted(room: Room) -> None:
     room.stops(("A", 0, 0), ("B", None, None), ("C", 10, 0))
     assert set(found(room)) == {("A", "C"), ("C", "A")}
-    told = f"{room.path('footpaths.csv')}: 2 footpaths; 1 stops have no coordinates\n"
-    assert room.ran("walks", str(room.folder)) == ("", told, 0)
+    message = f"{room.path('footpaths.csv')}: 2 footpaths; 1 stops have no coordinates\n"
+    assert room.ran("walks", str(room.folder)) == ("", message, 0)
 
 
 def test_0_and_0_and_what_is_no_place_on_earth_are_missing_coordinates(room: Room) -> None:
@@ -104,11 +104,11 @@ def test_each_pair_that_is_near_enough_is_found(room: Room, limit: int) -> None:
     draw = random.Random(limit)
     places = [(draw.uniform(-3000, 3000), draw.uniform(-3000, 3000)) for _ in range(300)]
     room.stops(*((str(number), *place) for number, place in enumerate(places)))
-    made = found(room, limit)
+    result = found(room, limit)
     pairs = itertools.permutations(range(300), 2)
     expected = {(str(a), str(b)) for a, b in pairs if math.dist(places[a], places[b]) < limit - 0.1}
-    assert expected <= set(made)
-    for (a, b), seconds in made.items():
+    assert expected <= set(result)
+    for (a, b), seconds in result.items():
         assert seconds == pytest.approx(math.dist(places[int(a)], places[int(b)]) + 0.5, abs=0.52)
 
 
@@ -120,15 +120,15 @@ def test_walks_of_the_first_stops_are_those_among_all(room: Room, first: int) ->
     stops = [[str(n), *[draw.uniform(-900, 900) for _ in "ne"], 0, draw.choice(["", f"s{n % 9}"])] for n in range(300)]
     room.stops(*stops, *stations, *doors)
     read = read_stops(str(room.folder))
-    every, some = (set(straight_walks(read, Pace(300.0), it).rows()) for it in (None, first))
+    every, some = (set(straight_walks(read, Pace(300.0), item).rows()) for item in (None, first))
     assert some == {(a, b, seconds) for a, b, seconds in every if int(a) < first or int(b) < first} != set()
 
 
 def test_a_table_of_walks_is_rounded_up_and_counted(room: Room) -> None:
     room.stops(("A", 0, 0), ("B", 99.5, 0), ("C", 0, 600))
     table = room.write("osrm.csv", "from_stop_id,to_stop_id,seconds", [["A", "B", 120.2], ["B", "A", "119.0"]])
-    told = f"{room.path('footpaths.csv')}: 2 footpaths; 1 seconds with decimals were rounded up\n"
-    assert room.ran("walks", "--table", table, str(room.folder)) == ("", told, 0)
+    message = f"{room.path('footpaths.csv')}: 2 footpaths; 1 seconds with decimals were rounded up\n"
+    assert room.ran("walks", "--table", table, str(room.folder)) == ("", message, 0)
     assert (room.folder / "footpaths.csv").read_text() == "from_stop_id,to_stop_id,seconds\nA,B,121\nB,A,119\n"
     (room.folder / "footpaths.csv").unlink()
     bad: list[tuple[list[Any], str]] = [
@@ -136,9 +136,9 @@ def test_a_table_of_walks_is_rounded_up_and_counted(room: Room) -> None:
         (["A", "B", "-1"], "record 2: seconds '-1' is no such number; allowed: a number from 0 to 4294967295"),
         (["A", "B", "nan"], "record 2: seconds 'nan' is no such number; allowed: a number from 0 to 4294967295"),
     ]
-    for row, told in bad:
+    for row, message in bad:
         room.write("osrm.csv", "from_stop_id,to_stop_id,seconds", [row])
-        room.refused(f"{table}: {told}", "walks", "--table", table, str(room.folder))
+        room.refused(f"{table}: {message}", "walks", "--table", table, str(room.folder))
 
 
 def test_the_program_takes_the_file(room: Room, program: str) -> None:
@@ -149,9 +149,9 @@ def test_the_program_takes_the_file(room: Room, program: str) -> None:
     times = [["T", "08:00:00", "08:00:00", "A", 1], ["T", "08:09:00", "08:09:00", "B", 2]]
     room.write("stop_times.txt", STOP_TIMES, times)
     assert launched("walks", "--speed", "1", "--detour", "1", str(room.folder)).returncode == 0
-    words = f"--feed {room.folder} --footpaths {room.folder}/footpaths.csv --date 20260504 --from 08:00 --to 08:00"
-    words += " --trips 1 --walk 600 --share 50 --within 60 --workers 1 --tries 1"
-    ran = subprocess.run([program, *words.split()], capture_output=True, text=True)
+    arguments = f"--feed {room.folder} --footpaths {room.folder}/footpaths.csv --date 20260504 --from 08:00 --to 08:00"
+    arguments += " --trips 1 --walk 600 --share 50 --within 60 --workers 1 --tries 1"
+    ran = subprocess.run([program, *arguments.split()], capture_output=True, text=True)
     assert (ran.returncode, ran.stderr) == (0, "")
     matrix = list(csv.reader(ran.stdout.splitlines()))
     assert matrix[0][-3:] == ["A", "B", 'a, "b"']

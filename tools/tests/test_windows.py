@@ -19,12 +19,12 @@ from ttm_tools.conversation import Answer
 from ttm_tools.engine import Run
 from ttm_tools.files import Interrupted
 from ttm_tools.matrices import open_matrix
-from ttm_tools.study.asking import Asked, Kept, kept_words, question_of
-from ttm_tools.study.cutting import Shape, parts_for
+from ttm_tools.study.asking import KeptNetwork, PartQuestion, kept_arguments, question_of
+from ttm_tools.study.cutting import Shape, parts_for, remove_parts, remove_windows
 from ttm_tools.study.elsewhere import Means
 from ttm_tools.study.study_file import read_study
 from ttm_tools.study.work import make_study
-from ttm_tools.views.windows import Column, Told, figure_by_time, figure_of_heat, levels
+from ttm_tools.views.windows import WindowColumn, FigureLabels, figure_by_time, figure_of_heat, levels
 
 WINDOWS = (
     'windows = [{ name = "early", from = "08:00", to = "08:00" }, { name = "night", from = "21:00", to = "21:01" }]'
@@ -52,19 +52,19 @@ def table(place: Place, name: str) -> list[dict[str, str]]:  # noqa: F811
 def test_access_and_its_spread_by_window_and_day_by_hand(place: Place) -> None:  # noqa: F811
     assert place.ran("study", laid_out(place))[2] == 0
     kind = {"opportunity": "jobs", "cutoff": "10", "scenario": "base"}
-    lines = [it for it in table(place, "equity.csv") if kind.items() <= it.items()]
-    assert [(it["date"], it["window"], it["from"], it["to"]) for it in lines] == [
+    lines = [row for row in table(place, "equity.csv") if kind.items() <= row.items()]
+    assert [(line["date"], line["window"], line["from"], line["to"]) for line in lines] == [
         ("2026-05-04", "early", "08:00", "08:00"),
         ("2026-05-04", "night", "21:00", "21:01"),
         ("2026-05-05", "early", "08:00", "08:00"),
         ("2026-05-05", "night", "21:00", "21:01"),
     ]
-    assert [it["mean"] for it in lines] == [f"{it:.4f}" for it in (EARLY, NIGHT, NIGHT, NIGHT)]
+    assert [line["mean"] for line in lines] == [f"{line:.4f}" for line in (EARLY, NIGHT, NIGHT, NIGHT)]
     # the least tenth are 4.5 people: in the morning 3 of S2 and 1.5 of S0 and S1, at night 1 of S0, 2 of S1, 1.5 of S2
     morning, night = (3 * 601.2 + 1.5 * 601.6) / 4.5, (100.8 + 2 * 301.2 + 1.5 * 601.2) / 4.5
-    assert [it["least_tenth"] for it in lines[:2]] == [f"{morning:.4f}", f"{night:.4f}"]
+    assert [line["least_tenth"] for line in lines[:2]] == [f"{morning:.4f}", f"{night:.4f}"]
     kind = {**kind, "id": "S0", "date": "2026-05-04"}
-    found = [it["accessibility"] for it in table(place, "access.csv") if kind.items() <= it.items()]
+    found = [row["accessibility"] for row in table(place, "access.csv") if kind.items() <= row.items()]
     assert found == ["601.6", "100.8"]
     report = Path(place.path("nine/report.md")).read_text()
     assert "windows/20260505\\_night.omx" in report and "early (08:00 to 08:00)" in report
@@ -96,8 +96,10 @@ def test_a_ttm_that_keeps_its_network_gives_the_same_bytes(
     text = f'#!/bin/bash\ncase "$*" in *--ask*) echo "$*" >> {said} ;; esac\nexec {program} "$@"\n'
     monkeypatch.setenv("TTM_PROGRAM", script(place.folder / "asks", text))
     assert place.ran("study", path, "--workers", "2", "--out", place.path("kept"))[2] == 0
-    asked = Path(said).read_text().splitlines()
-    assert {it.split("--date ")[1].split()[0] for it in asked} == {"20260504", "20260505"} and len(asked) <= 4
+    questions = Path(said).read_text().splitlines()
+    assert {item.split("--date ")[1].split()[0] for item in questions} == {"20260504", "20260505"} and len(
+        questions
+    ) <= 4
     for name in ("20260504_night", "20260505_early", "20260505_night"):
         same_matrix(place, f"nine/windows/{name}.omx", f"kept/windows/{name}.omx")
 
@@ -119,9 +121,9 @@ def test_what_is_done_of_windows_is_not_done_again(place: Place) -> None:  # noq
     path = laid_out(place)
 
     def stages() -> list[str]:
-        _, told, status = place.ran("study", path)
-        assert status == 0, told
-        return [line.removesuffix(" ..") for line in told.splitlines() if line.endswith(" ..")]
+        _, errors, status = place.ran("study", path)
+        assert status == 0, errors
+        return [line.removesuffix(" ..") for line in errors.splitlines() if line.endswith(" ..")]
 
     assert {"matrix_20260504_night", "days_20260505", "windows_access"} < set(stages())
     assert stages() == []
@@ -131,11 +133,47 @@ def test_what_is_done_of_windows_is_not_done_again(place: Place) -> None:  # noq
     assert stages() == ["matrix_20260505_early"]
 
 
+def test_the_parts_of_all_windows_are_kept_and_used_again(
+    place: Place, program: str, monkeypatch: pytest.MonkeyPatch  # noqa: F811
+) -> None:
+    path = laid_out(place, DAY.replace("keep = true\n", "").replace("[parts]", "[parts]\nkeep = true"))
+    assert place.ran("study", path)[2] == 0
+    folder = place.folder / "nine"
+    names = {"", "20260504_night/", "20260505_early/", "20260505_night/"}
+    kept = {str(path.relative_to(folder / "parts")) for path in (folder / "parts").rglob("matrix.csv")}
+    assert kept == {f"{name}000{number}/matrix.csv" for name in names for number in range(1, 5)}
+    wanted = {path: path.read_bytes() for path in [folder / "matrix.omx", *(folder / "windows").glob("*.omx")]}
+    for item in wanted:
+        item.unlink()
+    runs = place.folder / "runs.txt"
+    text = f'#!/bin/bash\n[ "$1" = --version ] || echo "$*" >> {runs}\nexec {program} "$@"\n'
+    monkeypatch.setenv("TTM_PROGRAM", script(place.folder / "ttm", text))
+    assert place.ran("study", path)[2] == 0
+    assert {item: item.read_bytes() for item in wanted} == wanted and not runs.exists()
+    place.say(Path(path).read_text().replace("keep = true", "keep = false"))
+    assert place.ran("study", path)[2] == 0
+    assert not (folder / "parts").exists()
+
+
+def test_parts_of_other_windows_are_removed_and_foreign_files_stay(tmp_path: Path) -> None:
+    with standing_in(tmp_path):
+        for window in ("", "20260504_night", "20260504_gone"):
+            parts_for(["A"], 1, "key", window)[0].begin()
+        Path("parts/20260504_gone/mine.txt").write_text("mine")
+        remove_windows({"20260504_night"})
+        names = {str(path) for path in Path("parts").rglob("*") if path.is_file()}
+        assert names == {f"parts/{name}" for name in ("0001/origins.csv", "20260504_night/0001/origins.csv")} | {
+            "parts/20260504_gone/mine.txt"
+        }
+        remove_parts()
+        assert [str(path) for path in Path("parts").rglob("*") if path.is_file()] == ["parts/20260504_gone/mine.txt"]
+
+
 def test_verification_computes_the_rows_of_all_windows_again(place: Place) -> None:  # noqa: F811
     assert place.ran("study", laid_out(place))[2] == 0
     assert place.ran("study", "--verify", place.path("nine"), "--seed", "7")[2] == 0
     notes = json.loads(Path(place.path("nine/study.json")).read_text())
-    early, night = (Path(place.path(f"nine/windows/20260505_{it}.omx")) for it in ("early", "night"))
+    early, night = (Path(place.path(f"nine/windows/20260505_{name}.omx")) for name in ("early", "night"))
     assert notes["windows"][f"windows/{night.name}"]["window"] == ["21:00", "21:01"]
     early.write_bytes(Path(place.path("nine/matrix.omx")).read_bytes())
     assert place.ran("study", "--verify", place.path("nine"))[2] == 1
@@ -143,7 +181,7 @@ def test_verification_computes_the_rows_of_all_windows_again(place: Place) -> No
 
 def test_pictures_show_each_thing_that_is_counted(place: Place) -> None:  # noqa: F811
     assert place.ran("study", laid_out(place, DAY.replace("\nmaps = false", "")))[2] == 0
-    names = {it.name for it in Path(place.path("nine/windows/pictures")).iterdir()}
+    names = {path.name for path in Path(place.path("nine/windows/pictures")).iterdir()}
     assert names == {f"{what}_{kind}.png" for what in ("jobs", "schools") for kind in ("time", "heat", "maps")}
     assert "windows/pictures/jobs_time.png" in Path(place.path("nine/report.md")).read_text()
 
@@ -152,18 +190,18 @@ def test_without_people_each_origin_counts_once_and_the_nearest_has_its_table(pl
     study = DAY.replace('people = "people.csv"\n', "").replace("maps = false", "maps = false\nnearest = [1]")
     assert place.ran("study", laid_out(place, study))[2] == 0
     kind = {"opportunity": "schools", "scenario": "base", "group": "origins", "window": "night"}
-    (line, _) = [it for it in table(place, "equity_nearest.csv") if kind.items() <= it.items()]
+    (line, _) = [row for row in table(place, "equity_nearest.csv") if kind.items() <= row.items()]
     # five of nine stops walk 435 seconds to a school, four have one
     assert (line["people"], line["mean_minutes"]) == ("9", f"{5 * 7.25 / 9:.4f}")
 
 
 def test_a_day_without_trips_is_refused(place: Place) -> None:  # noqa: F811
-    _, told, status = place.ran("study", laid_out(place, DAY.replace("2026-05-05]", "2027-05-05]")))
-    assert status == 1 and "no trip runs on 2027-05-05" in told
+    _, errors, status = place.ran("study", laid_out(place, DAY.replace("2026-05-05]", "2027-05-05]")))
+    assert status == 1 and "no trip runs on 2027-05-05" in errors
 
 
 @pytest.mark.parametrize(
-    "words, told",
+    "text, message",
     [
         (f'date = 2026-05-04\nfrom = "08:00"\n{WINDOWS}', "windows doesn't go with from"),
         (f"date = 2026-05-04\ndates = [2026-05-04]\n{WINDOWS}", "dates doesn't go with date"),
@@ -177,20 +215,20 @@ def test_a_day_without_trips_is_refused(place: Place) -> None:  # noqa: F811
         (f"{WINDOWS}", "date is needed"),
     ],
 )
-def test_windows_that_do_not_fit_are_told_with_their_line(bare: Place, words: str, told: str) -> None:  # noqa: F811
-    path = bare.lay_out(STUDY.replace(ONE, f"{words}\n"))
+def test_windows_that_do_not_fit_are_told_with_their_line(bare: Place, text: str, message: str) -> None:  # noqa: F811
+    path = bare.lay_out(STUDY.replace(ONE, f"{text}\n"))
     out, said, status = bare.ran("study", path)
-    assert (out, status) == ("", 1) and told in said and "nine.toml: line " in said and said.count("\n") == 1, said
+    assert (out, status) == ("", 1) and message in said and "nine.toml: line " in said and said.count("\n") == 1, said
 
 
 def test_the_network_has_the_words_of_its_day_and_a_question_its_own() -> None:
     files = {"footpaths": "f.csv", "origins": "o.csv", "opportunities": "p.csv"}
     run = Run("feed", "20260504", ("08:00", "08:04"), 3, 500, (25,), (600,), ("cut.csv",), 2, 1, 0, 1, files)
-    kept = kept_words(run)
+    kept = kept_arguments(run)
     assert kept[-1] == "cut.csv" and "o.csv" not in kept and kept[kept.index("--footpaths") + 1] == "f.csv"
     assert kept[kept.index("--back") + 1] == "0" and kept[kept.index("--walk") + 1] == "500"
-    asked = question_of(run)
-    assert dict(zip(asked[::2], asked[1::2])) == {
+    question = question_of(run)
+    assert dict(zip(question[::2], question[1::2])) == {
         **{"--from": "08:00", "--to": "08:04", "--trips": "3", "--workers": "2", "--tries": "1"},
         **{"--share": "25", "--within": "600", "--origins": "o.csv", "--opportunities": "p.csv"},
     }
@@ -201,11 +239,11 @@ def test_a_part_that_a_network_refuses_is_named_and_the_others_are_kept(
 ) -> None:
     monkeypatch.setenv("TTM_PROGRAM", canned(tmp_path))
     run = Run("feed", "20260504", ("00:05", "00:06"))
-    with standing_in(tmp_path), Kept(run) as network:
+    with standing_in(tmp_path), KeptNetwork(run) as network:
         os.mkdir("stages")
         parts = parts_for(["A", "fault", "end", "B"], 4, "key")
         failed = network.run_parts(run, parts, Shape(4, 2, 1))
-        assert sorted((it.part.number, it.told) for it in failed) == [
+        assert sorted((item.part.number, item.message) for item in failed) == [
             (2, "ttm: origins: record 2: unknown stop"),
             (3, "ttm: out of memory"),
         ]
@@ -217,15 +255,15 @@ def test_a_part_that_a_network_refuses_is_named_and_the_others_are_kept(
 def test_the_first_ctrl_c_keeps_the_parts_that_are_asked_for(tmp_path: Path, monkeypatch: pytest.MonkeyPatch) -> None:
     monkeypatch.setenv("TTM_PROGRAM", canned(tmp_path))
     run = Run("feed", "20260504", ("00:05", "00:06"))
-    with standing_in(tmp_path), Kept(run) as network:
+    with standing_in(tmp_path), KeptNetwork(run) as network:
         os.mkdir("stages")
         parts = parts_for(["slow", "B"], 2, "key")
         kept = network.ask
 
-        def ask(asked: Asked) -> Answer:
-            made = kept(asked)
+        def ask(question: PartQuestion) -> Answer:
+            result = kept(question)
             network.is_ending = True  # as the handler of the signal does
-            return made
+            return result
 
         monkeypatch.setattr(network, "ask", ask)
         with pytest.raises(Interrupted):
@@ -243,30 +281,30 @@ def test_pictures_name_days_windows_and_scenarios() -> None:
     pytest.importorskip("matplotlib")
     numbers = np.array([[1.0, 5.0], [2.0, 7.0]])
     columns = [
-        Column(day, name, first, last, numbers)
+        WindowColumn(day, name, first, last, numbers)
         for day in ("2026-05-04", "2026-05-09")
         for name, first, last in (("peak", "07:00", "08:59"), ("night", "21:00", "21:59"))
     ]
-    told = Told("jobs within 30 minutes", "jobs", "residents", "stops")
-    figure = figure_by_time(columns, ["base", "cut"], np.array([1.0, 1.0]), told)
+    printed = FigureLabels("jobs within 30 minutes", "jobs", "residents", "stops")
+    figure = figure_by_time(columns, ["base", "cut"], np.array([1.0, 1.0]), printed)
     shown = [axes for axes in figure.axes if axes.get_visible()]
     assert [axes.get_title() for axes in shown] == ["2026-05-04", "2026-05-09"]
     labels = [line.get_label() for line in shown[0].get_lines()]
     assert labels == ["base", "base, tenth that has least", "cut", "cut, tenth that has least"]
     assert [line.get_ydata().tolist() for line in shown[0].get_lines()][:2] == [[3.0, 3.0], [1.0, 1.0]]
     assert shown[0].get_lines()[0].get_xdata().tolist() == [8.0, 21.5]
-    heat = figure_of_heat(columns, 0, told)
+    heat = figure_of_heat(columns, 0, printed)
     image = heat.axes[0].get_images()[0].get_array()
     assert image.tolist() == [[5.0] * 4, [1.0] * 4]
-    assert [it.get_text() for it in heat.axes[0].get_xticklabels()] == ["peak", "night"] * 2
+    assert [label.get_text() for label in heat.axes[0].get_xticklabels()] == ["peak", "night"] * 2
 
 
 def test_a_matrix_of_a_window_tells_its_day_and_departures(place: Place) -> None:  # noqa: F811
     assert place.ran("study", laid_out(place))[2] == 0
-    words = ["compare", "--by", "origin", "--base", place.path("nine/matrix.omx"), "--out", place.path("c.csv")]
-    told = place.ran(*words, place.path("nine/windows/20260505_night.omx"))[1]
-    assert "(scenario base, 2026-05-05, 21:00 to 21:01); matrix is" in told
-    assert "(scenario base, 2026-05-04, 08:00 to 08:00)" in told
+    arguments = ["compare", "--by", "origin", "--base", place.path("nine/matrix.omx"), "--out", place.path("c.csv")]
+    errors = place.ran(*arguments, place.path("nine/windows/20260505_night.omx"))[1]
+    assert "(scenario base, 2026-05-05, 21:00 to 21:01); matrix is" in errors
+    assert "(scenario base, 2026-05-04, 08:00 to 08:00)" in errors
 
 
 def test_windows_are_computed_by_slurm_too(place: Place, monkeypatch: pytest.MonkeyPatch) -> None:  # noqa: F811
@@ -279,8 +317,8 @@ def test_windows_are_computed_by_slurm_too(place: Place, monkeypatch: pytest.Mon
     script(tools / "sbatch", f'#!/bin/sh\nfor last; do :; done\n{array} "$last" >&2; done\necho 1\n')
     monkeypatch.setenv("PATH", f"{tools}:{os.environ['PATH']}")
     monkeypatch.setattr("ttm_tools.study.elsewhere.SECONDS_BETWEEN_LOOKS", 0.1)
-    _, told, status = place.ran("study", path, "--slurm", "--out", place.path("array"))
-    assert status == 0, told
+    _, errors, status = place.ran("study", path, "--slurm", "--out", place.path("array"))
+    assert status == 0, errors
     for name in ("20260504_night", "20260505_early", "20260505_night"):
         same_matrix(place, f"nine/windows/{name}.omx", f"array/windows/{name}.omx")
     assert not (place.folder / "array/parts").exists()

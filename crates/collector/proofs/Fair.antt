@@ -5,13 +5,13 @@ use Rattle.work_book.specs.Steps as book
 use Rattle.work_book.specs.Laws.{AreDrawnOnce, AreKeptOnce}
 use Rattle.work_book.specs.declared.steps.Answer.{Answer}
 use Rattle.work_book.specs.declared.steps.Answer.TheVariants.{Nothing}
-use Rattle.work_book.proofs.Fair.{IsFair, step_fair, reached_fair, new_fair}
-use Rattle.work_book.proofs.Nothing.{one_later, nothing_last}
-use Rattle.collector.specs.Run.{Core, after, answers_of, run_of, book_steps, book_answers}
+use Rattle.work_book.proofs.StepsAreFair.{IsFair, step_fair, reached_fair, new_fair}
+use Rattle.work_book.proofs.NothingIsLast.{one_later, nothing_last}
+use Rattle.collector.specs.Plain.{Core, after, answers_of, run_of, book_steps, book_answers}
 use Rattle.collector.specs.Laws.{Setup, opening, reached, IsRunOfBook, IsNothingLast}
-use Rattle.collector.specs.declared.run.CoreStep.{CoreStep}
-use Rattle.collector.specs.declared.run.CoreStep.TheVariants.{Book, Hand}
-use Rattle.collector.specs.declared.run.CoreAnswer.TheVariants as answer
+use Rattle.collector.specs.declared.plain.CoreStep.{CoreStep}
+use Rattle.collector.specs.declared.plain.CoreStep.TheVariants.{Book, Hand}
+use Rattle.collector.specs.declared.plain.CoreAnswer.TheVariants as answer
 use Rattle.collector.proofs.Placed.{book_is}
 
 own_answers : (steps : List CoreStep) (c : Core) →

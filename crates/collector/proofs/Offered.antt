@@ -10,7 +10,7 @@ use Rattle.std.proofs.lemmas.Bool.Decides.{nat_tests}
 use Rattle.collector.specs.Row.{RowData}
 use Rattle.collector.specs.Places.{PlacesData, place_of, row_at}
 use Rattle.collector.specs.Offers.{belongs, is_open, after_offer, IsSameSize}
-use Rattle.collector.specs.Run.{offered}
+use Rattle.collector.specs.Offers.{offered}
 use Rattle.collector.specs.Laws.{is_for}
 
 both : (a b : Bool) → (a && b) ≡ true → (a ≡ true) × (b ≡ true)

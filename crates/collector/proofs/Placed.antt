@@ -12,17 +12,18 @@ use Rattle.work_book.specs.Steps as book
 use Rattle.work_book.specs.Laws.{drawn_count}
 use Rattle.work_book.specs.declared.steps.Answer.{Answer}
 use Rattle.work_book.specs.declared.steps.Answer.TheVariants.{Nothing}
-use Rattle.work_book.proofs.Fair.{reached_fair, new_fair}
-use Rattle.work_book.proofs.Nothing.{nothing_stays}
+use Rattle.work_book.proofs.StepsAreFair.{reached_fair, new_fair}
+use Rattle.work_book.proofs.NothingIsLast.{nothing_stays}
 use Rattle.collector.specs.Row.{RowData}
 use Rattle.collector.specs.Places.{PlacesData, place_of, row_at}
 use Rattle.collector.specs.Offers.{belongs}
-use Rattle.collector.specs.Run.{Core, after, answers_of, handed, offered, book_steps}
+use Rattle.collector.specs.Offers.{offered}
+use Rattle.collector.specs.Plain.{Core, after, answers_of, handed, book_steps}
 use Rattle.collector.specs.Laws.{Setup, opening, reached, is_for, first_for, ArePlacedFirst, IsRightWhenFinished}
 use Rattle.collector.specs.Laws.{AreMissingUnhanded, AreDrawnAtNothing}
-use Rattle.collector.specs.declared.run.CoreStep.{CoreStep}
-use Rattle.collector.specs.declared.run.CoreStep.TheVariants.{Book, Hand}
-use Rattle.collector.specs.declared.run.CoreAnswer.TheVariants as answer
+use Rattle.collector.specs.declared.plain.CoreStep.{CoreStep}
+use Rattle.collector.specs.declared.plain.CoreStep.TheVariants.{Book, Hand}
+use Rattle.collector.specs.declared.plain.CoreAnswer.TheVariants as answer
 use Rattle.collector.proofs.Merge.{run_is}
 use Rattle.collector.proofs.Offered.{offered_at, offered_sizes, offered_length, belongs_in, eq_true, in_range}
 

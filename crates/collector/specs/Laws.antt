@@ -9,9 +9,9 @@ use Rattle.work_book.specs.declared.steps.Answer.TheVariants.{Nothing}
 use Rattle.collector.specs.Row.{RowData}
 use Rattle.collector.specs.Places.{PlacesData, MatrixData, empty_places, place_of, row_at}
 use Rattle.collector.specs.Offers.{belongs, IsFinished}
-use Rattle.collector.specs.Run.{Core, core, answers_of, run_of, book_steps, book_answers, handed}
-use Rattle.collector.specs.declared.run.CoreStep.{CoreStep}
-use Rattle.collector.specs.declared.run.CoreAnswer.TheVariants as answer
+use Rattle.collector.specs.Plain.{Core, core, answers_of, run_of, book_steps, book_answers, handed}
+use Rattle.collector.specs.declared.plain.CoreStep.{CoreStep}
+use Rattle.collector.specs.declared.plain.CoreAnswer.TheVariants as answer
 
 -- what a book and a collector are made with
 pub record Setup : Type 0 where

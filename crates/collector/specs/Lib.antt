@@ -1,5 +1,5 @@
 pub mod Row
 pub mod Places
 pub mod Offers
-pub mod Run
+pub mod Plain
 pub mod Laws

@@ -1,6 +1,6 @@
 -- What an offer of a row does, and what finishing gives.
 use Rattle.std.specs.Prelude.{◌≡◌, ◌==◌, ◌<◌, ◌&&◌, ℕ, Bool, true, not, Some, None, nat_lt, length, map, is_some}
-use Rattle.std.specs.Prelude.{slice_set, if◌then◌else◌}
+use Rattle.std.specs.Prelude.{List, [], ◌∷◌, slice_set, if◌then◌else◌}
 use Rattle.std.specs.List.{list_all}
 use Rattle.collector.specs.Row.{CellsData, RowData}
 use Rattle.collector.specs.Places.{PlacesData, MatrixData, place_of, row_at}
@@ -38,6 +38,11 @@ after_offer places row =
     if belongs places row && is_open places row
     then record places { rows = slice_set places.rows (place_of places row.scenario row.origin) (Some row) }
     else places
+
+-- the places after rows were offered, one after another
+abbrev pub offered : PlacesData → List RowData → PlacesData
+offered places [] = places
+offered places (row ∷ rows) = offered (after_offer places row) rows
 
 -- no offer changes how many scenarios, origins, cells, shares and limits there are
 pub record IsSameSize (old new : PlacesData) : Type 0 where

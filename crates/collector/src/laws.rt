@@ -3,7 +3,7 @@ ghost use Rattle.std.specs.Prelude.{List};
 ghost use Rattle.work_book.specs.Laws.{AreDrawnOnce, AreKeptOnce};
 ghost use Rattle.collector.specs.Laws.{Setup, reached, ArePlacedFirst, IsRightWhenFinished, AreMissingUnhanded};
 ghost use Rattle.collector.specs.Laws.{AreDrawnAtNothing, IsRunOfBook, IsNothingLast};
-ghost use Rattle.collector.specs.declared.run.CoreStep.{CoreStep};
+ghost use Rattle.collector.specs.declared.plain.CoreStep.{CoreStep};
 
 /// For every book, every collector and every list of steps, whoever makes them and in whatever order: a place holds
 /// the first row handed over for it that is no stranger, or none where there was none; where those rows are right, a

@@ -4,9 +4,10 @@
 //!
 //! - `Row` is what one scenario and one origin give, `Cells` for each share; `Collector` has a place for each row, and
 //!   `finish` makes the `Matrix`.
-//! - Doors for other programs are `Collector::place`, the sizes of a `Matrix`, and `run_core`, which makes a list of
-//!   steps: those of a book and offers of rows, as data (`CoreStep`, answered by `CoreAnswer`). `runs_are_right` is
-//!   what holds of every such list, `core_runs_are_fair` what holds of the book in it.
+//! - Doors for other programs are `Collector::place` and the sizes of a `Matrix`.
+//! - `plain`, not on the program's way: `run_core` makes a list of steps, those of a book and offers of rows, as data
+//!   (`CoreStep`, answered by `CoreAnswer`). `runs_are_right` is what holds of every such list, `core_runs_are_fair`
+//!   what holds of the book in it.
 //!
 //! `specs/Places.antt` says what places are, `specs/Offers.antt` what an offer and a finish do, `specs/Laws.antt` the
 //! laws.
@@ -14,10 +15,10 @@
 
 mod laws;
 mod places;
+mod plain;
 mod row;
-mod run;
 
 pub use laws::{core_runs_are_fair, runs_are_right};
 pub use places::{Collector, Matrix, Offer, Unfinished};
+pub use plain::{CoreAnswer, CoreStep, run_core};
 pub use row::{Cells, Row};
-pub use run::{CoreAnswer, CoreStep, run_core};

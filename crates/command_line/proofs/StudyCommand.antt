@@ -1,6 +1,6 @@
 -- What `clap` says of the command of a study.
-use Rattle.std.proofs.Common.{◌≡◌, ◌∙◌, ◌<◌, ◌+◌, ℕ, Bool, zero, suc, List, [], ◌∷◌, map, take, length, true, false, Some}
-use Rattle.std.proofs.Common.{refl, sym, ap, ap₂, subst, arith, codes}
+use Rattle.std.proofs.Common.{◌≡◌, ◌∙◌, ◌<◌, ◌+◌, ℕ, Bool, zero, suc, List, [], ◌∷◌, map, take, length, true, false}
+use Rattle.std.proofs.Common.{Some, refl, sym, ap, ap₂, subst, arith, codes}
 use Rattle.std.specs.List.{slice_index_or}
 use Rattle.std.specs.Prelude.{slice_get}
 use Rattle.std.proofs.lemmas.Bool.{false_from_ne_true}

@@ -1,7 +1,7 @@
 -- The questions of a conversation: which options one may name, and what its words ask for beside the command line.
 -- "A question names options that can differ from question to question, each once at most; what it doesn't name is as on
--- the command line. The first option that is bad is told." (The program's own rules; how words are split into options is
--- the rule of the `clap` crate.)
+-- the command line. The first option that is bad is told." (The program's own rules; how words are split into options
+-- is the rule of the `clap` crate.)
 use Rattle.std.specs.Prelude.{◌≡◌, ◌++◌, ◌==◌, ◌+◌, ◌-◌, ℕ, List, [], ◌∷◌, Option, Some, None, true, codes, ⊤}
 use Rattle.std.specs.Prelude.{false, option_and_then, option_map, string_bytes, if◌then◌else◌}
 use Rattle.clap.specs.Words.{App, HasKind, Row, Rule, Text, fault_of, matches_of, new_app, takes}

@@ -1,8 +1,8 @@
 -- The command line of a study: its options, and what their texts ask for.
--- "Options have one text each; the flags of a report and of a conversation have none. A date is YYYYMMDD, a window two times of the day, the
--- shares and the limits of access are lists of numbers, all else is a number within its limits; spaces around a number
--- or a date don't count. The first option that is bad is told." (The program's own rules; how words are split into
--- options is the rule of the `clap` crate.)
+-- "Options have one text each; the flags of a report and of a conversation have none. A date is YYYYMMDD, a window two
+-- times of the day, the shares and the limits of access are lists of numbers, all else is a number within its limits;
+-- spaces around a number or a date don't count. The first option that is bad is told." (The program's own rules; how
+-- words are split into options is the rule of the `clap` crate.)
 use Rattle.std.specs.Prelude.{◌≡◌, ◌&&◌, ◌++◌, ℕ, ℤ, Bool, true, false, nat_le, List, [], ◌∷◌, map, Option, Some, None}
 use Rattle.std.specs.Prelude.{option_map, option_and_then, unwrap_or, codes, ⊤, string_bytes, if◌then◌else◌}
 use Rattle.std.specs.List.{list_all}

@@ -35,7 +35,7 @@ pub fn explain_option<C: Console>(console: &C, alloc: Global, words: &[String], 
     }
 }
 
-/// The text of an option, if the arguments give it one and there is memory for it.
+/// The text of an option, if the arguments give it one. Out of memory gives none, so that only its line is left out.
 fn text_at(alloc: Global, words: &[String], name: &str) -> Option<String> {
     match text_of(alloc, words, name) {
         Ok(text) => text,

@@ -102,7 +102,7 @@ fn matched<'a>(alloc: Global, words: &'a [String]) -> Result<ArgMatches<'a>, Wor
     }
 }
 
-/// The text of an option.
+/// The text of an option, in the words of `specs/Words` rather than those of `clap`.
 pub(crate) fn text_at<'a>(matches: &ArgMatches<'a>, id: &str) -> Option<&'a str>
     ensures { option_map (λ text. text.now) result ≡ spec.text_at (rows_of (found_of matches.now)) id.now }
 {

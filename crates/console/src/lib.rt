@@ -1,10 +1,10 @@
 //! Consoles: where a report goes.
 //!
-//! - `machine`: [`Console`], where lines are told, and what the machine says of itself and of its folders; `memory`
-//!   reads what it says of memory ([`Memory`]).
-//! - `lines`: how a line is made and told.
+//! - `machine`: [`Console`], where lines are printed, and what the machine reports about itself and its folders;
+//!   `memory` reads what it reports about memory ([`Memory`]).
+//! - `lines`: how a line is formed and printed.
 //!
-//! A line tells one fact. Where memory is short for a line it is left out.
+//! A line has one fact. If there is no memory for a line, it is left out.
 #![tactic(auto)]
 
 mod lines;

@@ -1,4 +1,4 @@
-//! Lines: each has the program's name ahead of what it tells, and a line end.
+//! Lines: each begins with the program's name and ends with a line end.
 
 ghost use Rattle.std.specs.Prelude.{◌≡◌, ◌<◌, IfOk, string_bytes};
 ghost use Rattle.console.specs.Lines as spec;

@@ -1,4 +1,4 @@
-//! Where a report goes, and what the machine says of itself and of its folders.
+//! Where a report goes, and what the machine reports about itself and its folders.
 
 use crate::memory::{Memory, memory_of};
 use std::alloc::{AllocError, Global};
@@ -7,10 +7,10 @@ use std::rt::Files;
 use std::time::Clock;
 use std::{fs, io};
 
-/// The most reads of a file in which the system tells of itself.
+/// The most reads of a file in which the system reports about itself.
 const MOST_READS: u32 = 16;
 
-/// Where a report goes, and what the machine says of itself and of its folders. Several workers call it at once.
+/// Where a report goes, and what the machine reports about itself and its folders. Several workers call it at once.
 pub trait Console {
     /// Puts out a text, as far as it is taken.
     fn tell(&self, text: &[u8]);
@@ -24,7 +24,7 @@ pub trait Console {
     /// What is known of the memory of the machine and of this program.
     fn memory(&self, alloc: Global) -> Memory;
 
-    /// The names of what stands in a folder, in no order; those that aren't UTF-8 are left out.
+    /// The names in a folder, in no order. Names that aren't UTF-8 are left out.
     fn names_in(&self, alloc: Global, folder: &str) -> io::Result<Vec<String>>;
 }
 
@@ -72,7 +72,7 @@ fn add_name(alloc: Global, names: &mut Vec<String>, name: &str) -> Result<(), Al
     Ok(())
 }
 
-/// The bytes that a file of the system tells under a name.
+/// The bytes that a file of the system states under a name.
 fn told_in(alloc: Global, files: &impl Files, path: &str, name: &[u8]) -> Option<u64> {
     match fs::open(files, path) {
         Ok(mut file) => memory_of(&told(alloc, &mut file), name),
@@ -80,7 +80,7 @@ fn told_in(alloc: Global, files: &impl Files, path: &str, name: &[u8]) -> Option
     }
 }
 
-/// What a reader has to tell in its first reads, as far as it tells it and there is memory.
+/// What a reader gives in its first [`MOST_READS`] reads, as far as it gives it and there is memory.
 fn told<R: Read>(alloc: Global, r: &mut R) -> Vec<u8> {
     let mut bytes = Vec::new(alloc);
     let mut chunk = [0u8; 4096];

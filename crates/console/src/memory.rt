@@ -1,4 +1,4 @@
-//! What a system tells of memory: lines of a name, a number of kilobytes, and `kB`.
+//! What a system reports about memory: lines of a name, a number of kilobytes, and `kB`.
 ghost use Rattle.std.specs.Prelude.{◌≡◌, ◌%◌, IfSome, is_none};
 
 use table_records::number;
@@ -15,8 +15,8 @@ pub struct Memory {
     pub peak: Option<u64>,
 }
 
-/// The bytes that the first line of a text with this name at its head tells, as `MemAvailable:   16102636 kB` does:
-/// whole kilobytes. None where no such line tells them.
+/// The bytes that the first line of a text with this name at its head states, as `MemAvailable:   16102636 kB` does:
+/// whole kilobytes. `None` if no such line states them.
 pub fn memory_of(text: &[u8], name: &[u8]) -> Option<u64>
     ensures { IfSome result (λ bytes. bytes % 1024 ≡ 0) }
 {
@@ -28,7 +28,7 @@ pub fn memory_of(text: &[u8], name: &[u8]) -> Option<u64>
     None
 }
 
-/// The bytes that a line tells, if the name is at its head.
+/// The bytes that a line states, if the name is at its head.
 fn figure_of(line: &[u8], name: &[u8]) -> Option<u64>
     ensures { IfSome result (λ bytes. bytes % 1024 ≡ 0) }
 {

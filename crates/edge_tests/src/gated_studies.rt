@@ -1,5 +1,5 @@
-//! Whole studies whose leases are lost or repeated: the text stays the same, or the fault names the first place without a
-//! row. The text is written by hand.
+//! Whole studies whose leases are lost or repeated: the text stays the same, or the fault names the first place without
+//! a row. The text is written by hand.
 
 use crate::small_study::{MONDAY, scenario_file, settings_of};
 use command_line::{UNFINISHED, status};

@@ -1,4 +1,4 @@
--- Chains of footpaths: whoever walks from one stop to another may walk several direct footpaths in succession.
+-- Chains of footpaths: a walk from one stop to another may go along several direct footpaths in succession.
 -- The walking time between two stops is the least over all chains, where it is within a limit.
 -- (Footpaths that are closed under chains are what the RAPTOR paper asks for: Delling, Pajor, Werneck, ALENEX 2012.)
 use Rattle.std.specs.Prelude.{◌≡◌, ◌≢◌, ℕ, ◌<◌, ◌≤◌, List, [], ◌∷◌, length, sum_by, All, Contains}
@@ -18,7 +18,7 @@ pub record IsChain (direct : List Footpath) (a b seconds : ℕ) (chain : List Fo
   pub leads : Leads chain a b
   pub sum : sum_by (λ path. path.2) chain ≡ seconds
 
--- some chain from a to b takes so many seconds
+-- some chain from a to b takes these seconds
 abbrev pub HasChain : List Footpath → ℕ → ℕ → ℕ → Type 0
 HasChain direct a b seconds = (chain : List Footpath) × IsChain direct a b seconds chain
 

@@ -21,7 +21,7 @@ is_stated_for children stop link = has_stop stop (changes_at children link)
 abbrev pub stated_for : List (List StopNo) → List Link → ℕ → List ℕ
 stated_for children links stop = map (λ link. link.seconds) (filter (is_stated_for children stop) links)
 
--- the greatest of some times, nought where there is none
+-- the greatest of some times, 0 where there is none
 abbrev pub greatest : List ℕ → ℕ
 greatest [] = 0
 greatest (time ∷ times) = max time (greatest times)

@@ -1,12 +1,12 @@
 -- Direct footpaths, as rows of transfers.txt and of a file of footpaths give them: from one stop to another, one way.
--- A pair of stops may be given more than once, with other times. Each stop has a change time, nought where none is
+-- A pair of stops may be given more than once, with other times. Each stop has a change time, 0 where none is
 -- stated.
 -- (After the GTFS Schedule reference, transfers.txt.)
 use Rattle.std.specs.Prelude.{◌≡◌, ◌≢◌, ℕ, ◌<◌, ◌≤◌, List, length, All}
 use Rattle.timetable.specs.declared.trips.StopNo.{StopNo}
 use Rattle.timetable.specs.declared.limits.TheConstants.{MOST_STOPS, MOST_FOOTPATHS, MOST_CHANGE_SECONDS}
 
--- from this stop, to that one, in so many seconds
+-- from the first stop to the second, in these seconds
 abbrev pub Footpath : Type 0
 Footpath = StopNo × StopNo × ℕ
 

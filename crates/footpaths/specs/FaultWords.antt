@@ -1,4 +1,4 @@
--- The words that tell a fault.
+-- The words of a fault.
 use Rattle.std.specs.Prelude.{ℕ, List, codes}
 use Rattle.footpaths.specs.declared.faults.FootFault.{FootFault}
 use Rattle.footpaths.specs.declared.faults.FootFault.TheVariants.{TooMany, Memory}

@@ -5,5 +5,5 @@ pub mod Walks
 pub mod Chains
 pub mod Closure
 pub mod Adjacency
-pub mod Settling
+pub mod Dijkstra
 pub mod FaultWords

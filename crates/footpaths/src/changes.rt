@@ -40,7 +40,7 @@ fn raise_all(changes: &mut [u32], feed: &Feed)
     }
 }
 
-/// Raises the change times of some stops to so many seconds, where they are shorter.
+/// Raises the change times of some stops to `seconds`, where they are shorter.
 fn raise(changes: &mut [u32], stops: &[StopNo], seconds: u32)
     requires { All (λ stop. stop.0 < length changes.old) stops.now }
     ensures same { length changes.new ≡ length changes.old }

@@ -5,9 +5,9 @@ ghost use Rattle.timetable.specs.Footpaths.{rows_of};
 ghost use Rattle.footpaths.specs.Closure.{IsClosure, IsFootFault};
 
 use crate::adjacency::Adjacency;
+use crate::dijkstra::Dijkstra;
 use crate::direct_list::Direct;
 use crate::faults::FootFault;
-use crate::settling::Settling;
 use std::alloc::Global;
 use timetable::{Feet, MOST_FOOT_SECONDS, MOST_FOOTPATHS, StopNo};
 
@@ -21,8 +21,8 @@ pub fn limit_fits(limit: u32) -> bool
 /// Closes direct footpaths: from each stop to each other the least sum over chains, where it is at most `limit`
 /// seconds. The change times stay. (Closed as the RAPTOR paper asks for: Delling, Pajor, Werneck, ALENEX 2012.)
 ///
-/// `TooMany` where more than 4,000,000 pairs of stops have such a sum, before they are all made; `Memory` where memory
-/// ran out. A limit is at most 7,200 seconds ([`limit_fits`]).
+/// `TooMany` where more than 4,000,000 pairs of stops have such a sum, before all are found; `Memory` where memory ran
+/// out. A limit is at most 7,200 seconds ([`limit_fits`]).
 pub fn close(alloc: Global, direct: &Direct, limit: u32) -> Result<Feet, FootFault>
     requires { limit ≤ MOST_FOOT_SECONDS }
     ensures ok { IfOk result (IsClosure direct.now limit) }
@@ -52,19 +52,19 @@ fn closed_lists(
 {
     direct.known();
     let footpaths = Adjacency::new(alloc, direct, limit)?;
-    let mut settling = Settling::new(alloc, direct.stops())?;
+    let mut dijkstra = Dijkstra::new(alloc, direct.stops())?;
     let mut lists = Vec::with_capacity(alloc, direct.stops() as usize)?;
     let mut pairs = 0;
     for source in 0..direct.stops() {
-        settling.settle(&footpaths, StopNo(source), limit)?;
-        if settling.reached() > MOST_FOOTPATHS - pairs {
+        dijkstra.reach(&footpaths, StopNo(source), limit)?;
+        if dijkstra.reached() > MOST_FOOTPATHS - pairs {
             return Err(FootFault::TooMany);
         }
-        pairs += settling.reached();
-        if lists.push(settling.row(alloc)?).is_err() {
+        pairs += dijkstra.reached();
+        if lists.push(dijkstra.row(alloc)?).is_err() {
             return Err(FootFault::Memory);
         }
-        settling.clear(StopNo(source));
+        dijkstra.clear(StopNo(source));
     }
     Ok(lists)
 }

@@ -30,7 +30,7 @@ impl Model for Direct {
 impl Direct {
     ghost use Rattle.footpaths.specs.Direct.{AreDirect};
 
-    /// No footpaths yet, between so many stops, of which these are the change times.
+    /// No footpaths yet, between `stops` stops with these change times.
     pub(crate) fn new(alloc: Global, stops: u32, changes: Vec<u32>) -> Self
         requires stops { stops ≤ MOST_STOPS }
         requires each { length changes.items ≡ stops }

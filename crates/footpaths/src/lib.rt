@@ -8,7 +8,7 @@
 //! - `changes`: the change times of a feed's stops.
 //! - `pairs`: the pairs of stops that the two ends of a walk give.
 //! - `closure`: [`close`], and [`limit_fits`] for its limit.
-//! - `adjacency`, `settling`: the direct footpaths by the stop where they begin, and Dijkstra's algorithm along them.
+//! - `adjacency`, `dijkstra`: the direct footpaths by the stop where they begin, and Dijkstra's algorithm along them.
 //! - `faults`: [`FootFault`], why footpaths aren't closed.
 //! - `laws`: two closures are one, and footpaths that are too many have none.
 //!
@@ -19,11 +19,11 @@
 mod adjacency;
 mod changes;
 mod closure;
+mod dijkstra;
 mod direct_list;
 mod faults;
 mod laws;
 mod pairs;
-mod settling;
 mod walks;
 
 pub use closure::{close, limit_fits};

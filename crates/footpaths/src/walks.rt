@@ -31,6 +31,7 @@ pub(crate) struct Walk {
     pub seconds: u32,
 }
 
+/// The checks; [`footpath_checks`] says what holds of them.
 const CHECKS: Checks = Checks {
     required: &[b"from_stop_id", b"to_stop_id", b"seconds"],
     fields: &[
@@ -42,7 +43,7 @@ const CHECKS: Checks = Checks {
     ],
 };
 
-/// What is checked of the file of footpaths, beside the limit: each fault of a record is that of a check.
+/// What is checked of the file of footpaths, apart from the limit: each fault of a record is that of a check.
 pub fn footpath_checks() -> Checks
     ensures required { map (λ name. name.now) result.required.now ≡ spec.required }
     ensures explains { (feed : FeedData) → Explains result.fields.now spec.row_of (spec.checks feed) }
@@ -122,11 +123,12 @@ fn add_walks(alloc: Global, direct: &mut Direct, feed: &Feed, bytes: &[u8]) -> R
         columns: columns_in(&file.header),
         feed,
     };
-    let read = read_records(alloc, &reader, direct, &mut file.rows);
+    let read = read_records(alloc, &reader, direct, &mut file.records);
     drop(file);
     read
 }
 
+/// The columns that a header names.
 fn columns_in(header: &ByteRecord) -> WalkColumns
     ensures { result ≡ spec.columns_of (fields_of header.now) }
 {

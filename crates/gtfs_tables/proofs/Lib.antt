@@ -1,11 +1,11 @@
 pub mod FeedTrips
-pub mod Named
-pub mod NoFaults
-pub mod Sound
-pub mod StopIds
+pub mod ServiceNumbers
+pub mod RowsWithoutFaults
+pub mod FilesGiveAFeed
+pub mod NumbersLeadBack
 pub mod EventCounts
-pub mod Told
-pub mod Times
+pub mod FirstFileFault
+pub mod EqualIdentifiers
 pub mod MarkFacts
 pub mod OriginFacts
 pub mod NamedFacts

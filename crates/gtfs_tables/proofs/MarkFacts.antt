@@ -19,8 +19,8 @@ use Rattle.table_records.specs.declared.fault.What.TheVariants as what
 use Rattle.table_records.specs.Identifiers.{number_in}
 use Rattle.gtfs_tables.specs.NamedStops.{AreMarked, stop_checks}
 use Rattle.trip_events.proofs.TimeFacts.{found_below}
-use Rattle.gtfs_tables.proofs.NoFaults.{none_both, passes}
-use Rattle.gtfs_tables.proofs.StopIds.{at_position}
+use Rattle.gtfs_tables.proofs.RowsWithoutFaults.{none_both, passes}
+use Rattle.gtfs_tables.proofs.NumbersLeadBack.{at_position}
 
 equal : (m : ℕ) → (m == m) ≡ true
 equal m = grind (arith, nat_tests)

@@ -17,7 +17,7 @@ use Rattle.gtfs_tables.specs.NamedStops.{AreMarked, AreNamed, NamedRow, at_stop,
 use Rattle.gtfs_tables.specs.NamedStops.{stop_checks, stops_named}
 use Rattle.gtfs_tables.specs.declared.named_stops.NamedList.{NamedList}
 use Rattle.gtfs_tables.proofs.MarkFacts.{first_more, found_stop}
-use Rattle.gtfs_tables.proofs.StopIds.{differs, flipped}
+use Rattle.gtfs_tables.proofs.NumbersLeadBack.{differs, flipped}
 
 -- a stop that the new record doesn't name keeps its number
 kept_at : (rows : List NamedRow) (r : NamedRow) (id : List ℕ) → bytes_eq id r.stop ≡ false →

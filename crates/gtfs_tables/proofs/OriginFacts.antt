@@ -7,7 +7,7 @@ use Rattle.std.specs.List.{range_with_len}
 use Rattle.std.specs.Str.{bytes_eq}
 use Rattle.timetable.specs.declared.trips.StopNo.{StopNo}
 use Rattle.gtfs_tables.specs.NamedStops.{NamedRow, named_stop, stops_named}
-use Rattle.gtfs_tables.proofs.NoFaults.{number_below}
+use Rattle.gtfs_tables.proofs.RowsWithoutFaults.{number_below}
 
 -- the origins of a file
 pub origins_below : (stops : List (List ℕ)) (rows : List NamedRow) →

@@ -3,6 +3,7 @@ use Rattle.std.specs.Prelude.{◌≡◌, ◌≤◌, length, map}
 use Rattle.timetable.specs.declared.limits.TheConstants.{MOST_TRIPS}
 use Rattle.table_records.specs.declared.limits.TheConstants.{MOST_BYTES}
 use Rattle.table_files.specs.Places.{ArePlaces}
+use Rattle.table_files.specs.declared.services.TheConstants.{MOST_SERVICES}
 use Rattle.gtfs_tables.specs.Feed.{calendar_data, exception_data}
 use Rattle.gtfs_tables.specs.Files.{FeedFiles, calendar_in, exceptions_in, places_in, numbers_in, routes_in}
 use Rattle.gtfs_tables.specs.Files.{services_in, trip_ids_in}
@@ -19,5 +20,5 @@ pub record IsCatalog (c : Catalog) (files : FeedFiles) : Type 0 where
   pub numbers : c.trips.numbers.items ≡ numbers_in files
   pub sound_places : ArePlaces c.places
   pub few_routes : length c.routes ≤ MOST_BYTES
-  pub few_services : length c.trips.services ≤ 2148483650
+  pub few_services : length c.trips.services ≤ MOST_SERVICES
   pub few_trips : length c.trips.ids ≤ MOST_TRIPS

@@ -10,6 +10,7 @@ use Rattle.table_records.specs.declared.limits.TheConstants.{MOST_BYTES}
 use Rattle.table_files.specs.Children.{AreChildren, IsPlace}
 use Rattle.table_files.specs.Transfers.{IsLink}
 use Rattle.table_files.specs.declared.place.Place.{Place}
+use Rattle.table_files.specs.declared.services.TheConstants.{MOST_SERVICES}
 use Rattle.table_files.specs.declared.transfers.Link.{Link}
 use Rattle.table_files.specs.Calendar as calendar
 use Rattle.table_files.specs.CalendarDates as calendar_dates
@@ -51,7 +52,7 @@ pub record IsFeed (d : FeedData) : Type 0 where
   pub few_names : length d.names ≤ MOST_STOPS
   pub few_stops : length d.stops ≤ MOST_STOPS
   pub few_routes : length d.routes ≤ MOST_BYTES
-  pub few_services : length d.services ≤ 2148483650
+  pub few_services : length d.services ≤ MOST_SERVICES
   pub distinct_stops : IsDistinct bytes_eq d.stops
   pub distinct_routes : IsDistinct bytes_eq d.routes
   pub distinct_services : IsDistinct bytes_eq d.services

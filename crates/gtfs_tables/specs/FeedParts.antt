@@ -5,7 +5,7 @@ use Rattle.gtfs_tables.specs.Feed.{FeedData, calendar_data, exception_data}
 use Rattle.gtfs_tables.specs.declared.catalog.Catalog.{Catalog}
 use Rattle.gtfs_tables.specs.declared.trip.FeedTrip.{FeedTrip}
 
--- what a catalog, its trips, of which so many were set aside, and the walks of transfers.txt say
+-- what a catalog, its trips, how many of them were set aside, and the walks of transfers.txt say
 abbrev pub data_of : Catalog → List FeedTrip → ℕ → Transfers → FeedData
 data_of c trips aside transfers = record {
   names = c.places.names;

@@ -58,7 +58,7 @@ files_of b = record {
   transfers = bytes_of b.transfers;
 }
 
--- a file, where it is there, has at most 2^30 bytes
+-- a file has at most 2^30 bytes, or is absent
 abbrev pub IsWithinLimit : Option Bytes → Type 0
 IsWithinLimit file = ForSome file (λ bytes. length bytes ≤ MOST_BYTES)
 

@@ -7,6 +7,7 @@ ghost use Rattle.table_files.specs.Calendar.{IsCalendar, service_rows};
 ghost use Rattle.table_files.specs.CalendarDates.{AreExceptions, date_rows};
 ghost use Rattle.table_files.specs.FeedTrips.{AreTrips, trip_rows};
 ghost use Rattle.table_files.specs.Places.{ArePlaces};
+ghost use Rattle.table_files.specs.declared.services.TheConstants.{MOST_DATED_SERVICES};
 ghost use Rattle.gtfs_tables.specs.Files as spec;
 ghost use Rattle.gtfs_tables.specs.Catalog.{IsCatalog};
 
@@ -59,7 +60,7 @@ pub fn read_catalog(alloc: Global, files: &FeedBytes<'_>) -> Result<Box<Catalog>
     )?)
 }
 
-// The places of `stops.txt`, in a box.
+/// The places of `stops.txt`, in a box.
 fn places_of(alloc: Global, files: &FeedBytes<'_>) -> Result<Box<Places>, FeedFault>
     requires { spec.IsWithinLimit (spec.bytes_of files.now.stops) }
     ensures good { IfOk result (λ p. (spec.faults_of_stops (spec.files_of files.now) ≡ [])
@@ -75,7 +76,7 @@ fn places_of(alloc: Global, files: &FeedBytes<'_>) -> Result<Box<Places>, FeedFa
     Ok(Box::new(alloc, places)?)
 }
 
-// The identifiers of the routes.
+/// The identifiers of the routes.
 fn routes_of(alloc: Global, files: &FeedBytes<'_>) -> Result<Identifiers, FeedFault>
     requires { spec.IsWithinLimit (spec.bytes_of files.now.routes) }
     ensures good { IfOk result (λ ids. (spec.faults_of_routes (spec.files_of files.now) ≡ [])
@@ -89,7 +90,7 @@ fn routes_of(alloc: Global, files: &FeedBytes<'_>) -> Result<Identifiers, FeedFa
     }
 }
 
-// The rows of `calendar.txt`, which may be absent where `calendar_dates.txt` is there.
+/// The rows of `calendar.txt`, which may be absent where `calendar_dates.txt` is there.
 fn calendar_of(alloc: Global, files: &FeedBytes<'_>) -> Result<Calendar, FeedFault>
     requires { spec.IsWithinLimit (spec.bytes_of files.now.calendar) }
     ensures good { IfOk result (λ c. (spec.faults_of_calendar (spec.files_of files.now) ≡ [])
@@ -109,7 +110,7 @@ fn calendar_of(alloc: Global, files: &FeedBytes<'_>) -> Result<Calendar, FeedFau
     }
 }
 
-// The rows of `calendar_dates.txt`, after the services that are known.
+/// The rows of `calendar_dates.txt`, after the services that are known.
 fn dates_of(
     alloc: Global,
     files: &FeedBytes<'_>,
@@ -119,7 +120,7 @@ fn dates_of(
     requires known { length services ≤ MOST_BYTES }
     ensures good { IfOk result (λ d. (spec.faults_of_calendar_dates (spec.files_of files.now) ≡ [])
         × AreExceptions services d (spec.rows_in date_rows (spec.bytes_of files.now.calendar_dates))) }
-    ensures few { IfOk result (λ d. length d.services ≤ 2147483650) }
+    ensures few { IfOk result (λ d. length d.services ≤ MOST_DATED_SERVICES) }
     ensures fault { IfErr result (λ e. Tells e (spec.faults_of_calendar_dates (spec.files_of files.now))) }
 {
     match files.calendar_dates {
@@ -131,7 +132,7 @@ fn dates_of(
     }
 }
 
-// The trips, after the services that are known.
+/// The trips, after the services that are known.
 fn trips_of(
     alloc: Global,
     files: &FeedBytes<'_>,
@@ -141,7 +142,7 @@ fn trips_of(
     requires size { spec.IsWithinLimit (spec.bytes_of files.now.trips) }
     requires routes { routes.now ≡ spec.routes_in (spec.files_of files.now) }
     requires few { length routes.now ≤ MOST_BYTES }
-    requires known { length services ≤ 2147483650 }
+    requires known { length services ≤ MOST_DATED_SERVICES }
     ensures good { IfOk result (λ t. (spec.faults_of_trips (spec.files_of files.now) ≡ [])
         × AreTrips routes.now services t (spec.rows_in trip_rows (spec.bytes_of files.now.trips))) }
     ensures fault { IfErr result (λ e. Tells e (spec.faults_of_trips (spec.files_of files.now))) }

@@ -10,21 +10,17 @@ ghost use Rattle.gtfs_tables.specs.FeedParts.{data_of};
 
 use crate::catalog::Catalog;
 use crate::trip::FeedTrip;
+use std::alloc::Global;
 use std::marker::Model;
-use table_files::{CalendarRow, Ends, ExceptionRow, Link, Place, Places, Transfers};
-use table_records::Identifiers;
+use table_files::{CalendarRow, Ends, ExceptionRow, Link, Place, Transfers};
 use timetable::StopNo;
 
 /// The data of a feed. Stops have numbers from 0 in the order of `stops.txt`, routes in that of `routes.txt`, trips in
 /// that of `trips.txt`, and services as `calendar.txt`, `calendar_dates.txt` and `trips.txt` first name them.
 #[derive(Drop)]
 pub struct Feed {
-    places: Places,
-    routes: Identifiers,
-    services: Identifiers,
-    calendar: Vec<CalendarRow>,
-    exceptions: Vec<ExceptionRow>,
-    trip_ids: Identifiers,
+    /// What the files name, by number. The numbers of each trip are in `trips`.
+    catalog: Catalog,
     trips: Vec<FeedTrip>,
     aside: u32,
     transfers: Transfers,
@@ -32,45 +28,22 @@ pub struct Feed {
 
 impl Model for Feed {
     ghost use Rattle.std.specs.Prelude.{◌≡◌, map};
-    ghost use Rattle.gtfs_tables.specs.Feed.{FeedData, IsFeed, calendar_data, exception_data};
+    ghost use Rattle.gtfs_tables.specs.Feed.{FeedData, IsFeed};
+    ghost use Rattle.gtfs_tables.specs.FeedParts.{data_of};
 
     ghost Value = { FeedData };
 
-    ghost view = { λ f. record {
-      names = f.places.names;
-      places = f.places.places;
-      stops = f.places.stops;
-      children = f.places.children;
-      routes = f.routes;
-      services = f.services;
-      calendar = map calendar_data f.calendar.items;
-      exceptions = map exception_data f.exceptions.items;
-      trips = f.trips.items;
-      aside = f.aside;
-      links = f.transfers.links.items;
-      unused = f.transfers.unused;
-    } };
+    ghost view = { λ f. data_of f.catalog f.trips.items f.aside f.transfers };
 
-    ghost invariant = { λ f. IsFeed (record {
-      names = f.places.names;
-      places = f.places.places;
-      stops = f.places.stops;
-      children = f.places.children;
-      routes = f.routes;
-      services = f.services;
-      calendar = map calendar_data f.calendar.items;
-      exceptions = map exception_data f.exceptions.items;
-      trips = f.trips.items;
-      aside = f.aside;
-      links = f.transfers.links.items;
-      unused = f.transfers.unused;
-    }) × (f.trip_ids ≡ map (λ t. t.id) f.trips.items) };
+    ghost invariant = { λ f. IsFeed (data_of f.catalog f.trips.items f.aside f.transfers)
+        × (f.catalog.trips.ids ≡ map (λ t. t.id) f.trips.items) };
 }
 
 impl Feed {
-    /// The feed of a catalog and its trips, of which so many were set aside, with the walks of `transfers.txt`.
+    /// The feed of a catalog and its trips, of which `aside` were set aside, with the walks of `transfers.txt`.
     pub(crate) fn new(
-        catalog: Catalog,
+        alloc: Global,
+        mut catalog: Catalog,
         trips: Vec<FeedTrip>,
         aside: u32,
         transfers: Transfers,
@@ -79,20 +52,10 @@ impl Feed {
         requires ids { catalog.trips.ids ≡ map (λ t. t.id) trips.items }
         ensures { result ≡ data_of catalog trips.items aside transfers }
     {
-        let Catalog {
-            places,
-            routes,
-            calendar,
-            exceptions,
-            trips: listed,
-        } = catalog;
+        // Each trip has its own numbers now.
+        catalog.trips.numbers = Vec::new(alloc);
         Feed {
-            places,
-            routes,
-            services: listed.services,
-            calendar,
-            exceptions,
-            trip_ids: listed.ids,
+            catalog,
             trips,
             aside,
             transfers,
@@ -111,7 +74,7 @@ impl Feed {
     pub fn stop_count(&self) -> u32
         ensures { result ≡ length self.now.stops }
     {
-        self.places.stops().len() as u32
+        self.catalog.places.stops().len() as u32
     }
 
     /// The identifier of a stop. [`Feed::stop_no`] leads back from it to the stop.
@@ -120,7 +83,7 @@ impl Feed {
         ensures id { slice_get self.now.stops stop.0 ≡ Some result.now }
         ensures leads_back { position (bytes_eq result.now) self.now.stops ≡ Some stop.0 }
     {
-        match self.places.stops().id(stop.0 as usize) {
+        match self.catalog.places.stops().id(stop.0 as usize) {
             Some(id) => id,
             None => unreachable!(),
         }
@@ -131,7 +94,7 @@ impl Feed {
         ensures number { option_map (λ s. s.0) result ≡ position (bytes_eq id.now) self.now.stops }
         ensures leads_back { IfSome result (λ s. slice_get self.now.stops s.0 ≡ Some id.now) }
     {
-        match self.places.stops().number(id) {
+        match self.catalog.places.stops().number(id) {
             Some(number) => Some(StopNo(number as u32)),
             None => None,
         }
@@ -141,7 +104,7 @@ impl Feed {
     pub fn route_no(&self, id: &[u8]) -> Option<u32>
         ensures { result ≡ position (bytes_eq id.now) self.now.routes }
     {
-        match self.routes.number(id) {
+        match self.catalog.routes.number(id) {
             Some(number) => Some(number as u32),
             None => None,
         }
@@ -151,14 +114,14 @@ impl Feed {
     pub fn service_count(&self) -> u32
         ensures { result ≡ length self.now.services }
     {
-        self.services.len() as u32
+        self.catalog.trips.services.len() as u32
     }
 
     /// The number of the service with an identifier, none where no service has it.
     pub fn service_no(&self, id: &[u8]) -> Option<u32>
         ensures { result ≡ position (bytes_eq id.now) self.now.services }
     {
-        match self.services.number(id) {
+        match self.catalog.trips.services.number(id) {
             Some(number) => Some(number as u32),
             None => None,
         }
@@ -168,14 +131,14 @@ impl Feed {
     pub fn calendar(&self) -> &[CalendarRow]
         ensures { map calendar_data result.now ≡ self.now.calendar }
     {
-        self.calendar.as_slice()
+        self.catalog.calendar.as_slice()
     }
 
     /// The rows of `calendar_dates.txt`, in file order.
     pub fn exceptions(&self) -> &[ExceptionRow]
         ensures { map exception_data result.now ≡ self.now.exceptions }
     {
-        self.exceptions.as_slice()
+        self.catalog.exceptions.as_slice()
     }
 
     /// How many trips there are, at most 1,000,000.
@@ -197,7 +160,7 @@ impl Feed {
     pub fn trip_no(&self, id: &[u8]) -> Option<u32>
         ensures { result ≡ position (bytes_eq id.now) (map (λ t. t.id) self.now.trips) }
     {
-        match self.trip_ids.number(id) {
+        match self.catalog.trips.ids.number(id) {
             Some(number) => Some(number as u32),
             None => None,
         }
@@ -216,8 +179,8 @@ impl Feed {
         ensures unknown { is_none result ≡ is_none (position (bytes_eq id.now) self.now.names) }
         ensures in_range { IfSome result (children_spec.IsPlace (length self.now.stops) (length self.now.children)) }
     {
-        self.places.known();
-        self.places.place(id)
+        self.catalog.places.known();
+        self.catalog.places.place(id)
     }
 
     /// The stops of a station, in file order.
@@ -225,8 +188,8 @@ impl Feed {
         requires { station < length self.now.children }
         ensures { slice_get self.now.children station ≡ Some result.now }
     {
-        self.places.known();
-        self.places.children(station)
+        self.catalog.places.known();
+        self.catalog.places.children(station)
     }
 
     /// The stops that a place stands for: a stop for itself, a station for its stops, another for none.
@@ -234,8 +197,8 @@ impl Feed {
         requires { children_spec.IsPlace (length self.now.stops) (length self.now.children) place }
         ensures { ends_spec.stops_of result ≡ children_spec.stops_at place self.now.children }
     {
-        self.places.known();
-        self.places.stops_at(place)
+        self.catalog.places.known();
+        self.catalog.places.stops_at(place)
     }
 
     /// The rows of `transfers.txt` that give a walk between two different stops, or a change time, in file order.

@@ -35,7 +35,7 @@ impl FeedBytes<'_> {
     }
 }
 
-/// Whether a file, where it is there, has at most [`MOST_BYTES`] bytes.
+/// Whether a file has at most [`MOST_BYTES`] bytes. An absent file has.
 pub fn file_fits(file: Option<&[u8]>) -> bool
     ensures { IsTrue result ↔ IsWithinLimit (bytes_of file.entry) }
 {

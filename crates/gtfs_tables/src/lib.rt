@@ -6,9 +6,9 @@
 //! stops of each station, and each walk of `transfers.txt` as a [`Link`] between two places. A refusal is a
 //! [`FeedFault`]: which file, which record, and what is wrong with it.
 //!
-//! [`read_origins`], [`read_opportunities`] and [`read_destinations`] read the files of an analysis that name the feed's
-//! stops: where journeys begin, how much there is to reach at each stop, and which stops have a column of cells. None
-//! of them is part of GTFS, and each may be absent.
+//! [`read_origins`], [`read_opportunities`] and [`read_destinations`] read the files of an analysis that name stops of
+//! the feed: where journeys begin, how much there is to reach at each stop, and which stops have a column of cells.
+//! None of them is part of GTFS, and each may be absent.
 //!
 //! - `feed_bytes`: the files' bytes; `read` and `catalog` read them, `feed` and `trip` are what they say.
 //! - `origins` and `opportunities` read an analysis' own files, with `named_stops`.

@@ -144,12 +144,12 @@ pub fn read_named(
         columns: columns_in(&file.header),
         feed,
     };
-    let read = take_records(alloc, &reader, &mut list, &mut file.rows);
+    let read = take_records(alloc, &reader, &mut list, &mut file.records);
     drop(file);
     read.and(Ok(list))
 }
 
-// No stop is named yet.
+/// No stop is named yet.
 fn none_named(alloc: Global, feed: &Feed) -> Result<NamedList, AllocError>
     ensures { IfOk result (λ t. AreNamed feed.now.stops t []) }
 {
@@ -163,6 +163,7 @@ fn none_named(alloc: Global, feed: &Feed) -> Result<NamedList, AllocError>
     })
 }
 
+/// The columns that a header names.
 fn columns_in(header: &ByteRecord) -> NamedColumns
     ensures { result ≡ spec.columns_of (fields_of header.now) }
 {

@@ -11,6 +11,7 @@ use crate::named_stops::read_named;
 use std::alloc::{AllocError, Global};
 use table_records::{Check, Checks, FeedFault, FileName, Rule, What};
 
+/// The checks; [`opportunity_checks`] says what holds of them.
 const CHECKS: Checks = Checks {
     required: &[b"stop_id", b"opportunities"],
     fields: &[
@@ -61,7 +62,7 @@ pub fn read_opportunities(
     }
 }
 
-// One opportunity at each stop.
+/// One opportunity at each stop.
 fn one_at_each(alloc: Global, feed: &Feed) -> Result<Vec<u32>, AllocError>
     ensures { IfOk result (λ v. v.items ≡ replicate (length feed.now.stops) 1) }
 {

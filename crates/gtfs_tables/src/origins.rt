@@ -13,6 +13,7 @@ use std::alloc::{AllocError, Global};
 use table_records::{Check, Checks, FeedFault, FileName, Rule, What};
 use timetable::StopNo;
 
+/// The checks; [`origin_checks`] says what holds of them.
 const CHECKS: Checks = Checks {
     required: &[b"stop_id"],
     fields: &[
@@ -66,7 +67,7 @@ pub fn read_destinations(
     read_stops(alloc, FileName::Destinations, file, feed)
 }
 
-// The stops that a file names, in file order. Without a file they are all stops of the feed, in order.
+/// The stops that a file names, in file order. Without a file they are all stops of the feed, in order.
 fn read_stops(
     alloc: Global,
     name: FileName,
@@ -88,7 +89,7 @@ fn read_stops(
     }
 }
 
-// All stops of a feed, in order.
+/// All stops of a feed, in order.
 fn all_stops(alloc: Global, feed: &Feed) -> Result<Vec<StopNo>, AllocError>
     ensures { IfOk result (λ v. v.items ≡ map (λ n. record { 0 = n }) (range_with_len 0 (length feed.now.stops))) }
 {

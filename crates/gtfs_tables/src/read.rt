@@ -44,10 +44,10 @@ pub fn read_feed(alloc: Global, files: &FeedBytes<'_>) -> Result<Feed, FeedFault
     let departures = departures_of(alloc, files, ids)?;
     let trips = trips_of(alloc, &listed.trips, events, departures)?;
     let transfers = transfers_of(alloc, files, &listed.places)?;
-    Ok(Feed::new(Box::into_inner(catalog), trips, aside, transfers))
+    Ok(Feed::new(alloc, Box::into_inner(catalog), trips, aside, transfers))
 }
 
-// The events of each trip.
+/// The events of each trip.
 fn times_of(
     alloc: Global,
     files: &FeedBytes<'_>,
@@ -72,7 +72,7 @@ fn times_of(
     }
 }
 
-// The rows of `frequencies.txt` for each trip, none where the file is absent.
+/// The rows of `frequencies.txt` for each trip, none where the file is absent.
 fn departures_of(
     alloc: Global,
     files: &FeedBytes<'_>,
@@ -90,7 +90,7 @@ fn departures_of(
     }
 }
 
-// The walks of `transfers.txt`, none where the file is absent.
+/// The walks of `transfers.txt`, none where the file is absent.
 fn transfers_of(
     alloc: Global,
     files: &FeedBytes<'_>,
@@ -114,7 +114,7 @@ fn transfers_of(
     }
 }
 
-// The trips by their identifiers, numbers, events and departures.
+/// The trips by their identifiers, numbers, events and departures.
 fn trips_of(
     alloc: Global,
     trips: &FeedTrips,

@@ -3,9 +3,9 @@ ghost use Rattle.std.specs.Prelude.{◌≡◌, ℕ, ◌<◌, ◌⊎◌, slice_in
 
 use std::alloc::{AllocError, Global};
 use std::test::Fail;
-use timetable::{Call, Event, Events, Feet, NEVER, StopNo, Times, Trip};
+use timetable::{Call, CallTimes, Event, Events, Feet, NEVER, StopNo, Trip};
 use trip_lanes::{
-    Labels, Lanes, LineView, Narrow, UNFALLEN, carry_trip, falls_of, scan_line, transfer, walk,
+    Lanes, LineView, Narrow, ReadyLabels, UNFALLEN, carry_trip, falls_of, scan_line, transfer, walk,
 };
 
 /// No lane reaches the stop.
@@ -135,8 +135,8 @@ fn call(stop: u32) -> Call
 }
 
 /// A trip that arrives and departs in the same second.
-fn stops_at(time: u32) -> Times {
-    Times {
+fn stops_at(time: u32) -> CallTimes {
+    CallTimes {
         arrive: time,
         depart: time,
     }
@@ -167,7 +167,7 @@ fn each_lane_takes_the_first_trip_of_a_line(rt: HostRuntime) -> Result<(), Fail>
     let ready = [two(100, 201), UNREACHED, two(NEVER, 215)];
     let mut falls = [UNFALLEN; 3];
     falls_of(&before, &ready, &[true, false, true], &mut falls);
-    let labels = Labels {
+    let labels = ReadyLabels {
         falls: &falls,
         ready: &ready,
     };
@@ -214,7 +214,7 @@ fn narrow_lanes_take_the_first_trip_from_their_base_on(rt: HostRuntime) -> Resul
     let ready = [three(50, 151, 51), FAR, three(65_535, 165, 65_535)];
     let mut falls = [UNFALLEN; 3];
     falls_of(&before, &ready, &[true, false, true], &mut falls);
-    let labels = Labels {
+    let labels = ReadyLabels {
         falls: &falls,
         ready: &ready,
     };
@@ -248,7 +248,7 @@ fn narrow_labels_end_at_their_horizon(rt: HostRuntime) -> Result<(), Fail> {
     let ready = [three(50, 51, 1), FAR, FAR, FAR];
     let mut falls = [UNFALLEN; 4];
     falls_of(&before, &ready, &[true, false, false, false], &mut falls);
-    let labels = Labels {
+    let labels = ReadyLabels {
         falls: &falls,
         ready: &ready,
     };
@@ -284,7 +284,7 @@ fn nobody_catches_what_left_before_the_base(rt: HostRuntime) -> Result<(), Fail>
     let ready = [three(1, 2, 1), FAR];
     let mut falls = [UNFALLEN; 2];
     falls_of(&before, &ready, &[true, false], &mut falls);
-    let labels = Labels {
+    let labels = ReadyLabels {
         falls: &falls,
         ready: &ready,
     };

@@ -212,8 +212,8 @@ fn two_days_as_each_minute_alone(rt: HostRuntime) -> Result<(), Fail> {
     Ok(())
 }
 
-/// Windows from 06:00, which all find the same trip a minute, and a day from 05:00, after whose first 400 minutes no trip
-/// leaves.
+/// Windows from 06:00, which all find the same trip a minute, and a day from 05:00, after whose first 400 minutes no
+/// trip leaves.
 #[test]
 fn a_line_as_each_minute_alone(rt: HostRuntime) -> Result<(), Fail> {
     let alloc = rt.alloc();

@@ -6,12 +6,12 @@ use std::process::Abort;
 use table_records::{FeedFault, FileName, What};
 use timetable::StopNo;
 
-// The stop A, station S with the stops B and C, station T with the stops D and E, station U without stops, and an
-// entrance X.
+/// The stop A, station S with the stops B and C, station T with the stops D and E, station U without stops, and an
+/// entrance X.
 const STOPS: &[u8] = b"stop_id,location_type,parent_station\n\
 A,,\nB,,S\nS,1,\nC,0,S\nT,1,\nD,,T\nE,,T\nU,1,\nX,2,S\n";
 
-// Walks between the stops of S, and from A to B.
+/// Walks between the stops of S, and from A to B.
 const TRANSFERS: &[u8] = b"from_stop_id,to_stop_id,min_transfer_time\nS,S,30\nA,B,60\n";
 
 /// A feed with these stops and transfers, and no trips. It stands in a box, so that whoever holds it drops it in one

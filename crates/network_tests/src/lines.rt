@@ -3,7 +3,7 @@
 ghost use Rattle.std.specs.Prelude.{◌≡◌, IfOk};
 
 use std::alloc::{AllocError, Global};
-use timetable::{Call, Event, Events, Feet, Lines, Network, StopNo, Times, Trip};
+use timetable::{Call, CallTimes, Event, Events, Feet, Lines, Network, StopNo, Trip};
 
 // An event where one may board and alight, at a stop, that arrives and departs at these seconds.
 fn at(stop: u32, arrive: u32, depart: u32) -> Event {
@@ -127,6 +127,15 @@ fn network_with_a_change(alloc: Global) -> Result<Box<Network>, AllocError>
     network(alloc, trips)
 }
 
+// A trip from stop 2 to stop 0.
+fn network_of_one_trip(alloc: Global) -> Result<Box<Network>, AllocError>
+    ensures { IfOk result (λ n. n.value.stops ≡ 3) }
+{
+    let mut trips = Vec::new(alloc);
+    trips.push(trip(alloc, &[at(2, 100, 100), at(0, 200, 200)])?)?;
+    network(alloc, trips)
+}
+
 // Whether some line has just these trips.
 fn has_line(lines: &Lines, trips: &[u32]) -> bool {
     for line in 0..lines.count() {
@@ -138,8 +147,9 @@ fn has_line(lines: &Lines, trips: &[u32]) -> bool {
 }
 
 // Whether some line has just these times, trip by trip.
-fn has_times(network: &Network, times: &[Times]) -> bool {
-    let lines = network.lines();
+fn has_times(network: &Network, times: &[CallTimes]) -> bool {
+    let (renumbered, _) = network.renumbered();
+    let lines = renumbered.lines();
     for line in 0..lines.count() {
         if line < 20 && lines.times_of(line as u32) == times {
             return true;
@@ -148,13 +158,14 @@ fn has_times(network: &Network, times: &[Times]) -> bool {
     false
 }
 
-fn times(arrive: u32, depart: u32) -> Times {
-    Times { arrive, depart }
+fn times(arrive: u32, depart: u32) -> CallTimes {
+    CallTimes { arrive, depart }
 }
 
 // Whether some line has just these calls.
 fn has_calls(network: &Network, calls: &[Call]) -> bool {
-    let lines = network.lines();
+    let (renumbered, _) = network.renumbered();
+    let lines = renumbered.lines();
     for line in 0..lines.count() {
         if line < 20 && lines.calls_of(line as u32) == calls {
             return true;
@@ -163,22 +174,24 @@ fn has_calls(network: &Network, calls: &[Call]) -> bool {
     false
 }
 
-/// `Network::lines`, `Lines::new`, `FlatLists::new`.
+/// `Renumbered::lines`, `Lines::new`, `FlatLists::new`.
 #[test]
 fn trips_that_overtake_or_stop_elsewhere_have_lines_of_their_own(rt: HostRuntime) {
     let network = network_of_overtaking(rt.alloc()).expect(&rt, "a network");
-    let lines = network.lines();
+    let (renumbered, _) = network.renumbered();
+    let lines = renumbered.lines();
     assert_eq!(rt; lines.count(), 3);
     assert!(rt; has_line(lines, &[0, 3]));
     assert!(rt; has_line(lines, &[1]));
     assert!(rt; has_line(lines, &[2]));
 }
 
-/// `Network::lines`.
+/// `Renumbered::lines`.
 #[test]
 fn equal_times_share_a_line_and_other_flags_and_loops_do_not(rt: HostRuntime) {
     let network = network_of_alike(rt.alloc()).expect(&rt, "a network");
-    let lines = network.lines();
+    let (renumbered, _) = network.renumbered();
+    let lines = renumbered.lines();
     assert_eq!(rt; lines.count(), 4);
     assert!(rt; has_line(lines, &[0, 1]));
     assert!(rt; has_line(lines, &[2]));
@@ -186,24 +199,45 @@ fn equal_times_share_a_line_and_other_flags_and_loops_do_not(rt: HostRuntime) {
     assert!(rt; has_line(lines, &[4]));
 }
 
-/// `Network::lines`.
+/// `Renumbered::lines`.
 #[test]
 fn each_of_ten_trips_that_overtake_has_a_line(rt: HostRuntime) {
     let network = network_of_ten(rt.alloc()).expect(&rt, "a network");
-    let lines = network.lines();
+    let (renumbered, _) = network.renumbered();
+    let lines = renumbered.lines();
     assert_eq!(rt; lines.count(), 10);
     assert!(rt; has_line(lines, &[0]));
     assert!(rt; has_line(lines, &[9]));
 }
 
-/// `Lines::boarded_at`, `Network::lines`.
+/// `Lines::boarded_at`, `Renumbered::lines`.
 #[test]
 fn lines_are_listed_where_they_can_be_boarded(rt: HostRuntime) {
     let network = network_of_overtaking(rt.alloc()).expect(&rt, "a network");
-    let lines = network.lines();
+    let (renumbered, _) = network.renumbered();
+    let lines = renumbered.lines();
     assert_eq!(rt; lines.boarded_at(StopNo(0)).len(), 3);
     assert_eq!(rt; lines.boarded_at(StopNo(1)).len(), 2);
     assert_eq!(rt; lines.boarded_at(StopNo(2)).len(), 1);
+}
+
+/// `Network::renumbered`, `Renumbered::last_arrivals`.
+#[test]
+fn stops_have_numbers_in_the_order_in_which_trips_pass_them(rt: HostRuntime) {
+    let network = network_of_one_trip(rt.alloc()).expect(&rt, "a network");
+    let (renumbered, numbers) = network.renumbered();
+    assert!(rt; numbers == [1, 2, 0].as_slice());
+    assert!(rt; renumbered.last_arrivals() == [100, 200, 0].as_slice());
+}
+
+/// `Renumbered::stops`, `Renumbered::feet`, `Renumbered::trips`.
+#[test]
+fn a_network_has_as_many_numbers_as_stops(rt: HostRuntime) {
+    let network = network_of_one_trip(rt.alloc()).expect(&rt, "a network");
+    let (renumbered, _) = network.renumbered();
+    let _ = renumbered.trips();
+    assert_eq!(rt; renumbered.stops(), 3);
+    assert_eq!(rt; renumbered.feet().stops(), 3);
 }
 
 /// `Network::serving`.
@@ -232,7 +266,7 @@ fn a_trip_that_loops_serves_its_stop_once(rt: HostRuntime) {
     assert!(rt; network.serving(StopNo(2)) == [].as_slice());
 }
 
-/// `Lines::times_of`, `Network::lines`.
+/// `Lines::times_of`, `Renumbered::lines`.
 #[test]
 fn times_lie_trip_by_trip(rt: HostRuntime) {
     let network = network_of_overtaking(rt.alloc()).expect(&rt, "a network");
@@ -248,7 +282,7 @@ fn times_lie_trip_by_trip(rt: HostRuntime) {
     );
 }
 
-/// `Lines::calls_of`, `Network::lines`.
+/// `Lines::calls_of`, `Renumbered::lines`.
 #[test]
 fn calls_tell_where_one_may_board_and_alight(rt: HostRuntime) {
     let network = network_of_alike(rt.alloc()).expect(&rt, "a network");

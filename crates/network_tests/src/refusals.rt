@@ -4,7 +4,7 @@ use std::alloc::{AllocError, Global};
 use std::test::Fail;
 use timetable::{Event, Events, Feet, NetFault, Network, StopNo, Trip};
 
-// A walk of a minute from the first of two stops to a stop.
+/// A walk of a minute from the first of two stops to a stop.
 fn walk_to(alloc: Global, target: u32) -> Result<Vec<Vec<(StopNo, u32)>>, AllocError> {
     let mut lists = Vec::with_capacity(alloc, 2)?;
     lists.push(Vec::from_slice(alloc, &[(StopNo(target), 60)])?)?;
@@ -12,7 +12,7 @@ fn walk_to(alloc: Global, target: u32) -> Result<Vec<Vec<(StopNo, u32)>>, AllocE
     Ok(lists)
 }
 
-// Whether the lists are those of `walk_to`.
+/// Whether the lists are those of `walk_to`.
 fn are_walks_to(lists: &[Vec<(StopNo, u32)>], target: u32) -> bool {
     lists.len() == 2
         && lists[0].as_slice() == [(StopNo(target), 60)].as_slice()
@@ -35,7 +35,7 @@ fn a_footpath_leads_one_way(rt: HostRuntime) -> Result<(), Fail> {
     Ok(())
 }
 
-// Whether two stops refuse a walk to a third, and hand it back with the change times.
+/// Whether two stops refuse a walk to a third, and hand it back with the change times.
 fn is_walk_refused(alloc: Global) -> Result<bool, AllocError> {
     let times = Vec::from_slice(alloc, &[0, 300])?;
     match Feet::new(alloc, 2, walk_to(alloc, 2)?, times) {
@@ -55,7 +55,7 @@ fn footpaths_come_back_with_their_change_times(rt: HostRuntime) -> Result<(), Fa
     Ok(())
 }
 
-// An event where one may board and alight.
+/// An event where one may board and alight.
 fn at(stop: u32, arrive: u32, depart: u32) -> Event {
     Event {
         stop: StopNo(stop),
@@ -66,7 +66,7 @@ fn at(stop: u32, arrive: u32, depart: u32) -> Event {
     }
 }
 
-// Trip 7 of route 3, with two events.
+/// Trip 7 of route 3, with two events.
 fn trip_of(alloc: Global, events: [Event; 2]) -> Result<Vec<Trip>, AllocError> {
     let trip = Trip {
         route: 3,
@@ -76,7 +76,7 @@ fn trip_of(alloc: Global, events: [Event; 2]) -> Result<Vec<Trip>, AllocError> {
     Ok(vec![in alloc; trip]?)
 }
 
-// Whether the trips are those of `trip_of`.
+/// Whether the trips are those of `trip_of`.
 fn are_trip_of(trips: &[Trip], events: [Event; 2]) -> bool {
     trips.len() == 1
         && trips[0].route == 3
@@ -84,7 +84,7 @@ fn are_trip_of(trips: &[Trip], events: [Event; 2]) -> bool {
         && trips[0].events.as_slice() == events.as_slice()
 }
 
-// Whether a network of two stops without footpaths refuses the trip for this fault, and hands it back.
+/// Whether a network of two stops without footpaths refuses the trip for this fault, and hands it back.
 fn is_refused(alloc: Global, events: [Event; 2], fault: NetFault) -> Result<bool, AllocError> {
     let lists = vec![in alloc; Vec::new(alloc), Vec::new(alloc)]?;
     let changes = Vec::from_slice(alloc, &[0, 0])?;

@@ -15,12 +15,12 @@ T2,08:15:00,08:15:00,B,1
 T2,08:30:00,08:30:00,C,2
 ";
 
-// Two trips on Mondays in May 2026, from 08:00 and from 08:15.
+/// Two trips on Mondays in May 2026, from 08:00 and from 08:15.
 fn mondays() -> FeedBytes<'static> {
     in_may(TRIPS, TIMES)
 }
 
-// What a test expects of a feed.
+/// What a test expects of a feed.
 #[derive(Clone, Copy)]
 enum Expected {
     ItsDays,
@@ -31,8 +31,8 @@ enum Expected {
     ManyRuns,
 }
 
-// Whether the files are read, and a feed is as expected. One function owns the feeds of all tests, so that the drop of
-// one is proved once.
+/// Whether the files are read, and a feed is as expected. One function owns the feeds of all tests, so that the drop of
+/// one is proved once.
 fn gives(alloc: Global, expected: Expected, files: FeedBytes<'static>) -> bool {
     match feed_in(alloc, files) {
         Some(feed) => is_as_expected(alloc, &feed, expected),
@@ -51,7 +51,7 @@ fn is_as_expected(alloc: Global, feed: &Feed, expected: Expected) -> bool {
     }
 }
 
-// Whether a service is told to run on a date, or else not to.
+/// Whether a service is told to run on a date, or else not to.
 fn runs_on(feed: &Feed, service: u32, text: &[u8], expected: bool) -> bool {
     if service >= feed.service_count() {
         return false;
@@ -62,14 +62,14 @@ fn runs_on(feed: &Feed, service: u32, text: &[u8], expected: bool) -> bool {
     }
 }
 
-// Whether these are the runs, each as trip and shift.
+/// Whether these are the runs, each as trip and shift.
 fn are_runs(runs: &[Run], expected: &[(u32, i64)]) -> bool {
     runs.len() == expected.len()
         && runs.iter().zip(expected).all(|(run, (trip, shift))| run.trip == *trip
             && run.shift == *shift)
 }
 
-// Whether the study around a date lists these runs.
+/// Whether the study around a date lists these runs.
 fn lists_around(
     alloc: Global,
     feed: &Feed,
@@ -84,7 +84,7 @@ fn lists_around(
     }
 }
 
-// Whether the study on a date lists these runs.
+/// Whether the study on a date lists these runs.
 fn lists(
     alloc: Global,
     feed: &Feed,
@@ -99,7 +99,7 @@ fn lists(
     }
 }
 
-// Whether the study of a date, so many days before it and so many after it is refused for this fault.
+/// Whether the study of a date, so many days before it and so many after it is refused for this fault.
 fn is_refused_around(
     alloc: Global,
     feed: &Feed,
@@ -114,7 +114,7 @@ fn is_refused_around(
     }
 }
 
-// Whether the study on a date is refused for this fault.
+/// Whether the study on a date is refused for this fault.
 fn is_refused(alloc: Global, feed: &Feed, text: &[u8], expected: DayFault) -> bool {
     match read_date(text) {
         Some(date) => is_refused_around(alloc, feed, date, 1, 1, expected),
@@ -122,7 +122,7 @@ fn is_refused(alloc: Global, feed: &Feed, text: &[u8], expected: DayFault) -> bo
     }
 }
 
-// Whether the first service runs on the days of its calendar and its exceptions.
+/// Whether the first service runs on the days of its calendar and its exceptions.
 fn runs_as_scheduled(feed: &Feed) -> bool {
     runs_on(feed, 0, b"20260427", false)
         && runs_on(feed, 0, b"20260504", true)
@@ -133,7 +133,7 @@ fn runs_as_scheduled(feed: &Feed) -> bool {
         && runs_on(feed, 0, b"20260601", false)
 }
 
-// Whether the second service, which exceptions alone name, runs on the day that they add.
+/// Whether the second service, which exceptions alone name, runs on the day that they add.
 fn runs_as_excepted(feed: &Feed) -> bool {
     runs_on(feed, 1, b"20260505", false)
         && runs_on(feed, 1, b"20260506", true)
@@ -167,12 +167,12 @@ NEW,20260507,2
     assert!(rt; gives(rt.alloc(), Expected::ItsDays, files));
 }
 
-// Whether both trips run on the day before a date, and none on the date.
+/// Whether both trips run on the day before a date, and none on the date.
 fn runs_the_day_before(alloc: Global, feed: &Feed, text: &[u8]) -> bool {
     lists(alloc, feed, text, 1, 0, &[(0, 0), (1, 0)]) && lists(alloc, feed, text, 0, 0, &[])
 }
 
-// Whether trips run on the last days of February, of two leap years and of one that isn't.
+/// Whether trips run on the last days of February, of two leap years and of one that isn't.
 fn runs_on_leap_days(alloc: Global, feed: &Feed) -> bool {
     runs_the_day_before(alloc, feed, b"20000301")
         && runs_the_day_before(alloc, feed, b"20240301")
@@ -193,8 +193,8 @@ fn leap_days_are_days(rt: HostRuntime) {
     assert!(rt; gives(rt.alloc(), Expected::LeapDays, files));
 }
 
-// Whether studies of more days than a week list the runs of those days: from the March before, and from 137 years
-// before.
+/// Whether studies of more days than a week list the runs of those days: from the March before, and from 137 years
+/// before.
 fn lists_distant_days(alloc: Global, feed: &Feed) -> bool {
     let weeks = [
         (2, 54 * 86_400),
@@ -211,7 +211,7 @@ fn lists_distant_days(alloc: Global, feed: &Feed) -> bool {
         && lists(alloc, feed, b"20260504", 50_000, 0, &years)
 }
 
-// Whether three studies of different days list the runs of those days.
+/// Whether three studies of different days list the runs of those days.
 fn lists_days_around(alloc: Global, feed: &Feed) -> bool {
     let both = [(2, 0), (0, 86_400), (1, 86_400)];
     let next = [
@@ -250,7 +250,7 @@ T2,08:30:00,08:30:00,C,2
     assert!(rt; gives(rt.alloc(), Expected::DaysAround, files));
 }
 
-// Whether a study lists each departure of rows that overlap, and none of rows that end before they begin.
+/// Whether a study lists each departure of rows that overlap, and none of rows that end before they begin.
 fn lists_departures(alloc: Global, feed: &Feed) -> bool {
     let departures = [
         (0, 86_400),
@@ -280,7 +280,7 @@ T1,09:00:00,08:00:00,1
     assert!(rt; gives(rt.alloc(), Expected::Departures, files));
 }
 
-// Whether the study on the first date of the calendar is refused, and one that asks for all days that can be named.
+/// Whether the study on the first date of the calendar is refused, and one that asks for all days that can be named.
 fn is_refused_first(alloc: Global, feed: &Feed) -> bool {
     match Date::new(-9999, 1, 1) {
         Ok(first) => {
@@ -292,7 +292,7 @@ fn is_refused_first(alloc: Global, feed: &Feed) -> bool {
     }
 }
 
-// Whether studies with too many runs, or past the ends of the calendar, are refused, and one up to its last date isn't.
+/// Whether studies with too many runs, or past the ends of the calendar, are refused, but not one up to its last date.
 fn refuses_studies(alloc: Global, feed: &Feed) -> bool {
     is_refused(alloc, feed, b"20260504", DayFault::TooMany)
         && is_refused(alloc, feed, b"99991231", DayFault::DateRange)
@@ -312,7 +312,7 @@ fn studies_are_refused(rt: HostRuntime) {
     assert!(rt; gives(rt.alloc(), Expected::Refusals, files));
 }
 
-// Whether these are 450,000 runs of the first trip, with the shifts of the first and of the last second.
+/// Whether these are 450,000 runs of the first trip, with the shifts of the first and of the last second.
 fn are_many(runs: &[Run]) -> bool {
     let first = Run {
         trip: 0,
@@ -325,7 +325,7 @@ fn are_many(runs: &[Run]) -> bool {
     runs.len() == 450_000 && runs[0] == first && runs[449_999] == last
 }
 
-// Whether the study around a date lists the many runs.
+/// Whether the study around a date lists the many runs.
 fn lists_many_around(alloc: Global, feed: &Feed, date: Date) -> bool {
     match active(alloc, feed, date, 1, 1) {
         Ok(runs) => are_many(&runs),
@@ -333,7 +333,7 @@ fn lists_many_around(alloc: Global, feed: &Feed, date: Date) -> bool {
     }
 }
 
-// Whether the study of the first Monday lists a departure of a long trip each second.
+/// Whether the study of the first Monday lists a departure of a long trip each second.
 fn lists_many(alloc: Global, feed: &Feed) -> bool {
     match read_date(b"20260504") {
         Some(monday) => lists_many_around(alloc, feed, monday),

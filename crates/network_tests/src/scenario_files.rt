@@ -8,7 +8,7 @@ use std::alloc::{AllocError, Global};
 use std::process::Abort;
 use std::test::Fail;
 
-// The feed where T1 departs at 00:10:00, 00:20:00 and 00:30:00, in two rows.
+/// The feed where T1 departs at 00:10:00, 00:20:00 and 00:30:00, in two rows.
 fn with_departures() -> FeedBytes<'static> {
     FeedBytes {
         frequencies: Some(
@@ -18,7 +18,7 @@ fn with_departures() -> FeedBytes<'static> {
     }
 }
 
-// The scenario of a file over a feed, none where the file is refused.
+/// The scenario of a file over a feed, none where the file is refused.
 fn scenario_over(alloc: Global, feed: &Feed, bytes: &[u8]) -> Option<Scenario> {
     if bytes.len() > MOST_BYTES {
         return None;
@@ -26,7 +26,7 @@ fn scenario_over(alloc: Global, feed: &Feed, bytes: &[u8]) -> Option<Scenario> {
     read_scenario(alloc, b"case", bytes, feed).ok()
 }
 
-// Whether a scenario removes the second of three trips, and it alone.
+/// Whether a scenario removes the second of three trips, and it alone.
 fn removes_second_trip(scenario: &Scenario, feed: &Feed) -> bool {
     scenario.name() == b"case".as_slice()
         && feed.trip_count() == 3
@@ -49,12 +49,12 @@ fn a_removed_route_loses_its_trips(rt: HostRuntime) {
     assert!(rt; gives(rt.alloc(), mondays(), Expected::Cut));
 }
 
-// Whether a scenario keeps the first two of three trips.
+/// Whether a scenario keeps the first two of three trips.
 fn keeps_two_trips(scenario: &Scenario, feed: &Feed) -> bool {
     feed.trip_count() == 3 && scenario.keeps(feed, 0) && scenario.keeps(feed, 1)
 }
 
-// Whether a scenario shifts the first trip alone, by five minutes.
+/// Whether a scenario shifts the first trip alone, by five minutes.
 fn shifts_first_trip(scenario: &Scenario) -> bool {
     scenario.shift(0) == 300 && scenario.shift(1) == 0
 }
@@ -72,7 +72,7 @@ fn a_shifted_trip_runs_later(rt: HostRuntime) {
     assert!(rt; gives(rt.alloc(), mondays(), Expected::Delay));
 }
 
-// By how many seconds a file over the feed shifts the trip with a number; none where the file is refused.
+/// By how many seconds a file over the feed shifts the trip with a number; none where the file is refused.
 fn shift_over(alloc: Global, feed: &Feed, bytes: &[u8], trip: u32) -> Option<i64> {
     match scenario_over(alloc, feed, bytes) {
         Some(scenario) => Some(scenario.shift(trip)),
@@ -96,7 +96,7 @@ fn shifts_of_a_trip_add_up(rt: HostRuntime) {
     expect_shift_of(&rt, rt.alloc(), SHIFTS, 2, 0);
 }
 
-// The fault of a file over a feed, none where the file is accepted.
+/// The fault of a file over a feed, none where the file is accepted.
 fn fault_over(alloc: Global, feed: &Feed, bytes: &[u8]) -> Option<ScenarioFault> {
     if bytes.len() > MOST_BYTES {
         return None;
@@ -104,7 +104,7 @@ fn fault_over(alloc: Global, feed: &Feed, bytes: &[u8]) -> Option<ScenarioFault>
     read_scenario(alloc, b"case", bytes, feed).err()
 }
 
-// What a test expects of a scenario file over a feed.
+/// What a test expects of a scenario file over a feed.
 #[derive(Clone, Copy)]
 enum Expected<'a> {
     Cut,
@@ -124,8 +124,8 @@ fn is_as_expected(alloc: Global, feed: &Feed, expected: Expected<'_>) -> bool {
     }
 }
 
-// Whether the files are read, and a scenario file over their feed is as expected. One function owns the feeds of all
-// tests, so that the drop of one is proved once.
+/// Whether the files are read, and a scenario file over their feed is as expected. One function owns the feeds of all
+/// tests, so that the drop of one is proved once.
 fn gives(alloc: Global, files: FeedBytes<'static>, expected: Expected<'_>) -> bool {
     match feed_in(alloc, files) {
         Some(feed) => is_as_expected(alloc, &feed, expected),
@@ -133,18 +133,18 @@ fn gives(alloc: Global, files: FeedBytes<'static>, expected: Expected<'_>) -> bo
     }
 }
 
-// A file is accepted, and shifts the trip with a number by so many seconds.
+/// A file is accepted, and shifts the trip with a number by so many seconds.
 fn expect_shift_of(rt: &impl Abort, alloc: Global, bytes: &[u8], trip: u32, shift: i64) {
     assert!(rt; gives(alloc, mondays(), Expected::Shift(bytes, trip, shift)));
 }
 
-// A file is refused at a record.
+/// A file is refused at a record.
 fn expect_refusal(rt: &impl Abort, alloc: Global, bytes: &[u8], at: u64, what: ScenarioWhat) {
     let fault = ScenarioFault { at, what };
     assert!(rt; gives(alloc, mondays(), Expected::Fault(bytes, fault)));
 }
 
-// A file is refused at a record, where T1 has departures.
+/// A file is refused at a record, where T1 has departures.
 fn expect_refusal_of_departures(
     rt: &impl Abort,
     alloc: Global,
@@ -327,7 +327,7 @@ fn departures_are_not_shifted_out_of_their_times(rt: HostRuntime) {
     );
 }
 
-// A file of a hundred thousand records, and what follows them.
+/// A file of a hundred thousand records, and what follows them.
 fn many_records(alloc: Global, rest: &[u8]) -> Result<Vec<u8>, AllocError> {
     let mut bytes = Vec::from_slice(alloc, b"action,id,seconds\n")?;
     for _ in 0..50_000 {

@@ -18,18 +18,18 @@ T0,24:05:00,24:05:00,A,1
 T0,24:20:00,24:20:00,B,2
 ";
 
-// Two trips on Mondays in May 2026, and one on Sundays that runs past midnight.
+/// Two trips on Mondays in May 2026, and one on Sundays that runs past midnight.
 pub(crate) fn mondays() -> FeedBytes<'static> {
     in_may(TRIPS, TIMES)
 }
 
-// For each of three stops the walks from it: one of a minute from A to B.
+/// For each of three stops the walks from it: one of a minute from A to B.
 fn walks(alloc: Global) -> Result<Vec<Vec<(StopNo, u32)>>, AllocError> {
     let from_a = Vec::from_slice(alloc, &[(StopNo(1), 60)])?;
     Ok(vec![in alloc; from_a, Vec::new(alloc), Vec::new(alloc)]?)
 }
 
-// A footpath of a minute from A to B, and change times of a minute, none without memory.
+/// A footpath of a minute from A to B, and change times of a minute, none without memory.
 fn short_walk(alloc: Global) -> Option<Feet> {
     match walks(alloc) {
         Ok(lists) => {
@@ -40,8 +40,8 @@ fn short_walk(alloc: Global) -> Option<Feet> {
     }
 }
 
-// The network of the scenario without edits on the first Monday, with so many days before it and one after it; out of
-// memory is told too where the study has no runs.
+/// The network of the scenario without edits on the first Monday, with so many days before it and one after it; out of
+/// memory is told too where the study has no runs.
 fn network_around_monday(
     alloc: Global,
     feed: &Feed,
@@ -60,10 +60,10 @@ fn network_around_monday(
     }
 }
 
-// A trip as its route, its number and its events.
+/// A trip as its route, its number and its events.
 type ExpectedTrip = (u32, u32, [Event; 2]);
 
-// A vehicle at a stop, where travellers may board and alight.
+/// A vehicle at a stop, where travellers may board and alight.
 fn at(stop: u32, arrive: u32, depart: u32) -> Event {
     Event {
         stop: StopNo(stop),
@@ -94,12 +94,12 @@ fn is_short_walk(feet: &Feet) -> bool {
         && feet.change(StopNo(2)) == 60
 }
 
-// Whether a network has three stops, the short walk between them, and these trips.
+/// Whether a network has three stops, the short walk between them, and these trips.
 fn is_network(network: &Network, expected: &[ExpectedTrip]) -> bool {
     network.stops() == 3 && is_short_walk(network.feet()) && are_trips(network.trips(), expected)
 }
 
-// Whether the network of a feed on the first Monday has these trips.
+/// Whether the network of a feed on the first Monday has these trips.
 fn runs_trips(alloc: Global, feed: &Feed, feet: &Feet, expected: &[ExpectedTrip]) -> bool {
     match network_around_monday(alloc, feed, feet, 1) {
         Ok(network) => is_network(&network, expected),
@@ -107,7 +107,7 @@ fn runs_trips(alloc: Global, feed: &Feed, feet: &Feet, expected: &[ExpectedTrip]
     }
 }
 
-// How many trips the network of a feed has on the first Monday and so many days before it, or its fault.
+/// How many trips the network of a feed has on the first Monday and so many days before it, or its fault.
 fn count_trips(alloc: Global, feed: &Feed, feet: &Feet, back: u32) -> Result<usize, NetFault> {
     match network_around_monday(alloc, feed, feet, back) {
         Ok(network) => Ok(network.trips().len()),
@@ -115,7 +115,7 @@ fn count_trips(alloc: Global, feed: &Feed, feet: &Feet, back: u32) -> Result<usi
     }
 }
 
-// Whether the network of a feed on the first Monday and so many days before it is refused as too large.
+/// Whether the network of a feed on the first Monday and so many days before it is refused as too large.
 fn is_too_large(alloc: Global, feed: &Feed, feet: &Feet, back: u32) -> bool {
     match count_trips(alloc, feed, feet, back) {
         Ok(_) => false,
@@ -123,7 +123,7 @@ fn is_too_large(alloc: Global, feed: &Feed, feet: &Feet, back: u32) -> bool {
     }
 }
 
-// Whether a scenario keeps a trip, with its times.
+/// Whether a scenario keeps a trip, with its times.
 fn keeps_as_it_is(scenario: &Scenario, feed: &Feed, trip: u32) -> bool {
     trip < feed.trip_count() && scenario.keeps(feed, trip) && scenario.shift(trip) == 0
 }
@@ -137,7 +137,7 @@ fn keeps_every_trip(scenario: &Scenario, feed: &Feed) -> bool {
     true
 }
 
-// What a test expects of a feed's network on the first Monday, or of the scenario without edits.
+/// What a test expects of a feed's network on the first Monday, or of the scenario without edits.
 #[derive(Clone, Copy)]
 enum Expected<'a> {
     Trips(&'a [ExpectedTrip]),
@@ -160,8 +160,8 @@ fn is_as_expected(alloc: Global, feed: &Feed, expected: Expected<'_>) -> bool {
     }
 }
 
-// Whether the files are read, and a feed is as expected. One function owns the feeds of all tests, so that the drop of
-// one is proved once.
+/// Whether the files are read, and a feed is as expected. One function owns the feeds of all tests, so that the drop of
+/// one is proved once.
 fn gives(alloc: Global, files: FeedBytes<'static>, expected: Expected<'_>) -> bool {
     match feed_in(alloc, files) {
         Some(feed) => is_as_expected(alloc, &feed, expected),

@@ -13,7 +13,7 @@ MON,1,0,0,0,0,0,0,20260504,20260531
 SUN,0,0,0,0,0,0,1,20260503,20260531
 ";
 
-// A trip of twenty events.
+/// A trip of twenty events.
 pub(crate) const LONG_TRIP: &[u8] = b"trip_id,arrival_time,departure_time,stop_id,stop_sequence
 T1,08:10:00,08:10:00,A,10
 T1,08:11:00,08:11:00,A,11
@@ -37,7 +37,7 @@ T1,08:28:00,08:28:00,A,28
 T1,08:29:00,08:29:00,A,29
 ";
 
-// The files of a feed with these trips, at these times.
+/// The files of a feed with these trips, at these times.
 pub(crate) fn in_may(trips: &'static [u8], stop_times: &'static [u8]) -> FeedBytes<'static> {
     FeedBytes {
         stops: Some(STOPS),
@@ -51,8 +51,8 @@ pub(crate) fn in_may(trips: &'static [u8], stop_times: &'static [u8]) -> FeedByt
     }
 }
 
-// The feed of the files, none where they have a fault. It stands in a box, so that whoever holds it drops it in one
-// step.
+/// The feed of the files, none where they have a fault. It stands in a box, so that whoever holds it drops it in one
+/// step.
 pub(crate) fn feed_in(alloc: Global, files: FeedBytes<'_>) -> Option<Box<Feed>> {
     if !files.fits() {
         return None;

@@ -2,7 +2,7 @@
 
 use csv::ByteRecord;
 use std::alloc::Global;
-use table_records::{Rows, column, field};
+use table_records::{Records, column, field};
 
 /// The header of a file, and one of its records.
 #[derive(Drop)]
@@ -21,7 +21,7 @@ impl Found {
 /// The header of a file, and the record with a number, which counts the header as 1; none where there is no such
 /// record, or no memory to read it. Of record 1 there is the header alone.
 pub(crate) fn record_at(alloc: Global, bytes: &[u8], at: u64) -> Option<Found> {
-    let mut rows = Rows::new(alloc, bytes);
+    let mut rows = Records::new(alloc, bytes);
     let mut header = ByteRecord::new(alloc);
     let mut row = ByteRecord::new(alloc);
     if !is_next(&mut rows, &mut header) {
@@ -36,13 +36,13 @@ pub(crate) fn record_at(alloc: Global, bytes: &[u8], at: u64) -> Option<Found> {
 }
 
 /// Puts the next record into `row`, and says whether there was one.
-fn is_next(rows: &mut Rows<'_>, row: &mut ByteRecord) -> bool {
+fn is_next(rows: &mut Records<'_>, row: &mut ByteRecord) -> bool {
     matches!(rows.next(row), Ok(true))
 }
 
 /// How many records the bytes of a file have, the header among them, if there is memory to read them.
 pub(crate) fn record_count(alloc: Global, bytes: &[u8]) -> Option<u64> {
-    let mut rows = Rows::new(alloc, bytes);
+    let mut rows = Records::new(alloc, bytes);
     let mut row = ByteRecord::new(alloc);
     for count in 0..u64::MAX {
         match rows.next(&mut row) {
@@ -56,7 +56,7 @@ pub(crate) fn record_count(alloc: Global, bytes: &[u8]) -> Option<u64> {
 
 /// Whether a record of a file has this text in the column of a name, if there is memory to read them.
 pub(crate) fn is_named(alloc: Global, bytes: &[u8], name: &[u8], text: &[u8]) -> Option<bool> {
-    let mut rows = Rows::new(alloc, bytes);
+    let mut rows = Records::new(alloc, bytes);
     let mut row = ByteRecord::new(alloc);
     if !is_next(&mut rows, &mut row) {
         return Some(false);

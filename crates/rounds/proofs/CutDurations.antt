@@ -7,9 +7,9 @@ use Rattle.timetable.specs.Least.{IsLeast, IsLeastOrNever}
 use Rattle.timetable.specs.Networks.{Net, IsNet}
 use Rattle.timetable.specs.Journeys.{Whereabouts, Leg, Ride, Walk, Journey, rides, IsReached, IsDuration}
 use Rattle.rounds.specs.Cut.{cut_net}
-use Rattle.rounds.specs.Labels.{LaneStateTo}
+use Rattle.rounds.specs.CappedLabels.{LaneStateTo}
 use Rattle.rounds.specs.State.{arrival}
-use Rattle.rounds.proofs.Journeying.{not_before, not_early}
+use Rattle.rounds.proofs.EveryJourney.{not_before, not_early}
 use Rattle.rounds.proofs.CutJourneys.{reached_cut, reached_whole}
 
 -- labels to never say by when a stop is reached

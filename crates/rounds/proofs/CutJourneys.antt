@@ -6,7 +6,7 @@ use Rattle.trip_lanes.specs.Cut.{cut}
 use Rattle.rounds.specs.Cut.{cut_net}
 use Rattle.rounds.specs.Minutes.{IsRidden, IsReady}
 use Rattle.rounds.proofs.CutNetworks.{cut_net_is_net}
-use Rattle.rounds.proofs.Journeying.{not_before, not_early}
+use Rattle.rounds.proofs.EveryJourney.{not_before, not_early}
 use Rattle.rounds.proofs.CutRides.{cut_ride, from_cut, ride_rises}
 
 -- the same stop at the same time

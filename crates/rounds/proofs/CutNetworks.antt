@@ -7,17 +7,17 @@ use Rattle.std.proofs.lemmas.List.Sums.{sum-map}
 use Rattle.timetable.specs.declared.trips.Event.{Event}
 use Rattle.timetable.specs.declared.trips.Trip.{Trip}
 use Rattle.timetable.specs.declared.views.Call.{Call}
-use Rattle.timetable.specs.declared.views.Times.{Times}
+use Rattle.timetable.specs.declared.views.CallTimes.{CallTimes}
 use Rattle.timetable.specs.declared.limits.TheConstants.{END_OF_AXIS}
 use Rattle.timetable.specs.Trips.{EventsRise}
 use Rattle.timetable.specs.Networks.{Net, IsNet, IsEvent}
-use Rattle.timetable.proofs.Mapped.{map_got, map_put}
+use Rattle.timetable.proofs.MappedLists.{map_got, map_put}
 use Rattle.timetable.specs.Lines.{Line, LineTable, Follows, IsLine, AreLines, IsPosition, AreBoarded, AreLinesOf}
 use Rattle.timetable.specs.LineViews.{events_of, rows_of_line, IsAt, IsViewOf}
 use Rattle.trip_lanes.specs.Cut.{cut}
 use Rattle.trip_lanes.specs.Rows.{NoneOvertakes, IsCutViewOf}
 use Rattle.rounds.specs.Cut.{cut_event, cut_trip, cut_net}
-use Rattle.rounds.proofs.Lined.{none_overtakes}
+use Rattle.rounds.proofs.TripsAsRows.{none_overtakes}
 
 -- cutting keeps the order of times
 pub cut_rises : (base cap s t : ℕ) → s ≤ t → cut base cap s ≤ cut base cap t
@@ -200,7 +200,7 @@ module _ (base cap : ℕ) where
       (f.0, record { row = own.0; trip = own.1; event = f.1 }, f.2)
 
   -- the calls of a line show its cut trips, and its times do when they are cut
-  pub cut_line_view : (trips : List Trip) (line : List ℕ) (calls : List Call) (times : List Times) →
+  pub cut_line_view : (trips : List Trip) (line : List ℕ) (calls : List Call) (times : List CallTimes) →
       IsViewOf (rows_of_line trips line) calls times →
       IsCutViewOf base cap (rows_of_line (map (cut_trip base cap) trips) line) calls times
   cut_line_view trips line calls times v =
@@ -228,7 +228,7 @@ module _ (base cap : ℕ) where
   -- all that is known of a line of a network, of its cut trips
   module _ (stops : ℕ) (trips : List Trip) (table : LineTable) (are : AreLinesOf stops trips table) (i : ℕ)
       (line : Line) (at : slice_get table.lines i ≡ Some line) where
-    pub table_view : (calls : List Call) (times : List Times) → slice_get table.calls i ≡ Some calls →
+    pub table_view : (calls : List Call) (times : List CallTimes) → slice_get table.calls i ≡ Some calls →
         slice_get table.times i ≡ Some times → IsCutViewOf base cap (rows_of_line (map (cut_trip base cap) trips) line)
         calls times
     table_view calls times c t = cut_line_view trips line calls times (are.viewed.view i line calls times at c t)

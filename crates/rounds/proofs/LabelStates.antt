@@ -9,17 +9,17 @@ use Rattle.timetable.specs.declared.least.TheConstants.{NEVER}
 use Rattle.timetable.specs.declared.trips.Trip.{Trip}
 use Rattle.timetable.specs.Networks.{Net, IsNet}
 use Rattle.timetable.specs.Footpaths.{FootLists}
-use Rattle.timetable.specs.Steps.{Lowers, Carries, CarriesAny, WalkedOrStayed, ChangedOrWalked}
+use Rattle.timetable.specs.RoundSteps.{Lowers, Carries, CarriesAny, WalkedOrStayed, ChangedOrWalked}
 use Rattle.timetable.specs.Journeys.{Whereabouts, Walk, IsReached}
 use Rattle.trip_lanes.specs.Scan.{NothingLower}
 use Rattle.trip_lanes.specs.Walks.{OfferedFrom}
-use Rattle.timetable.proofs.Known.{event_stop}
+use Rattle.timetable.proofs.KnownParts.{event_stop}
 use Rattle.rounds.specs.Minutes.{IsRidden, IsReady}
-use Rattle.rounds.specs.Labels.{IsTableTo, LaneStateTo}
+use Rattle.rounds.specs.CappedLabels.{IsTableTo, LaneStateTo}
 use Rattle.rounds.specs.State.{NoneEarlier, Bounds}
-use Rattle.rounds.proofs.Fresh.{settled_by_both}
-use Rattle.rounds.proofs.Journeying.{rises, not_before, not_early, ridden_more, ready_more, reached_first}
-use Rattle.rounds.proofs.Journeying.{ready_by_change}
+use Rattle.rounds.proofs.SettledByBoth.{settled_by_both}
+use Rattle.rounds.proofs.EveryJourney.{rises, not_before, not_early, ridden_more, ready_more, reached_first}
+use Rattle.rounds.proofs.EveryJourney.{ready_by_change}
 use Rattle.rounds.proofs.LabelTables.{AreMetTo, fits_after, fits_of, never_of, none_met, met_both, ready_met}
 use Rattle.rounds.proofs.LabelTables.{ridden_met, ready_first, ridden_on, at_start, bounded_ride, bounded_walk}
 use Rattle.rounds.proofs.LabelTables.{bounded_transfer}

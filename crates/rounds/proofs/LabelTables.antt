@@ -7,14 +7,14 @@ use Rattle.std.proofs.lemmas.Option.{slice_get_within}
 use Rattle.timetable.specs.declared.trips.Trip.{Trip}
 use Rattle.timetable.specs.declared.least.TheConstants.{NEVER}
 use Rattle.timetable.specs.Networks.{Net, IsNet, IsEvent}
-use Rattle.timetable.specs.Steps.{Lowers, Carries, CarriesAny, WalkedOrStayed, ChangedOrWalked}
+use Rattle.timetable.specs.RoundSteps.{Lowers, Carries, CarriesAny, WalkedOrStayed, ChangedOrWalked}
 use Rattle.timetable.specs.Journeys.{Whereabouts, Leg, Ride, Walk, Journey, EndsInNoWalk, ready_at, rides, IsReached}
-use Rattle.timetable.proofs.Known.{event_stop}
+use Rattle.timetable.proofs.KnownParts.{event_stop}
 use Rattle.rounds.specs.Minutes.{IsRidden, IsReady}
-use Rattle.rounds.specs.Labels.{IsTableTo}
+use Rattle.rounds.specs.CappedLabels.{IsTableTo}
 use Rattle.rounds.specs.State.{NoneEarlier}
-use Rattle.rounds.proofs.Journeying.{rises, on_network, at_once, ready_by_change}
-use Rattle.rounds.proofs.Later.{sooner_ready, sooner_ridden}
+use Rattle.rounds.proofs.EveryJourney.{rises, on_network, at_once, ready_by_change}
+use Rattle.rounds.proofs.LaterStarts.{sooner_ready, sooner_ridden}
 
 -- by the time of each label below never, its stop is reached
 pub record AreMetTo (never : ℕ) (Reached : ℕ → ℕ → Type 0) (labels : List ℕ) : Type 0 where

@@ -5,13 +5,13 @@ use Rattle.std.proofs.lemmas.List.{length-replicate}
 use Rattle.timetable.specs.declared.trips.Trip.{Trip}
 use Rattle.timetable.specs.Networks.{Net, IsNet}
 use Rattle.timetable.specs.Footpaths.{FeetData}
-use Rattle.timetable.specs.Steps.{Lowers, Carries, CarriesAny, ChangedOrWalked}
+use Rattle.timetable.specs.RoundSteps.{Lowers, Carries, CarriesAny, ChangedOrWalked}
 use Rattle.timetable.specs.Journeys.{Whereabouts}
 use Rattle.trip_lanes.specs.Scan.{NothingLower}
 use Rattle.trip_lanes.specs.Walks.{OfferedFrom, TransferredFrom}
-use Rattle.rounds.specs.Labels.{LaneStateTo}
+use Rattle.rounds.specs.CappedLabels.{LaneStateTo}
 use Rattle.rounds.specs.State.{Bounds}
-use Rattle.rounds.proofs.Fresh.{carried_settles}
+use Rattle.rounds.proofs.SettledByBoth.{carried_settles}
 use Rattle.rounds.proofs.LabelTables.{fits_after, fits_of, never_of}
 use Rattle.rounds.proofs.LabelStates.{state_settles, nowhere_settles, settled_below, state_changes, others_settle}
 

@@ -7,7 +7,7 @@ use Rattle.timetable.specs.declared.limits.TheConstants.{MOST_FOOT_SECONDS}
 use Rattle.timetable.specs.Networks.{Net, IsNet}
 use Rattle.timetable.specs.Journeys.{Whereabouts, Leg, Ride, Walk, Journey, Rides, rides, IsReached}
 use Rattle.timetable.specs.LastArrivals.{Arrives, AreLastArrivals}
-use Rattle.timetable.proofs.Known.{foot_short}
+use Rattle.timetable.proofs.KnownParts.{foot_short}
 use Rattle.rounds.specs.Last.{AreLastFrom}
 
 -- a last leg that is a ride arrives where the journey ends

@@ -6,11 +6,11 @@ use Rattle.timetable.specs.declared.least.TheConstants.{NEVER}
 use Rattle.timetable.specs.Networks.{Net, IsNet}
 use Rattle.timetable.specs.Journeys.{IsReached}
 use Rattle.rounds.specs.Cut.{cut_net}
-use Rattle.rounds.specs.Labels.{LaneStateTo}
+use Rattle.rounds.specs.CappedLabels.{LaneStateTo}
 use Rattle.rounds.specs.Last.{AreLastFrom}
 use Rattle.rounds.specs.State.{arrival}
 use Rattle.rounds.proofs.CutDurations.{cut_never}
-use Rattle.rounds.proofs.Later.{same_legs}
+use Rattle.rounds.proofs.LaterStarts.{same_legs}
 
 -- who leaves sooner gets there, too
 sooner_reached : (n : Net) (origin first k p depart time : ℕ) → first ≤ depart →

@@ -11,7 +11,7 @@ use Rattle.rounds.specs.declared.query.Query.{Query}
 use Rattle.rounds.specs.declared.window.Window.{Window}
 use Rattle.rounds.specs.Window.{departure}
 use Rattle.rounds.specs.Cut.{cut_net}
-use Rattle.rounds.specs.Labels.{LaneStateTo}
+use Rattle.rounds.specs.CappedLabels.{LaneStateTo}
 use Rattle.rounds.specs.Table.{batches_of, label_of}
 use Rattle.trip_lanes.specs.Cut.{cut}
 use Rattle.trip_lanes.specs.declared.lanes.TheConstants.{LANES}

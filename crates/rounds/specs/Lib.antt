@@ -7,7 +7,9 @@ pub mod Scan
 pub mod State
 pub mod Batches
 pub mod Query
+pub mod Rounds
+pub mod Searches
 pub mod Cut
-pub mod Labels
+pub mod CappedLabels
 pub mod Last
 pub mod Useful

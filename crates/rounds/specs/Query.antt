@@ -1,9 +1,9 @@
--- What is asked of a search, and the tables that it takes.
+-- What is asked of a search, and the workspace that it takes.
 use Rattle.std.specs.Prelude.{◌≡◌, ℕ, ◌<◌, ◌≤◌, length}
 use Rattle.timetable.specs.Lines.{LineTable, AreLinesOf}
 use Rattle.useful_minutes.specs.Plan.{AreMinutes}
 use Rattle.rounds.specs.declared.query.Query.{Query}
-use Rattle.rounds.specs.declared.tables.Tables.{Tables}
+use Rattle.rounds.specs.declared.workspace.Workspace.{Workspace}
 use Rattle.rounds.specs.Window.{Fits}
 use Rattle.rounds.specs.declared.window.TheConstants.{MOST_RIDES}
 
@@ -15,12 +15,12 @@ pub record IsAsked (q : Query) : Type 0 where
   pub searched : AreMinutes q.window.minutes q.searched.now
   pub lines : AreLinesOf q.network.now.stops q.network.now.trips q.lines.now
 
--- the tables have a position for each stop and line
-pub record AreTablesFor {R : Type 0} (stops : ℕ) (lines : LineTable) (t : Tables R) : Type 0 where
+-- the workspace has a position for each stop and line
+pub record IsWorkspaceFor {R : Type 0} (stops : ℕ) (lines : LineTable) (t : Workspace R) : Type 0 where
   pub ride : length t.ride.items ≡ stops
-  pub ready : length t.ready.items ≡ stops
-  pub before : length t.before.items ≡ stops
+  pub ready : length t.ready.labels.items ≡ stops
+  pub before : length t.ready.before.items ≡ stops
   pub falls : length t.falls.items ≡ stops
   pub marked : length t.marked.items ≡ stops
-  pub fallen : length t.fallen.items ≡ stops
+  pub fallen : length t.ready.fallen.items ≡ stops
   pub due : length t.due.items ≡ length lines.lines

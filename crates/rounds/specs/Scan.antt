@@ -2,12 +2,12 @@
 use Rattle.std.specs.Prelude.{◌≡◌, ℕ, List, length}
 use Rattle.timetable.specs.LineViews.{rows_of_line}
 use Rattle.timetable.specs.declared.trips.Trip.{Trip}
-use Rattle.timetable.specs.Steps.{Carries, CarriesAny}
+use Rattle.timetable.specs.RoundSteps.{Carries, CarriesAny}
 use Rattle.trip_lanes.specs.declared.falls.Fall.{Fall}
 use Rattle.trip_lanes.specs.Falls.{AreFalls}
 use Rattle.trip_lanes.specs.Rows.{NoneCaughtBefore}
 use Rattle.trip_lanes.specs.Scan.{NothingLower}
-use Rattle.trip_lanes.specs.declared.line_scan.Labels.{Labels}
+use Rattle.trip_lanes.specs.declared.line_scan.ReadyLabels.{ReadyLabels}
 use Rattle.rounds.specs.Rank.{IsOfRank}
 
 -- one of the trips of a line has a ride that ends at stop p at this time
@@ -18,7 +18,7 @@ pub record CarriesLine (ready : List ℕ) (trips : List Trip) (line : List ℕ) 
   pub carries : Carries ready t p end
 
 -- there are labels for each stop
-pub record AreSized {R : Type 0} (stops : ℕ) (labels : Labels R) : Type 0 where
+pub record AreSized {R : Type 0} (stops : ℕ) (labels : ReadyLabels R) : Type 0 where
   pub falls : length labels.falls.now ≡ stops
   pub ready : length labels.ready.now ≡ stops
 

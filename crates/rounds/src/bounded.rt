@@ -1,23 +1,24 @@
 //! Departures side by side, each round bounded by the labels of a later departure.
 ghost use Rattle.std.specs.Prelude.{◌≡◌, ◌≢◌, ℕ, ◌+◌, ◌<◌, ◌≤◌, length, replicate, slice_get, slice_index, Some, true};
-ghost use Rattle.std.specs.Prelude.{All, IfOk};
-ghost use Rattle.timetable.specs.Steps.{Lowers};
+ghost use Rattle.std.specs.Prelude.{All, IfOk, IsTrue};
+ghost use Rattle.timetable.specs.RoundSteps.{Lowers};
 ghost use Rattle.timetable.specs.declared.least.TheConstants.{NEVER as NEVER_VALUE};
 ghost use Rattle.trip_lanes.specs.Cut.{cut};
 ghost use Rattle.trip_lanes.specs.Lane.{lane, labels_in};
 ghost use Rattle.rounds.specs.Cut.{cut_net};
-ghost use Rattle.rounds.specs.Labels.{LaneStateTo};
+ghost use Rattle.rounds.specs.CappedLabels.{LaneStateTo};
 ghost use Rattle.rounds.specs.State.{Bounds};
-ghost use Rattle.rounds.specs.Query.{IsAsked, AreTablesFor};
+ghost use Rattle.rounds.specs.Query.{IsAsked, IsWorkspaceFor};
 ghost use Rattle.rounds.specs.Batches.{IsBatch, AreKept, start_at, bounds_in};
+ghost use Rattle.rounds.specs.Rounds.{AreAfter, AreKeptAfter};
 ghost use Rattle.rounds.specs.declared.window.TheConstants.{MOST_RIDES};
 
 use crate::query::Query;
 use crate::scan::{Round, clear, scan_lines};
-use crate::tables::Tables;
+use crate::workspace::Workspace;
 use std::alloc::{AllocError, Global};
 use timetable::NEVER;
-use trip_lanes::{Labels, Row, falls_of, lower_row, transfer_marked, walk_marked};
+use trip_lanes::{LaneLabels, ReadyLabels, falls_of, lower_row, transfer_marked, walk_marked};
 
 /// The labels of one departure after so many rides, in seconds on the axis, or `NEVER`: they bound those of the
 /// departures before it.
@@ -45,7 +46,7 @@ pub(crate) fn no_kept(alloc: Global, stops: usize, rides: u32) -> Result<Vec<Kep
 }
 
 /// The label of a bound in each lane.
-fn bound_of<R: Row>(bound: u32, base: u32) -> R
+fn bound_of<R: LaneLabels>(bound: u32, base: u32) -> R
     ensures { (l : ℕ) → l < R.LANES → slice_index (R.labels result) l ≡ cut base R.NEVER bound }
 {
     let since = if bound < base { 0 } else { bound - base };
@@ -54,7 +55,7 @@ fn bound_of<R: Row>(bound: u32, base: u32) -> R
 
 /// Lowers the labels of one stop to its bound. Where there is none, they stay as they are.
 #[inline(always)]
-fn lower_one<R: Row>(labels: &mut [R], stop: usize, bound: u32, base: u32)
+fn lower_one<R: LaneLabels>(labels: &mut [R], stop: usize, bound: u32, base: u32)
     requires stop { stop < length labels.old }
     requires base { base + R.NEVER ≤ NEVER_VALUE }
     requires fits { (l : ℕ) → l < R.LANES →
@@ -68,7 +69,7 @@ fn lower_one<R: Row>(labels: &mut [R], stop: usize, bound: u32, base: u32)
 }
 
 /// Lowers each label to the bound of its stop.
-fn lower_to<R: Row>(labels: &mut [R], bound: &[u32], base: u32)
+fn lower_to<R: LaneLabels>(labels: &mut [R], bound: &[u32], base: u32)
     requires same { length bound.now ≡ length labels.old }
     requires base { base + R.NEVER ≤ NEVER_VALUE }
     requires fits { (l p : ℕ) → l < R.LANES → slice_index (lane l (labels_in R.labels labels.old)) p ≤ R.NEVER }
@@ -81,7 +82,7 @@ fn lower_to<R: Row>(labels: &mut [R], bound: &[u32], base: u32)
 }
 
 /// Lowers each label to the bound of its stop; no fall is noted any more.
-fn begin<R: Row>(labels: &mut [R], fallen: &mut [bool], bound: &[u32], base: u32)
+fn bound_ready<R: LaneLabels>(labels: &mut [R], fallen: &mut [bool], bound: &[u32], base: u32)
     requires bound { length bound.now ≡ length labels.old }
     requires base { base + R.NEVER ≤ NEVER_VALUE }
     requires fits { (l p : ℕ) → l < R.LANES → slice_index (lane l (labels_in R.labels labels.old)) p ≤ R.NEVER }
@@ -95,7 +96,7 @@ fn begin<R: Row>(labels: &mut [R], fallen: &mut [bool], bound: &[u32], base: u32
 }
 
 /// Lowers the labels of a stop to these times, and marks that stop alone.
-fn set_out<R: Row>(ride: &mut [R], marked: &mut [bool], stop: usize, times: R)
+fn set_out<R: LaneLabels>(ride: &mut [R], marked: &mut [bool], stop: usize, times: R)
     requires stop { stop < length ride.old }
     requires same { length marked.old ≡ length ride.old }
     ensures lanes { (l : ℕ) → l < R.LANES → Lowers (λ p x. (p ≡ stop)
@@ -110,7 +111,7 @@ fn set_out<R: Row>(ride: &mut [R], marked: &mut [bool], stop: usize, times: R)
 }
 
 /// Keeps the first lane as times.
-fn keep<R: Row>(kept: &mut [u32], labels: &[R], base: u32)
+fn keep<R: LaneLabels>(kept: &mut [u32], labels: &[R], base: u32)
     requires same { length labels.now ≡ length kept.old }
     requires base { base + R.NEVER ≤ NEVER_VALUE }
     requires fits { (p : ℕ) → slice_index (lane 0 (labels_in R.labels labels.now)) p ≤ R.NEVER }
@@ -126,18 +127,21 @@ fn keep<R: Row>(kept: &mut [u32], labels: &[R], base: u32)
     }
 }
 
-/// Keeps the first lane of both tables as times.
-fn keep_both<R: Row>(kept: &mut Kept, ride: &[R], ready: &[R], base: u32)
+/// Keeps the first lane of both lists as times, if they bound a batch that is yet to come.
+fn keep_both<R: LaneLabels>(kept: &mut Kept, ride: &[R], ready: &[R], base: u32, keeps: bool)
     requires ride { length ride.now ≡ length kept.old.ride.items }
     requires ready { length ready.now ≡ length kept.old.ready.items }
     requires base { base + R.NEVER ≤ NEVER_VALUE }
     requires ride_fits { (p : ℕ) → slice_index (lane 0 (labels_in R.labels ride.now)) p ≤ R.NEVER }
     requires ready_fits { (p : ℕ) → slice_index (lane 0 (labels_in R.labels ready.now)) p ≤ R.NEVER }
-    ensures ride { bounds_in base R.NEVER kept.new.ride.items ≡ lane 0 (labels_in R.labels ride.now) }
-    ensures ready { bounds_in base R.NEVER kept.new.ready.items ≡ lane 0 (labels_in R.labels ready.now) }
+    ensures ride { IsTrue keeps → bounds_in base R.NEVER kept.new.ride.items ≡ lane 0 (labels_in R.labels ride.now) }
+    ensures ready { IsTrue keeps →
+        bounds_in base R.NEVER kept.new.ready.items ≡ lane 0 (labels_in R.labels ready.now) }
 {
-    keep(kept.ride.as_mut_slice(), ride, base);
-    keep(kept.ready.as_mut_slice(), ready, base);
+    if keeps {
+        keep(kept.ride.as_mut_slice(), ride, base);
+        keep(kept.ready.as_mut_slice(), ready, base);
+    }
 }
 
 /// Departures side by side, and one that none of them is later than, whose labels bound theirs.
@@ -149,15 +153,96 @@ pub(crate) struct Batch<R> {
     pub departs: R,
     /// In seconds on the axis; `NEVER` where nothing bounds them.
     pub later: u32,
+    /// Whether the labels of the first departure bound a batch that is yet to come, and so are kept.
+    pub keeps: bool,
 }
 
-/// Fills in by when each stop is reached by a ride, and from when one may board there, for the departures of a batch at
-/// once. What was kept bounds them, and what is kept then are the times of the first of them.
-pub(crate) fn run_bounded<R: Row>(
+/// Begins the rounds of a batch: each departure sets out from the origin, and walks from there. What is kept of no ride
+/// bounds the labels, and then holds those of the first departure, if the batch keeps them.
+fn begin<R: LaneLabels>(
     query: Query<'_>,
     batch: Batch<R>,
     kept: &mut [Kept],
-    tables: &mut Tables<R>,
+    workspace: &mut Workspace<R>,
+)
+    requires asked { IsAsked query }
+    requires batch { IsBatch R.LANES R.NEVER R.labels batch }
+    requires many { length kept.old ≡ query.rides + 1 }
+    requires bounds { AreKept R.NEVER batch.base query.network.now (start_at query (cut batch.base R.NEVER batch.later))
+        query.rides kept.old }
+    requires workspace { IsWorkspaceFor query.network.now.stops query.lines.now workspace.old }
+    ensures workspace { IsWorkspaceFor query.entry.network.now.stops query.entry.lines.now workspace.new }
+    ensures labels { AreAfter R.LANES R.NEVER R.labels query.entry batch 0 workspace.new }
+    ensures kept { AreKeptAfter R.NEVER R.labels query.entry batch 0 kept.new }
+{
+    query.network.known();
+    let ride = workspace.ride.as_mut_slice();
+    let ready = workspace.ready.labels.as_mut_slice();
+    let before = workspace.ready.before.as_mut_slice();
+    let marked = workspace.marked.as_mut_slice();
+    let fallen = workspace.ready.fallen.as_mut_slice();
+    clear(ride);
+    clear(ready);
+    set_out(ride, marked, query.origin.0 as usize, batch.departs);
+    let none = &mut kept[0];
+    bound_ready(ready, fallen, none.ready.as_slice(), batch.base);
+    walk_marked(query.network.feet(), ride, marked, ready, fallen, before);
+    keep_both(none, ride, ready, batch.base, batch.keeps);
+}
+
+/// A round of a batch: one ride more, and then a change at the stop or a walk. What is kept of one ride more bounds the
+/// labels, and then holds those of the first departure, if the batch keeps them.
+fn ride_once<R: LaneLabels>(
+    query: Query<'_>,
+    batch: Batch<R>,
+    rides: usize,
+    kept: &mut [Kept],
+    workspace: &mut Workspace<R>,
+)
+    requires asked { IsAsked query }
+    requires short { All (λ row. length row ≤ R.NEVER) query.lines.now.lines }
+    requires batch { IsBatch R.LANES R.NEVER R.labels batch }
+    requires rides { rides < query.rides }
+    requires workspace { IsWorkspaceFor query.network.now.stops query.lines.now workspace.old }
+    requires labels { AreAfter R.LANES R.NEVER R.labels query batch rides workspace.old }
+    requires kept { AreKeptAfter R.NEVER R.labels query batch rides kept.old }
+    ensures workspace { IsWorkspaceFor query.entry.network.now.stops query.entry.lines.now workspace.new }
+    ensures labels { AreAfter R.LANES R.NEVER R.labels query.entry batch (rides + 1) workspace.new }
+    ensures kept { AreKeptAfter R.NEVER R.labels query.entry batch (rides + 1) kept.new }
+{
+    query.network.known();
+    let base = batch.base;
+    let ride = workspace.ride.as_mut_slice();
+    let ready = workspace.ready.labels.as_mut_slice();
+    let before = workspace.ready.before.as_mut_slice();
+    let marked = workspace.marked.as_mut_slice();
+    let fallen = workspace.ready.fallen.as_mut_slice();
+    let falls = workspace.falls.as_mut_slice();
+    let due = workspace.due.as_mut_slice();
+    let bound = &mut kept[rides + 1];
+    lower_to(ride, bound.ride.as_slice(), base);
+    marked.fill(false);
+    falls_of(before, ready, fallen, falls);
+    let labels = ReadyLabels { falls, ready };
+    let round = Round {
+        trips: query.network.trips(),
+        lines: query.lines,
+        labels,
+        base,
+    };
+    scan_lines(round, due, ride, marked);
+    bound_ready(ready, fallen, bound.ready.as_slice(), base);
+    transfer_marked(query.network.feet(), ride, marked, ready, fallen, before);
+    keep_both(bound, ride, ready, base, batch.keeps);
+}
+
+/// Fills in by when each stop is reached by a ride, and from when one may board there, for the departures of a batch at
+/// once. What was kept bounds them, and what is kept then, if the batch keeps it, are the times of the first of them.
+pub(crate) fn run_bounded<R: LaneLabels>(
+    query: Query<'_>,
+    batch: Batch<R>,
+    kept: &mut [Kept],
+    workspace: &mut Workspace<R>,
 )
     requires asked { IsAsked query }
     requires short { All (λ row. length row ≤ R.NEVER) query.lines.now.lines }
@@ -165,47 +250,19 @@ pub(crate) fn run_bounded<R: Row>(
     requires many { length kept.old ≡ query.rides + 1 }
     requires bounds { AreKept R.NEVER batch.base query.network.now (start_at query (cut batch.base R.NEVER batch.later))
         query.rides kept.old }
-    requires tables { AreTablesFor query.network.now.stops query.lines.now tables.old }
-    ensures tables { AreTablesFor query.entry.network.now.stops query.entry.lines.now tables.new }
+    requires workspace { IsWorkspaceFor query.network.now.stops query.lines.now workspace.old }
+    ensures workspace { IsWorkspaceFor query.entry.network.now.stops query.entry.lines.now workspace.new }
     ensures states { (l : ℕ) → l < R.LANES →
         LaneStateTo R.NEVER (cut_net batch.base R.NEVER query.entry.network.now)
         (start_at query.entry (slice_index (R.labels batch.departs) l)) query.entry.rides
-        (lane l (labels_in R.labels tables.new.ride.items)) (lane l (labels_in R.labels tables.new.ready.items)) }
+        (lane l (labels_in R.labels workspace.new.ride.items))
+        (lane l (labels_in R.labels workspace.new.ready.labels.items)) }
     ensures many { length kept.new ≡ query.entry.rides + 1 }
-    ensures kept { AreKept R.NEVER batch.base query.entry.network.now
+    ensures kept { IsTrue batch.keeps → AreKept R.NEVER batch.base query.entry.network.now
         (start_at query.entry (slice_index (R.labels batch.departs) 0)) query.entry.rides kept.new }
 {
-    query.network.known();
-    let base = batch.base;
-    let ride = tables.ride.as_mut_slice();
-    let ready = tables.ready.as_mut_slice();
-    let before = tables.before.as_mut_slice();
-    let marked = tables.marked.as_mut_slice();
-    let fallen = tables.fallen.as_mut_slice();
-    let falls = tables.falls.as_mut_slice();
-    let due = tables.due.as_mut_slice();
-    clear(ride);
-    clear(ready);
-    set_out(ride, marked, query.origin.0 as usize, batch.departs);
-    let none = &mut kept[0];
-    begin(ready, fallen, none.ready.as_slice(), base);
-    walk_marked(query.network.feet(), ride, marked, ready, fallen, before);
-    keep_both(none, ride, ready, base);
+    begin(query, batch, kept, workspace);
     for k in 0..query.rides as usize {
-        let bound = &mut kept[k + 1];
-        lower_to(ride, bound.ride.as_slice(), base);
-        marked.fill(false);
-        falls_of(before, ready, fallen, falls);
-        let labels = Labels { falls, ready };
-        let round = Round {
-            trips: query.network.trips(),
-            lines: query.lines,
-            labels,
-            base,
-        };
-        scan_lines(round, due, ride, marked);
-        begin(ready, fallen, bound.ready.as_slice(), base);
-        transfer_marked(query.network.feet(), ride, marked, ready, fallen, before);
-        keep_both(bound, ride, ready, base);
+        ride_once(query, batch, k, kept, workspace);
     }
 }

@@ -2,9 +2,9 @@
 //! Each round adds a ride to the journeys so far, on any trip, and then a change at the stop or a walk.
 //! (RAPTOR: Delling, Pajor, Werneck, Round-Based Public Transit Routing, ALENEX 2012.)
 //!
-//! - `minutes`: [`one_minute`], which alternates rides with changes and walks.
 //! - `window`: [`Window`], and [`durations`] for each of its minutes.
-//! - `search`: [`Search`], which serves one origin after another. `query`: what is asked of it. `tables`: its tables.
+//! - `search`: [`Search`], which serves one origin after another. `query`: what is asked of it. `workspace`: what it
+//!   works in.
 //! - `skipped`: which minutes of a window are searched, and the durations of the others.
 //! - `batches`: the searched minutes, so many at a time, from the last to the first.
 //! - `bounded`: the rounds of departures side by side, within the labels of a later one.
@@ -12,33 +12,35 @@
 //!   narrow labels tell all.
 //! - `scan`, `due`: a round of rides, line by line: the lines that serve a stop where a label fell, from there on.
 //! - `table`: [`Durations`], as a window gives them.
-//! - `steps`: what trips, changes and walks do to the labels of stops.
-//! - `laws`: [`durations_are_unique`], that a window has one table of durations, and why a round may leave trips out.
+//! - `plain`: [`one_minute`], which alternates rides with changes and walks, as the definitions have it. The program
+//!   doesn't call this plain form: a search gives the same durations, of all minutes of a window.
+//! - `laws`: [`durations_are_unique`], that a window has one table of durations; that plain forms agree with the
+//!   program's; and why a round may leave trips out.
 //!
 //! What a journey and a least duration are stands in `timetable`'s `specs/` (`Journeys`, `Least`), and what trips and
-//! footpaths offer to a stop in a round (`Steps`).
+//! footpaths offer to a stop in a round (`RoundSteps`).
 #![tactic(auto)]
 
 mod batches;
 mod bounded;
 mod due;
 mod laws;
-mod minutes;
+mod plain;
 mod query;
 mod scan;
 mod search;
 mod skipped;
-mod steps;
 mod table;
-mod tables;
 mod unreached;
 mod window;
+mod workspace;
 
 pub use laws::{
-    dead_lanes_ride_nothing, durations_are_unique, earlier_trips_serve, fallen_stops_suffice,
-    later_departures_bound_labels, skipped_departures_end_alike,
+    dead_lanes_ride_nothing, durations_are_those_of_departures, durations_are_unique,
+    earlier_trips_serve, fallen_stops_suffice, later_departures_bound_labels, rounds_carry_trips,
+    skipped_departures_end_alike,
 };
-pub use minutes::one_minute;
+pub use plain::one_minute;
 pub use search::Search;
 pub use table::Durations;
 pub use window::{MOST_MINUTES, MOST_RIDES, Window, durations, limits_are_as_stated};

@@ -1,11 +1,12 @@
 //! What is asked of a search.
 use crate::window::Window;
-use timetable::{Lines, Network, StopNo};
+use timetable::{Lines, Renumbered, StopNo};
 
 /// The least durations from a stop, for each departure of a window and journeys of at most so many rides.
 #[derive(Clone, Copy)]
 pub(crate) struct Query<'a> {
-    pub network: &'a Network,
+    /// With each stop by its number.
+    pub network: &'a Renumbered<'a>,
     /// The lines of the network.
     pub lines: &'a Lines,
     pub origin: StopNo,

@@ -1,6 +1,6 @@
 //! A round of rides, line by line, for departures side by side.
 ghost use Rattle.std.specs.Prelude.{◌≡◌, ℕ, ◌<◌, ◌≤◌, List, length, slice_index, slice_get, Some, replicate, All};
-ghost use Rattle.timetable.specs.Steps.{Lowers, CarriesAny};
+ghost use Rattle.timetable.specs.RoundSteps.{Lowers, CarriesAny};
 ghost use Rattle.timetable.specs.Lines.{AreLinesOf};
 ghost use Rattle.timetable.specs.declared.limits.TheConstants.{MOST_STOPS, MOST_TRIPS};
 ghost use Rattle.trip_lanes.specs.Lane.{lane, labels_in, MarksFallenOf};
@@ -8,11 +8,11 @@ ghost use Rattle.rounds.specs.Cut.{cut_trips};
 ghost use Rattle.rounds.specs.Scan.{CarriesLine, AreSized, AreCarried, AreCarriedOn};
 
 use crate::due::note_lines;
-use timetable::{Lines, NEVER, Trip};
-use trip_lanes::{Labels, LineView, Row, scan_line};
+use timetable::{Lines, NEVER, NumberedTrips};
+use trip_lanes::{LaneLabels, LineView, ReadyLabels, scan_line};
 
 /// Makes all labels NEVER.
-pub(crate) fn clear<R: Row>(labels: &mut [R])
+pub(crate) fn clear<R: LaneLabels>(labels: &mut [R])
     ensures { (l : ℕ) → l < R.LANES → lane l (labels_in R.labels labels.new) ≡ replicate (length labels.old) R.NEVER }
 {
     for stop in 0..labels.len() {
@@ -23,16 +23,16 @@ pub(crate) fn clear<R: Row>(labels: &mut [R])
 /// What a round of rides goes by: from when one may board at each stop, and how far this fell.
 #[derive(Clone, Copy)]
 pub(crate) struct Round<'a, 'b, R> {
-    pub trips: &'a [Trip],
+    pub trips: &'a NumberedTrips<'a>,
     pub lines: &'a Lines,
-    pub labels: Labels<'b, R>,
+    pub labels: ReadyLabels<'b, R>,
     /// From when on labels count, in seconds on the axis.
     pub base: u32,
 }
 
 /// Carries travellers along the trips of a line: at least who is ready by a departure and was not before. Nobody newly
 /// catches a trip of it before the first position.
-fn scan_trips<R: Row>(
+fn scan_trips<R: LaneLabels>(
     round: Round<'_, '_, R>,
     line: u32,
     first: usize,
@@ -71,7 +71,7 @@ fn scan_trips<R: Row>(
 }
 
 /// Carries travellers line by line, along at least the trips that they newly catch.
-pub(crate) fn scan_lines<R: Row>(
+pub(crate) fn scan_lines<R: LaneLabels>(
     round: Round<'_, '_, R>,
     due: &mut [u32],
     ride: &mut [R],

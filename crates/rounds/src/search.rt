@@ -1,12 +1,11 @@
-//! A search: the tables that a window's durations are found with, made once and used for one origin after another.
-ghost use Rattle.std.specs.Prelude.{◌≡◌, ℕ, ◌+◌, ◌*◌, ◌<◌, ◌≤◌, ◌↔◌, IsTrue, length, slice_index, All, IfOk, OnOk};
-ghost use Rattle.timetable.specs.declared.limits.TheConstants.{END_OF_AXIS, MOST_FOOT_SECONDS};
+//! A search: the workspaces that a window's durations are found in, made once and used for one origin after another.
+ghost use Rattle.std.specs.Prelude.{◌+◌, ◌*◌, ◌<◌, ◌≤◌, ◌↔◌, IsTrue, length, All, IfOk, OnOk};
 ghost use Rattle.timetable.specs.declared.least.TheConstants.{NEVER as NEVER_VALUE};
 ghost use Rattle.trip_lanes.specs.declared.lanes.TheConstants.{LANES as LANES_VALUE};
 ghost use Rattle.useful_minutes.specs.Plan.{IsPlan, SkipsNothing};
-ghost use Rattle.rounds.specs.Batches.{AreLabels, ArePacked, AreDeadFrom};
-ghost use Rattle.rounds.specs.Last.{AreLastFrom};
+ghost use Rattle.rounds.specs.Batches.{AreLabels};
 ghost use Rattle.rounds.specs.Query.{IsAsked};
+ghost use Rattle.rounds.specs.Searches.{AreFound, AreLast, HaveRoom, IsSearch};
 ghost use Rattle.rounds.specs.Table.{batches_of};
 ghost use Rattle.rounds.specs.Window.{Fits, AreDurations};
 ghost use Rattle.rounds.specs.declared.window.TheConstants.{MOST_RIDES};
@@ -15,25 +14,25 @@ use crate::batches::run_window;
 use crate::query::Query;
 use crate::skipped::{fill_skipped, plan_of};
 use crate::table::Durations;
-use crate::tables::Tables;
 use crate::window::{Window, longest};
+use crate::workspace::Workspace;
 use std::alloc::{AllocError, Global};
 use timetable::{NEVER, Network, StopNo};
-use trip_lanes::{LANES, Lanes, Narrow, Row};
+use trip_lanes::{LANES, LaneLabels, Lanes, Narrow};
 
 /// The most searches that use wide labels at once, after several in a row that narrow labels could not represent.
 const MOST_AT_ONCE: u32 = 15;
 
-/// The tables of a search: labels and marks, of each stop or line.
+/// The workspaces of a search: labels and marks, of each stop or line.
 ///
 /// They grow when a network is searched for the first time, and then serve each origin and window of it: what they hold
-/// from before doesn't matter. One search serves any network, and the tables are made anew where its size is another.
+/// from before doesn't matter. One search serves any network, and makes its workspaces anew where the size is another.
 #[derive(Drop)]
 pub struct Search {
     /// Of labels that reach some eighteen hours.
-    narrow: Tables<Narrow>,
+    narrow: Workspace<Narrow>,
     /// Of labels that reach as far as times go; they grow when the others don't do.
-    wide: Tables<Lanes>,
+    wide: Workspace<Lanes>,
     /// How many searches still use wide labels at once.
     wide_left: u32,
     /// How many will after the next search that narrow labels cannot represent.
@@ -41,11 +40,11 @@ pub struct Search {
 }
 
 impl Search {
-    /// A search with empty tables.
+    /// A search with empty workspaces.
     pub fn new(alloc: Global) -> Self {
         Search {
-            narrow: Tables::new(alloc),
-            wide: Tables::new(alloc),
+            narrow: Workspace::new(alloc),
+            wide: Workspace::new(alloc),
             wide_left: 0,
             at_once: 0,
         }
@@ -69,20 +68,23 @@ impl Search {
         ensures { IfOk result (λ durations. AreDurations network.now origin.0 window rides durations) }
     {
         network.known();
-        let plan = plan_of(alloc, network, origin, window)?;
+        let (renumbered, numbers) = network.renumbered();
+        let origin = StopNo(numbers[origin.0 as usize]);
+        let plan = plan_of(alloc, &renumbered, origin, window)?;
         let searched = plan.minutes.as_slice();
         let positions = plan.positions.as_slice();
         let waits = plan.waits.as_slice();
         let query = Query {
-            network,
-            lines: network.lines(),
+            network: &renumbered,
+            lines: renumbered.lines(),
             origin,
             window,
             searched,
             rides,
         };
         let labels = self.all_labels(alloc, query, positions, waits)?;
-        Ok(Durations::new(network.stops(), window.minutes, labels))
+        let numbers = numbers.to_vec(alloc)?;
+        Ok(Durations::new(network.stops(), window.minutes, numbers, labels))
     }
 
     /// The least durations of all minutes of a window, sixteen minutes side by side for each stop.
@@ -110,8 +112,7 @@ impl Search {
     /// all minutes: by narrow labels where these are tried and tell all, and else by wide ones.
     fn labels_of(&mut self, alloc: Global, query: Query<'_>) -> Result<Vec<Lanes>, AllocError>
         requires { IsAsked query }
-        ensures { IfOk result (λ labels. ArePacked query.entry.network.now query.entry.origin.0 query.entry.window
-            query.entry.rides query.entry.searched.now labels.items) }
+        ensures { IfOk result (λ labels. AreFound query.entry labels.items) }
     {
         query.network.known();
         let stops = query.network.stops() as usize;
@@ -123,8 +124,8 @@ impl Search {
         Ok(labels)
     }
 
-    /// Writes the least durations of the searched minutes: by narrow labels where these are tried and tell all, and else
-    /// by wide ones.
+    /// Writes the least durations of the searched minutes: by narrow labels where these are tried and tell all, and
+    /// else by wide ones.
     fn write(
         &mut self,
         alloc: Global,
@@ -133,16 +134,10 @@ impl Search {
         last: &mut [u32],
         labels: &mut [Lanes],
     ) -> Result<(), AllocError>
-        requires asked { IsAsked query }
+        requires search { IsSearch NEVER_VALUE query last.old }
         requires most { All (λ row. length row ≤ most) query.lines.now.lines }
-        requires short { All (λ row. length row ≤ NEVER_VALUE) query.lines.now.lines }
-        requires last { AreLastFrom query.network.now query.origin.0 query.window.first query.rides last.old }
-        requires few { (p : ℕ) → slice_index last.old p ≤ END_OF_AXIS + MOST_FOOT_SECONDS }
-        requires labels { length labels.old ≡ query.network.now.stops * batches_of query.window.minutes }
-        requires dead { AreDeadFrom query.network.now.stops (length query.searched.now) query.window.minutes
-            labels.old }
-        ensures { OnOk result (ArePacked query.entry.network.now query.entry.origin.0 query.entry.window
-            query.entry.rides query.entry.searched.now labels.new) }
+        requires room { HaveRoom query labels.old }
+        ensures { OnOk result (AreFound query.entry labels.new) }
     {
         if are_ranked::<Narrow>(most) && is_narrow_turn(&mut self.wide_left) {
             if by_narrow(alloc, query, &mut self.narrow, &mut self.wide, last, labels)? {
@@ -157,7 +152,7 @@ impl Search {
 }
 
 /// Whether labels have a number for each rank of so many trips, beside that of who rides none.
-fn are_ranked<R: Row>(trips: usize) -> bool
+fn are_ranked<R: LaneLabels>(trips: usize) -> bool
     ensures { IsTrue result ↔ (trips ≤ R.NEVER) }
 {
     trips <= R::NEVER as usize
@@ -182,52 +177,37 @@ fn more_at_once(count: u32) -> u32 {
 fn by_narrow(
     alloc: Global,
     query: Query<'_>,
-    tables: &mut Tables<Narrow>,
-    beside: &mut Tables<Lanes>,
+    workspace: &mut Workspace<Narrow>,
+    wide: &mut Workspace<Lanes>,
     last: &mut [u32],
     labels: &mut [Lanes],
 ) -> Result<bool, AllocError>
-    requires asked { IsAsked query }
-    requires short { All (λ row. length row ≤ 65535) query.lines.now.lines }
-    requires last { AreLastFrom query.network.now query.origin.0 query.window.first query.rides last.old }
-    requires few { (p : ℕ) → slice_index last.old p ≤ END_OF_AXIS + MOST_FOOT_SECONDS }
-    requires labels { length labels.old ≡ query.network.now.stops * batches_of query.window.minutes }
-    requires dead { AreDeadFrom query.network.now.stops (length query.searched.now) query.window.minutes labels.old }
-    ensures same { length labels.new ≡ length labels.old }
-    ensures dead { AreDeadFrom query.entry.network.now.stops (length query.entry.searched.now)
-        query.entry.window.minutes labels.new }
-    ensures last { OnOk result (AreLastFrom query.entry.network.now query.entry.origin.0 query.entry.window.first
-        query.entry.rides last.new) }
-    ensures few { (p : ℕ) → slice_index last.new p ≤ END_OF_AXIS + MOST_FOOT_SECONDS }
-    ensures told { IfOk result (λ told. IsTrue told →
-        ArePacked query.entry.network.now query.entry.origin.0 query.entry.window query.entry.rides
-        query.entry.searched.now labels.new) }
+    requires search { IsSearch 65535 query last.old }
+    requires room { HaveRoom query labels.old }
+    ensures last { OnOk result (AreLast query.entry last.new) }
+    ensures room { HaveRoom query.entry labels.new }
+    ensures told { IfOk result (λ told. IsTrue told → AreFound query.entry labels.new) }
 {
     query.network.known();
-    tables.fit(alloc, query.network.stops() as usize, query.lines)?;
-    run_window(alloc, query, tables, beside, last, labels)
+    workspace.fit(alloc, query.network.stops() as usize, query.lines)?;
+    run_window(alloc, query, workspace, wide, last, labels)
 }
 
 /// Writes the least durations of the searched minutes by wide labels, which tell all of them.
 fn by_wide(
     alloc: Global,
     query: Query<'_>,
-    tables: &mut Tables<Lanes>,
+    workspace: &mut Workspace<Lanes>,
     last: &mut [u32],
     labels: &mut [Lanes],
 ) -> Result<(), AllocError>
-    requires asked { IsAsked query }
-    requires short { All (λ row. length row ≤ NEVER_VALUE) query.lines.now.lines }
-    requires last { AreLastFrom query.network.now query.origin.0 query.window.first query.rides last.old }
-    requires few { (p : ℕ) → slice_index last.old p ≤ END_OF_AXIS + MOST_FOOT_SECONDS }
-    requires labels { length labels.old ≡ query.network.now.stops * batches_of query.window.minutes }
-    requires dead { AreDeadFrom query.network.now.stops (length query.searched.now) query.window.minutes labels.old }
-    ensures { OnOk result (ArePacked query.entry.network.now query.entry.origin.0 query.entry.window query.entry.rides
-        query.entry.searched.now labels.new) }
+    requires search { IsSearch NEVER_VALUE query last.old }
+    requires room { HaveRoom query labels.old }
+    ensures { OnOk result (AreFound query.entry labels.new) }
 {
     query.network.known();
-    tables.fit(alloc, query.network.stops() as usize, query.lines)?;
-    let mut none = Tables::new(alloc);
-    run_window(alloc, query, tables, &mut none, last, labels)?;
+    workspace.fit(alloc, query.network.stops() as usize, query.lines)?;
+    let mut none = Workspace::new(alloc);
+    run_window(alloc, query, workspace, &mut none, last, labels)?;
     Ok(())
 }

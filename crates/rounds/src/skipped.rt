@@ -10,14 +10,14 @@ ghost use Rattle.rounds.specs.Window.{Fits};
 use crate::query::Query;
 use crate::window::Window;
 use std::alloc::{AllocError, Global};
-use timetable::{NEVER, Network, StopNo};
+use timetable::{Renumbered, StopNo};
 use trip_lanes::{LANES, Lanes};
 use useful_minutes::{Plan, fill_in, plan_for, walk_alone};
 
 /// Which minutes of a window are searched from an origin, and which of them stands in for each minute.
 pub(crate) fn plan_of(
     alloc: Global,
-    network: &Network,
+    network: &Renumbered<'_>,
     origin: StopNo,
     window: Window,
 ) -> Result<Plan, AllocError>
@@ -65,10 +65,8 @@ pub(crate) fn fill_skipped(
         return Ok(());
     }
     let batches = (minutes + (LANES - 1)) / LANES;
-    let mut near = vec![in alloc; NEVER; LANES * batches]?;
-    let room = near.as_mut_slice();
     let stops = query.network.stops() as usize;
-    fill_in(labels, room, positions, waits, stops);
+    fill_in(alloc, labels, positions, waits, query.searched.len(), stops)?;
     walk_alone(labels, query.network, query.origin, batches, minutes);
     Ok(())
 }

@@ -1,10 +1,10 @@
-mod Shifting
+mod ShiftBounds
 mod MovedEvents
 mod KeptRuns
-mod Fitting
+mod RunsTooLarge
 mod MovedTrips
 mod AddedShift
-mod Ranges
+mod MovedRanges
 mod RowRanges
 mod TripRanges
 mod LastShifts

@@ -1,4 +1,4 @@
--- What is true of the trips that are made of runs: stops in range, times that never fall, and all of them on the axis.
+-- What is true of the trips of runs: stops in range, times that never fall, and all of them on the axis.
 use Rattle.std.proofs.Common.{◌≡◌, ◌∙◌, ◌<◌, ◌≤◌, ◌+◌, ◌&&◌, ℕ, zero, suc, ℤ, pos, negsuc, ◌+ℤ◌, Bool, true, false, not}
 use Rattle.std.proofs.Common.{if◌then◌else◌, List, [], ◌∷◌, Option, Some, None, length, map, get_or, ap, sym, subst}
 use Rattle.std.proofs.Common.{refl, arith}
@@ -23,7 +23,7 @@ use Rattle.gtfs_tables.specs.declared.trip.FeedTrip.{FeedTrip}
 use Rattle.gtfs_tables.specs.Feed.{FeedData, IsFeed}
 use Rattle.service_days.specs.Instances.{has_rows, instance_events}
 use Rattle.service_days.specs.declared.run.Run.{Run}
-use Rattle.service_days.proofs.Running.{all_parts}
+use Rattle.service_days.proofs.RunFacts.{all_parts}
 use Rattle.scenarios.specs.Edits.{keeps_of}
 use Rattle.scenarios.specs.Networks.{are_few, are_on_axis, fits, is_event_on_axis, is_on_axis, kept_trip, moved_event}
 use Rattle.scenarios.specs.Networks.{moved_time, moved_trip, stays, sum_of, trips_of}

@@ -13,7 +13,7 @@ use Rattle.table_files.specs.declared.frequencies.Departures.{Departures}
 use Rattle.service_days.specs.Instances.{departures_of}
 use Rattle.scenarios.specs.ShiftedTimes.{begins_in_range, ends_in_range, is_departure_in_range}
 use Rattle.scenarios.proofs.KeptRuns.{and_false}
-use Rattle.scenarios.proofs.Ranges.{begins_later, ends_earlier}
+use Rattle.scenarios.proofs.MovedRanges.{begins_later, ends_earlier}
 
 pub list_all-filter : {A : Type 0} (p q : A → Bool) (xs : List A) →
     list_all q (filter p xs) ≡ list_all (λ x. not (p x) || q x) xs

@@ -20,7 +20,7 @@ use Rattle.scenarios.specs.declared.edits.TheConstants.{END_OF_TIMES}
 use Rattle.scenarios.proofs.KeptRuns.{and_false}
 use Rattle.scenarios.proofs.MovedEvents.{same_length}
 use Rattle.scenarios.proofs.MovedTrips.{rises_arriving}
-use Rattle.scenarios.proofs.Ranges.{begins_later, ends_earlier}
+use Rattle.scenarios.proofs.MovedRanges.{begins_later, ends_earlier}
 use Rattle.scenarios.proofs.RowRanges.{from_all}
 
 -- events that rise

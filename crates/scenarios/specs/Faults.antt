@@ -10,6 +10,6 @@ use Rattle.scenarios.specs.declared.faults.ScenarioWhat.TheVariants as what
 abbrev pub when : Bool → ScenarioWhat → List ScenarioWhat
 when bad w = if bad then w ∷ [] else []
 
--- what may be told: the first fault, or that there was no memory
+-- what may be returned: the first fault, or that there was no memory
 abbrev pub Tells : ScenarioFault → List ScenarioFault → Type 0
 Tells e faults = (e.what ≡ what.Memory) ⊎ IsFirst e faults

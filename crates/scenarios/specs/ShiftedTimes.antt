@@ -31,7 +31,7 @@ stays_in_range seconds time = begins_in_range seconds time && ends_in_range seco
 abbrev pub is_event_in_range : ℤ → Event → Bool
 is_event_in_range seconds e = stays_in_range seconds e.arrive && stays_in_range seconds e.depart
 
--- a departure at a time is, where the trip ends so many seconds after it
+-- a departure at a time is, where the trip ends `length` seconds after it
 abbrev pub is_departure_in_range : ℤ → ℕ → ℕ → Bool
 is_departure_in_range seconds length time = begins_in_range seconds time && ends_in_range seconds (time + length)
 

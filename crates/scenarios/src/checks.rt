@@ -1,4 +1,4 @@
-//! What is checked of a scenario's file, as data: proved to explain the faults that its reader tells.
+//! What is checked of a scenario's file, as data: proved to explain the faults that its reader returns.
 ghost use Rattle.std.specs.Prelude.{◌≡◌, ℕ, List, map};
 ghost use Rattle.gtfs_tables.specs.Feed.{FeedData};
 ghost use Rattle.scenarios.specs.Checks.{AreExplained};
@@ -47,7 +47,7 @@ pub(crate) const CHECKS: EditChecks = EditChecks {
     ],
 };
 
-/// What is checked of a scenario's file, beside its limit: each fault of a record is that of a check.
+/// What is checked of a scenario's file, apart from its limit: each fault of a record is that of a check.
 pub fn edit_checks() -> EditChecks
     ensures required { map (λ name. name.now) result.required.now ≡ spec.required }
     ensures explains { (feed : FeedData) (at : ℕ) (header fields : List (List ℕ))

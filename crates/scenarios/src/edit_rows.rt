@@ -1,4 +1,4 @@
-//! The records of a scenario's file: which edit each of them makes.
+//! The records of a scenario's file: which edit each of them states.
 ghost use Rattle.std.specs.Prelude.{◌≡◌, ◌≤◌, ◌≤ℤ◌, [], IfErr, IfOk, IfSome, Some, neg_ℤ, pos};
 ghost use Rattle.csv.specs.Records.{fields_of};
 ghost use Rattle.table_records.specs.Faults.{IsFirst};
@@ -41,7 +41,7 @@ pub(crate) fn columns_in(header: &ByteRecord) -> EditColumns
     }
 }
 
-/// The edit that the record with a number makes, or the first thing that is wrong with it.
+/// The edit that the record with a number states, or the first fault of the record.
 pub(crate) fn edit_in(
     feed: &Feed,
     columns: EditColumns,

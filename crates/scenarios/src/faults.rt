@@ -1,5 +1,5 @@
 //! What can be wrong with the file of a scenario, and where.
-//! Only the first fault is told: the least by record, then by check; shifted times are looked at after the last record.
+//! Only the first fault is reported: the least by record, then by check; shifted times are checked last.
 ghost use Rattle.std.specs.Prelude.{◌≡◌};
 
 use std::alloc::{AllocError, AllocFailed};
@@ -50,7 +50,7 @@ impl ScenarioFault {
         }
     }
 
-    // Out of memory, which no record is the cause of.
+    /// Out of memory, which is no record's fault.
     fn memory() -> ScenarioFault
         ensures { result.what ≡ Memory }
     {

@@ -22,8 +22,8 @@ use table_records::{HeaderFault, OpenTable, RecordTaker, open_records, take_reco
 /// first two are required, and a record for each edit. The actions are `remove_route`, `remove_trip` and `shift_trip`.
 ///
 /// The seconds of a shift are read without the spaces around them; other actions don't read theirs. A trip that several
-/// records shift moves by their sum. What is refused is told by the record, counted from 1 with the header: the first
-/// record that is bad; else, of the trips whose times the shifts bring below 0 or past 1,999,999 seconds, the first
+/// records shift moves by their sum. A fault names the record, counted from 1 with the header: the first record that
+/// is bad; else, of the trips whose times the shifts bring below 0 or past 1,999,999 seconds, the first
 /// that is shifted for the last time. The bytes are at most 2^30, the limit of an input file.
 pub fn read_scenario(
     alloc: Global,
@@ -59,7 +59,7 @@ fn read_edits(
         columns: columns_in(&file.header),
         feed,
     };
-    let read = take_records(alloc, &taker, scenario, &mut file.rows);
+    let read = take_records(alloc, &taker, scenario, &mut file.records);
     drop(file);
     read?;
     check_times(alloc, feed, scenario)
@@ -69,8 +69,8 @@ fn read_edits(
 fn open_file<'a>(alloc: Global, bytes: &'a [u8]) -> Result<OpenTable<'a>, ScenarioFault>
     requires { length bytes.now ≤ MOST_BYTES }
     ensures columns { IfOk result (λ _. lacks_column required (records_of bytes.now) ≡ false) }
-    ensures records { IfOk result (λ t. records_of bytes.now ≡ fields_of t.header ∷ t.rows) }
-    ensures few { IfOk result (λ t. length t.rows ≤ MOST_BYTES) }
+    ensures records { IfOk result (λ t. records_of bytes.now ≡ fields_of t.header ∷ t.records) }
+    ensures few { IfOk result (λ t. length t.records ≤ MOST_BYTES) }
     ensures fault { IfErr result (λ e. (e.what ≡ Memory)
         ⊎ ((lacks_column required (records_of bytes.now) ≡ true) × (e ≡ missing_column))) }
 {

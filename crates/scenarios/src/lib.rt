@@ -1,4 +1,4 @@
-//! Scenarios: which trips of a feed are kept, by how much their times are shifted, and the networks that this makes.
+//! Scenarios: which trips of a feed are kept, by how much their times are shifted, and the networks that result.
 //!
 //! - `scenario`: [`Scenario`] and [`base`], the scenario without edits.
 //! - `files`: [`read_scenario`], the scenario that a file says, or its first [`ScenarioFault`].
@@ -9,7 +9,7 @@
 //!   by route, and `name` the scenario's name.
 //! - `faults`: why a scenario file is refused; `checks`: what is checked of its fields, as data.
 //!
-//! `specs/Edits` says what the rows of a scenario do to a trip, `specs/Networks` which network they make of runs, and
+//! `specs/Edits` says what the rows of a scenario do to a trip, `specs/Networks` which network they give of runs, and
 //! `specs/Files` which edits a file says, with all its faults.
 #![tactic(auto)]
 

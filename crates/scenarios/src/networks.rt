@@ -22,7 +22,7 @@ use timetable::{Feet, NetFault, Network, Trip};
 ///
 /// The runs and the footpaths are of the feed; the runs may be those of any number of days. `TooLarge` where a time is
 /// then past the axis, 16,777,216 seconds, or where the network has more than 1,000,000 trips or 8,000,000 events,
-/// before they are made; `Memory` where memory ran out.
+/// before they are listed; `Memory` where memory ran out.
 pub fn network_of(
     alloc: Global,
     feed: &Feed,

@@ -1,4 +1,4 @@
-//! Values by the number of a route or trip. Past the end of a list stands what no edit has changed.
+//! Values by the number of a route or trip. Past the end of a list each has its first value: no edit has changed it.
 ghost use Rattle.std.specs.Prelude.{◌≡◌, ◌<◌, ◌==◌, ◌||◌, ◌+ℤ◌, ℕ, OnOk, pos, false, slice_index_or, vec_len};
 ghost use Rattle.std.specs.Prelude.{if◌then◌else◌};
 ghost use Rattle.scenarios.specs.Moving.{IsSum};
@@ -33,7 +33,7 @@ pub(crate) fn add_shift(shifts: &mut Vec<i64>, number: u32, seconds: i64)
     shifts[number as usize] += seconds;
 }
 
-/// Makes a list long enough to have a number. What stands past its end doesn't change by that.
+/// Makes a list long enough to have a number. No value changes: those past its end were `none`.
 pub(crate) fn make_room<T: Copy>(items: &mut Vec<T>, number: u32, none: T) -> Result<(), AllocError>
     ensures there { OnOk result (number < vec_len items.new) }
     ensures same { (k : ℕ) → slice_index_or items.new.items k none ≡ slice_index_or items.old.items k none }

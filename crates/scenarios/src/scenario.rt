@@ -101,7 +101,7 @@ impl Scenario {
         }
     }
 
-    // Adds the removal of a route.
+    /// Adds the removal of a route.
     fn remove_route(&mut self, route: u32) -> Result<(), AllocError>
         requires { length self.old.edits < MOST_EDITS }
         ensures good { OnOk result (self.new ≡ record self.old {
@@ -116,7 +116,7 @@ impl Scenario {
         Ok(())
     }
 
-    // Adds the removal of a trip.
+    /// Adds the removal of a trip.
     fn remove_trip(&mut self, trip: u32) -> Result<(), AllocError>
         requires { length self.old.edits < MOST_EDITS }
         ensures good { OnOk result (self.new ≡ record self.old {
@@ -131,7 +131,7 @@ impl Scenario {
         Ok(())
     }
 
-    // Adds a shift of a trip, whose seconds come to those of its other shifts.
+    /// Adds a shift of a trip, whose seconds come to those of its other shifts.
     fn shift_trip(&mut self, trip: u32, seconds: i64) -> Result<(), AllocError>
         requires few { length self.old.edits < MOST_EDITS }
         requires low { neg_ℤ (pos 604799) ≤ℤ seconds }

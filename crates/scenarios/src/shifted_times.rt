@@ -103,7 +103,7 @@ fn is_in_range(trip: &FeedTrip, seconds: i64) -> bool
     are_rows_in_range(rows, last.depart - first.depart, seconds)
 }
 
-/// Whether the departures of frequency rows stay in range; a trip ends so many seconds after it departs.
+/// Whether the departures of frequency rows stay in range; a trip ends `length` seconds after it departs.
 fn are_rows_in_range(rows: &[Departures], length: u32, seconds: i64) -> bool
     requires seconds { IsSum seconds }
     requires length { length ≤ 604799 }

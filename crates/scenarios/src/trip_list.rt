@@ -1,4 +1,4 @@
-//! The trips of a network that were made so far.
+//! The trips of a network that were found so far.
 ghost use Rattle.std.specs.Prelude.{◌≡◌, ◌+◌, ◌<◌, ◌≤◌, ◌++◌, ◌∷◌, ◌↔◌, [], IsTrue, OnOk, IfErr, length, sum_by, true};
 ghost use Rattle.timetable.specs.declared.limits.TheConstants.{MOST_EVENTS, MOST_TRIPS};
 ghost use Rattle.timetable.specs.declared.faults.NetFault.TheVariants as net_fault;
@@ -40,7 +40,7 @@ impl TripList {
         }
     }
 
-    /// Whether there is room for one more trip, which has so many events.
+    /// Whether there is room for one more trip, which has `events` events.
     pub(crate) fn has_room(&self, events: usize) -> bool
         ensures { IsTrue result ↔ ((length self.now < MOST_TRIPS)
             × (sum_by (λ t. length t.events) self.now + events ≤ MOST_EVENTS)) }

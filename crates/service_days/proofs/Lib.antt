@@ -1,4 +1,4 @@
-mod Marking
-mod Listing
-mod Departing
-pub mod Running
+mod ServiceMarks
+mod RunLists
+mod DepartureCounts
+pub mod RunFacts

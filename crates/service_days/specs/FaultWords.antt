@@ -1,4 +1,4 @@
--- The words that tell a fault.
+-- The words of a fault.
 use Rattle.std.specs.Prelude.{ℕ, List, codes}
 use Rattle.service_days.specs.declared.fault.DayFault.{DayFault}
 use Rattle.service_days.specs.declared.fault.DayFault.TheVariants.{DateRange, TooMany, Memory}

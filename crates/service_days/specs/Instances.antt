@@ -66,7 +66,7 @@ runs_of_day feed day base = flat_map (λ (at : ℕ × FeedTrip). runs_if feed da
 abbrev pub runs_of_days : FeedData → ℕ → ℕ → List Run
 runs_of_days feed first days = flat_map (λ x. runs_of_day feed (first + x) (86400 * x)) (range_with_len 0 days)
 
--- the runs from so many days before a day to so many after it
+-- the runs from `back` days before a day to `ahead` days after it
 abbrev pub runs_of : FeedData → ℕ → ℕ → ℕ → List Run
 runs_of feed day back ahead = runs_of_days feed (day - back) (back + ahead + 1)
 
@@ -80,7 +80,7 @@ day_faults feed day back ahead =
     (if is_out_of_range day back ahead then DateRange ∷ [] else [])
     ++ (if nat_lt MOST_RUNS (length (runs_of feed day back ahead)) then TooMany ∷ [] else [])
 
--- why a list of n runs isn't made
+-- why a list of n runs is refused
 abbrev pub IsListFault : DayFault → ℕ → Type 0
 IsListFault DateRange n = ⊥
 IsListFault TooMany n = MOST_RUNS < n

@@ -26,7 +26,7 @@ use std::alloc::Global;
 /// of rows that overlap all of them. A trip without events never runs. (GTFS Schedule reference, `frequencies.txt`.)
 ///
 /// `DateRange` where one of the days is outside the calendar's years; else `TooMany` past 1,000,000 runs, before they
-/// are made; `Memory` where memory ran out.
+/// are listed; `Memory` where memory ran out.
 pub fn active(
     alloc: Global,
     feed: &Feed,

@@ -1,10 +1,10 @@
-mod AllStops
-mod Attaining
-mod Counting
+mod CellsOfAllStops
+mod MinutesWithinLimits
+mod MinutesCounted
 mod Masks
-mod Narrowing
-mod Ranking
-mod Planed
-mod Summing
-pub mod There
-pub mod Unique
+mod RankBitByBit
+mod RankAmongMinutes
+mod RankIsCell
+mod AccessByStops
+pub mod CellsExist
+pub mod CellsUnique

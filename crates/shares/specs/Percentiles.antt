@@ -6,7 +6,7 @@ use Rattle.std.specs.Global.{Global}
 use Rattle.timetable.specs.declared.least.TheConstants.{NEVER}
 use Rattle.timetable.specs.declared.trips.StopNo.{StopNo}
 use Rattle.rounds.specs.declared.window.TheConstants.{MOST_MINUTES}
-use Rattle.rounds.specs.Table.{Times, at, batches_of, known_of, label_in, IsLeastOrNone}
+use Rattle.rounds.specs.Table.{DurationTable, at, batches_of, known_of, label_in, IsLeastOrNone}
 use Rattle.trip_lanes.specs.declared.lanes.TheConstants.{LANES}
 
 -- a minute without a duration has none that is at most d
@@ -24,29 +24,30 @@ abbrev pub Attains : (ℕ → Option ℕ) → ℕ → ℕ → ℕ → Type 0
 Attains of_minute n share d = share * n ≤ 100 * minutes_within of_minute d n
 
 -- the cell is the least duration that attains the share, or none where none does
-abbrev pub IsCell : Times → ℕ → ℕ → Option ℕ → Type 0
+abbrev pub IsCell : DurationTable → ℕ → ℕ → Option ℕ → Type 0
 IsCell t share p cell = IsLeastOrNone (Attains (λ m. at t p m) t.minutes share) cell
 
 -- one cell per stop
-pub record AreCells (t : Times) (share : ℕ) (cells : List (Option ℕ)) : Type 0 where
+pub record AreCells (t : DurationTable) (share : ℕ) (cells : List (Option ℕ)) : Type 0 where
   pub stops : length cells ≡ t.stops
   pub each : (p : ℕ) → p < t.stops → IsCell t share p (slice_index_or cells p None)
 
 -- one cell per destination, in the destinations' order
-pub record AreCellsAt (t : Times) (destinations : List StopNo) (share : ℕ) (cells : List (Option ℕ)) : Type 0 where
+pub record AreCellsAt (t : DurationTable) (destinations : List StopNo) (share : ℕ) (cells : List (Option ℕ)) :
+    Type 0 where
   pub count : length cells ≡ length destinations
   pub each : (k : ℕ) (stop : StopNo) → slice_get destinations k ≡ Some stop →
       IsCell t share stop.0 (slice_index_or cells k None)
 
 -- one list of cells per share, in the shares' order: the cells of all stops
-pub record AreCellsOf (t : Times) (shares : List ℕ) (lists : List (Vec (Option ℕ) Global)) : Type 0 where
+pub record AreCellsOf (t : DurationTable) (shares : List ℕ) (lists : List (Vec (Option ℕ) Global)) : Type 0 where
   pub count : length lists ≡ length shares
   pub each : (k share : ℕ) (cells : Vec (Option ℕ) Global) → slice_get shares k ≡ Some share →
       slice_get lists k ≡ Some cells →
       AreCells t share cells.items
 
 -- the same with the cells of the destinations
-pub record AreCellsOfAt (t : Times) (destinations : List StopNo) (shares : List ℕ)
+pub record AreCellsOfAt (t : DurationTable) (destinations : List StopNo) (shares : List ℕ)
     (lists : List (Vec (Option ℕ) Global)) : Type 0 where
   pub count : length lists ≡ length shares
   pub each : (k share : ℕ) (cells : Vec (Option ℕ) Global) → slice_get shares k ≡ Some share →

@@ -3,8 +3,8 @@
 //! at the stops whose cell is within a limit: at all stops, whichever are destinations.
 //!
 //! - `percentiles`: [`cell`], [`cells`] of all stops, and [`cells_at`] some destinations.
-//! - `ranks`: [`cells_of`] and [`cells_of_at`], the same for several shares at once; `planes` finds the label of a rank,
-//!   bit by bit.
+//! - `ranks`: [`cells_of`] and [`cells_of_at`], the same for several shares at once; `planes` finds the label of a
+//!   rank, bit by bit.
 //! - `opportunities`: [`access`] of cells, and [`access_at`], which needs no cells: it counts minutes.
 //! - `laws`: [`cells_are_unique`], that a share of durations has one list of cells.
 //!

@@ -1,6 +1,7 @@
 //! Cells: the least duration that a share of a window's minutes attains.
 ghost use Rattle.std.specs.Prelude.{◌≡◌, ◌≢◌, ◌<◌, ◌≤◌, ◌*◌, ℕ, All, Some, length, max, slice_index, IfOk, IsTrue, ◌↔◌};
 ghost use Rattle.rounds.specs.Table.{at, known_of, label_in, IsLeastOrNone};
+ghost use Rattle.shares.specs.declared.planes.TheConstants.{MOST_BATCHES};
 ghost use Rattle.shares.specs.Percentiles.{minutes_within, Attains, IsCell, AreCells, AreCellsAt, HoldMinutes, IsTop};
 ghost use Rattle.shares.specs.Percentiles.{known_label};
 ghost use Rattle.trip_lanes.specs.declared.lanes.TheConstants.{LANES};
@@ -155,7 +156,7 @@ fn attains(lanes: &[Lanes], minutes: u32, share: u32, duration: u32) -> bool
 
 /// In how many of these minutes the duration is at most this one. A dead lane holds `NEVER`, and so is never counted.
 fn count_within(lanes: &[Lanes], duration: u32) -> u32
-    requires few { length lanes.now ≤ 90 }
+    requires few { length lanes.now ≤ MOST_BATCHES }
     requires duration { duration < NEVER }
     ensures count { result ≡ minutes_within (λ m. known_of (label_in lanes.now m)) duration (LANES * length lanes.now) }
     ensures bound { result ≤ LANES * length lanes.now }

@@ -3,6 +3,7 @@
 ghost use Rattle.std.specs.Prelude.{◌≡◌, ◌≢◌, ◌&&◌, ◌<◌, ◌≤◌, ◌+◌, ◌*◌, ◌^◌, [], ℕ, Bool, List, cond, not, length};
 ghost use Rattle.std.specs.Prelude.{slice_index, slice_index_or};
 ghost use Rattle.shares.specs.Planes.{AreMasks, ArePlanes, IsRanked, block, count_of, has, mask, words_of};
+ghost use Rattle.shares.specs.declared.planes.TheConstants as size;
 ghost use Rattle.trip_lanes.specs.declared.lanes.TheConstants.{LANES};
 
 use std::simd::prelude::*;
@@ -10,14 +11,20 @@ use std::simd::u32x16;
 use timetable::NEVER;
 use trip_lanes::Lanes;
 
-/// One bit for each lane of a stop, with room for those of a day.
-pub(crate) type Plane = [u64; 23];
+/// The most batches of sixteen minutes: those of a day.
+pub(crate) const MOST_BATCHES: usize = 90;
 
-/// The row of the planes that shows all lanes.
+/// How many words have a bit for each lane of a day: one word for four batches.
+pub(crate) const WORDS: usize = (MOST_BATCHES + 3) / 4;
+
+/// One bit for each lane of a stop, with room for those of a day.
+pub(crate) type Plane = [u64; WORDS];
+
+/// The row of the planes that shows all lanes: it follows those of a label's 32 bits.
 const ALL: usize = 32;
 
 /// How many planes there are: one for each bit of a label, and that of all lanes.
-pub(crate) const PLANES: usize = 33;
+pub(crate) const PLANES: usize = ALL + 1;
 
 /// How many bits hold each number up to one more than the greatest duration.
 pub(crate) fn bits_of(greatest: u32) -> u32
@@ -30,10 +37,10 @@ pub(crate) fn bits_of(greatest: u32) -> u32
 
 /// Fills in the planes of the lowest bits, and that of all lanes.
 pub(crate) fn fill_planes(lanes: &[Lanes], bits: u32, planes: &mut [Plane])
-    requires few { length lanes.now ≤ 90 }
+    requires few { length lanes.now ≤ size.MOST_BATCHES }
     requires bits { bits ≤ 32 }
-    requires rows { length planes.old ≡ 33 }
-    ensures same { length planes.new ≡ 33 }
+    requires rows { length planes.old ≡ size.PLANES }
+    ensures same { length planes.new ≡ size.PLANES }
     ensures planes { ArePlanes lanes.now bits planes.new }
 {
     for word in 0..(lanes.len() + 3) / 4 {
@@ -43,13 +50,13 @@ pub(crate) fn fill_planes(lanes: &[Lanes], bits: u32, planes: &mut [Plane])
 
 /// Fills in one word of each plane.
 fn fill_word(lanes: &[Lanes], word: usize, bits: u32, planes: &mut [Plane])
-    requires word { word < 23 }
+    requires word { word < size.WORDS }
     requires bits { bits ≤ 32 }
-    requires rows { length planes.old ≡ 33 }
-    ensures same { length planes.new ≡ 33 }
+    requires rows { length planes.old ≡ size.PLANES }
+    ensures same { length planes.new ≡ size.PLANES }
     ensures plane { (b : ℕ) → b < bits → slice_index (slice_index_or planes.new b []) word
         ≡ mask (has (2 ^ b)) (block lanes.now word) }
-    ensures all { slice_index (slice_index_or planes.new 32 []) word ≡ mask (has 0) (block lanes.now word) }
+    ensures all { slice_index (slice_index_or planes.new size.ALL []) word ≡ mask (has 0) (block lanes.now word) }
     ensures kept { (b w : ℕ) → w ≢ word → slice_index (slice_index_or planes.new b []) w
         ≡ slice_index (slice_index_or planes.old b []) w }
 {
@@ -63,7 +70,7 @@ fn fill_word(lanes: &[Lanes], word: usize, bits: u32, planes: &mut [Plane])
 
 /// In which lanes of four batches the label has a bit.
 fn word_of(lanes: &[Lanes], word: usize, bit: u32) -> u64
-    requires { word < 23 }
+    requires { word < size.WORDS }
     ensures { result ≡ mask (has bit) (block lanes.now word) }
 {
     let first = mask_at(lanes, 4 * word, bit);
@@ -100,9 +107,9 @@ fn mask_of(batch: Lanes, bit: u32) -> u64
 /// Windows of one or two hours have one or two words, and where that is known there is no loop over them: they go
 /// through each bit in a third of the steps.
 pub(crate) fn value_at(lanes: &[Lanes], planes: &[Plane], bits: u32, rank: u32) -> u32
-    requires few { length lanes.now ≤ 90 }
+    requires few { length lanes.now ≤ size.MOST_BATCHES }
     requires bits { bits ≤ 32 }
-    requires rows { length planes.now ≡ 33 }
+    requires rows { length planes.now ≡ size.PLANES }
     requires planes { ArePlanes lanes.now bits planes.now }
     requires some { 1 ≤ rank }
     requires rank { rank ≤ count_of (has 0) lanes.now (words_of lanes.now) }
@@ -118,9 +125,9 @@ pub(crate) fn value_at(lanes: &[Lanes], planes: &[Plane], bits: u32, rank: u32) 
 /// The label of a rank, bit by bit from the highest: those are left that agree so far.
 #[inline(always)]
 fn descend(lanes: &[Lanes], planes: &[Plane], bits: u32, rank: u32, words: usize) -> u32
-    requires few { length lanes.now ≤ 90 }
+    requires few { length lanes.now ≤ size.MOST_BATCHES }
     requires bits { bits ≤ 32 }
-    requires rows { length planes.now ≡ 33 }
+    requires rows { length planes.now ≡ size.PLANES }
     requires planes { ArePlanes lanes.now bits planes.now }
     requires some { 1 ≤ rank }
     requires rank { rank ≤ count_of (has 0) lanes.now (words_of lanes.now) }
@@ -152,7 +159,7 @@ fn descend(lanes: &[Lanes], planes: &[Plane], bits: u32, rank: u32, words: usize
 /// How many lanes two planes both show.
 #[inline(always)]
 fn count_both(among: &Plane, plane: &Plane, words: usize) -> u32
-    requires { words ≤ 23 }
+    requires { words ≤ size.WORDS }
     ensures { (lanes : List (List ℕ)) (Is Has : ℕ → Bool) → AreMasks Is lanes words among.now →
         AreMasks Has lanes words plane.now →
         result ≡ count_of (λ x. Is x && Has x) lanes words }
@@ -167,7 +174,7 @@ fn count_both(among: &Plane, plane: &Plane, words: usize) -> u32
 /// Keeps those lanes that a plane shows, or those that it doesn't show.
 #[inline(always)]
 fn keep(among: &mut Plane, plane: &Plane, words: usize, with: bool)
-    requires { words ≤ 23 }
+    requires { words ≤ size.WORDS }
     ensures { (lanes : List (List ℕ)) (Is Has : ℕ → Bool) →
         ((i : ℕ) → i < length lanes → length (slice_index_or lanes i []) ≡ LANES) →
         AreMasks Is lanes words among.old → AreMasks Has lanes words plane.now →

@@ -3,11 +3,12 @@
 ghost use Rattle.std.specs.Prelude.{◌≡◌, ◌<◌, ◌≤◌, ◌+◌, ◌^◌, ◌∷◌, [], ℕ, All, length, IfOk, OnOk};
 ghost use Rattle.rounds.specs.Table.{known_of, label_in, IsLeastOrNone};
 ghost use Rattle.shares.specs.Percentiles.{Attains, AreCellsOf, AreCellsOfAt, HoldMinutes, IsTop};
+ghost use Rattle.shares.specs.declared.planes.TheConstants.{PLANES as PLANES_VALUE};
 ghost use Rattle.shares.specs.Planes.{ArePlanes};
 ghost use Rattle.shares.specs.Ranks.{AreEmpty, AreLonger};
 
 use crate::percentiles::{cells_at, greatest};
-use crate::planes::{PLANES, Plane, bits_of, fill_planes, value_at};
+use crate::planes::{PLANES, Plane, WORDS, bits_of, fill_planes, value_at};
 use crate::stops::all_stops;
 use rounds::Durations;
 use std::alloc::{AllocError, Global};
@@ -79,7 +80,7 @@ fn cells_of_many(
     durations.known();
     let minutes = durations.minutes();
     let mut lists = empty_lists(alloc, shares.len(), destinations.len())?;
-    let mut planes = vec![in alloc; [0; 23]; PLANES]?;
+    let mut planes = vec![in alloc; [0; WORDS]; PLANES]?;
     for n in 0..destinations.len() {
         let lanes = durations.lanes_of(destinations[n]);
         push_cells(&mut lists, lanes, minutes, &mut planes, shares)?;
@@ -113,8 +114,8 @@ fn push_cells(
     requires count { length lists.old ≡ length shares.now }
     requires shares { All (λ share. share ≤ 100) shares.now }
     requires lanes { HoldMinutes lanes.now minutes }
-    requires rows { length planes.old ≡ 33 }
-    ensures same { length planes.new ≡ 33 }
+    requires rows { length planes.old ≡ PLANES_VALUE }
+    ensures same { length planes.new ≡ PLANES_VALUE }
     ensures longer { OnOk result (AreLonger lanes.now minutes shares.now lists.old lists.new) }
 {
     let top = greatest(lanes);
@@ -138,7 +139,7 @@ fn at_rank(
 ) -> Option<u32>
     requires lanes { HoldMinutes lanes.now minutes }
     requires share { share ≤ 100 }
-    requires rows { length planes.now ≡ 33 }
+    requires rows { length planes.now ≡ PLANES_VALUE }
     requires planes { ArePlanes lanes.now bits planes.now }
     requires top { IsTop lanes.now top }
     requires known { top < NEVER }

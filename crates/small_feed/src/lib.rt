@@ -6,27 +6,32 @@ ghost use Rattle.gtfs_tables.specs.Files.{AreWithinLimit, files_of};
 
 use gtfs_tables::FeedBytes;
 
+/// `stops.txt`.
 const STOPS: &[u8] = b"stop_id,stop_name
 A,Alpha
 B,Beta
 C,Gamma
 ";
 
+/// `routes.txt`.
 const ROUTES: &[u8] = b"route_id
 R1
 R2
 ";
 
+/// `calendar.txt`.
 const CALENDAR: &[u8] =
     b"service_id,monday,tuesday,wednesday,thursday,friday,saturday,sunday,start_date,end_date
 MON,1,0,0,0,0,0,0,20260504,20260531
 ";
 
+/// `trips.txt`.
 const TRIPS: &[u8] = b"route_id,service_id,trip_id
 R1,MON,T1
 R2,MON,T2
 ";
 
+/// `stop_times.txt`.
 const STOP_TIMES: &[u8] = b"trip_id,arrival_time,departure_time,stop_id,stop_sequence
 T1,08:00:00,08:00:00,A,1
 T1,08:10:00,08:10:00,B,2

@@ -19,7 +19,7 @@ use Rattle.gtfs_tables.specs.Feed.{FeedData}
 use Rattle.gtfs_tables.specs.NamedStops.{NamedRow, named_rows, named_stop, row_of, stops_named}
 use Rattle.gtfs_tables.specs.Origins.{checks, origins_of, required, stops_faults}
 use Rattle.gtfs_tables.proofs.MarkFacts.{found_stop}
-use Rattle.gtfs_tables.proofs.NoFaults.{kept_rows}
+use Rattle.gtfs_tables.proofs.RowsWithoutFaults.{kept_rows}
 
 -- the rows name stops, none of them twice
 record NameOnce (stops : List (List ℕ)) (rows : List NamedRow) : Type 0 where

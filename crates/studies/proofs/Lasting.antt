@@ -8,7 +8,7 @@ use Rattle.studies.specs.Kept.{lasting_files, lasting_settings}
 use Rattle.studies.specs.Parts.{feed_in, own_faults, point_faults}
 use Rattle.studies.specs.Settings.{SettingsData}
 use Rattle.studies.specs.Study.{AreNamed, AreNetworks}
-use Rattle.studies.proofs.Firsts.{none_left, none_of_both, none_right}
+use Rattle.studies.proofs.FirstOfLists.{none_left, none_of_both, none_right}
 
 module _ (i : InputFiles) (s : SettingsData) (networks : List Net) where
   -- networks of a study are those of its lasting files and settings

@@ -1,9 +1,9 @@
-pub mod Joined
-pub mod Runs
+pub mod JoinedFields
+pub mod TripsOnce
 pub mod NoFootpaths
-pub mod Refusals
+pub mod OnlyMemoryRefuses
 pub mod NameFaults
-pub mod Firsts
+pub mod FirstOfLists
 pub mod ScenarioFiles
 pub mod NetworkFaults
 pub mod FewOrigins
@@ -11,7 +11,7 @@ pub mod StudyFacts
 pub mod OneMeaning
 mod OtherColumns
 pub mod Lasting
-pub mod Asking
-pub mod Answered
+pub mod QuestionOfKept
+pub mod AnswersInOrder
 pub mod AnyGate
-pub mod Saw
+pub mod WatchSaw

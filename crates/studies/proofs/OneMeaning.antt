@@ -16,7 +16,7 @@ use Rattle.studies.specs.Parts.{day_faults, direct_in, edit_faults, feed_in, lab
 use Rattle.studies.specs.Parts.{network_faults, networks_of, runs_in, scenarios_in, study_in, table_faults}
 use Rattle.studies.specs.Settings.{SettingsData}
 use Rattle.studies.specs.Study.{Means}
-use Rattle.studies.proofs.Firsts.{no_first}
+use Rattle.studies.proofs.FirstOfLists.{no_first}
 
 -- the files mean one study
 one_study : ClosuresAreUnique → (i : InputFiles) (s : SettingsData) (a b : StudyData) → Means i s a → Means i s b →

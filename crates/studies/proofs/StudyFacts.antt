@@ -59,7 +59,7 @@ use Rattle.studies.specs.Stages.{AreNetworkParts, AreTables, IsFeedOf, TellsEdit
 use Rattle.studies.specs.Stages.{TellsTables, TellsText}
 use Rattle.studies.specs.Study.{AreDated, AreEdited, AreNamed, AreNetworks, AreRead, AreWalked, IsFaultOfRun}
 use Rattle.studies.specs.Study.{IsStudyText, Means, Tells, TellsBy}
-use Rattle.studies.proofs.Firsts.{first_left, first_right, none_of_both, tells_left, tells_right}
+use Rattle.studies.proofs.FirstOfLists.{first_left, first_right, none_of_both, tells_left, tells_right}
 
 -- settings, by their fields
 abbrev pub seen : Inside → SettingsData

@@ -1,9 +1,12 @@
 -- What a watch is told of a study, stage after stage.
-use Rattle.std.specs.Prelude.{List, [], ◌∷◌, Result, Ok}
+use Rattle.std.specs.Prelude.{◌≡◌, ◌⊎◌, List, [], ◌∷◌, Result, Ok, Err, ⊤}
 use Rattle.collector.specs.Places.{MatrixData}
 use Rattle.workers.specs.Matrices.{IsMatrix}
 use Rattle.workers.specs.Study.{StudyData}
 use Rattle.workers.specs.declared.faults.RunFault.{RunFault}
+use Rattle.workers.specs.declared.faults.RunFault.TheVariants.{Memory}
+use Rattle.studies.specs.declared.fault.StudyFault.{StudyFault}
+use Rattle.studies.specs.declared.fault.StudyFault.TheVariants as fault
 use Rattle.studies.specs.Inputs.{InputFiles}
 use Rattle.studies.specs.Settings.{SettingsData}
 use Rattle.studies.specs.Study.{Means}
@@ -35,3 +38,9 @@ pub record SawAll (saw : List Stage → Type 0) (i : InputFiles) (s : SettingsDa
   pub means : Means i s study
   pub is_matrix : IsMatrix study matrix
   pub told : saw (ended study (Ok matrix))
+
+-- where the workers gave no matrix of the study that the files mean, the watch was told why: in these very words, but
+-- for out of memory
+abbrev pub SawFault : (List Stage → Type 0) → StudyFault → InputFiles → SettingsData → Type 0
+SawFault saw (fault.Run e) i s = (e ≡ Memory) ⊎ ((study : StudyData) × Means i s study × saw (ended study (Err e)))
+SawFault saw _ i s = ⊤

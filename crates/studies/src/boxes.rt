@@ -8,7 +8,7 @@ use footpaths::{Direct, direct};
 use gtfs_tables::{Feed, FeedBytes, FeedFault, read_feed};
 use std::alloc::{AllocError, Global};
 
-/// The value in a box.
+/// The value in a box. The error of `Box::new` has the value, which no fault of a study can hold; it is dropped here.
 pub(crate) fn boxed<T: Drop>(alloc: Global, value: T) -> Result<Box<T>, AllocError>
     ensures { IfOk result (λ b. b.value ≡ value) }
 {

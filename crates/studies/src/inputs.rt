@@ -32,12 +32,12 @@ impl Inputs<'_> {
             && file_fits(self.origins)
             && file_fits(self.opportunities)
             && file_fits(self.destinations)
-            && have_room(self.scenarios)
+            && are_within_limit(self.scenarios)
     }
 }
 
 /// Whether each scenario file keeps the limit of an input file.
-fn have_room(files: &[NamedFile]) -> bool
+fn are_within_limit(files: &[NamedFile]) -> bool
     ensures { IsTrue result ↔ All (λ f. length f.bytes ≤ MOST_BYTES) files.now }
 {
     files.iter().all(is_within_limit)

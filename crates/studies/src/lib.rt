@@ -3,17 +3,17 @@
 //! - `study`: [`run_study`], the text of the matrix that the files ([`Inputs`], [`NamedFile`]) and the [`Settings`]
 //!   mean, or the first [`StudyFault`]. Its stages, each making one value of those before it: `names`, `tables`,
 //!   `networks` (with `scenario_files`), `matrix`; `parts` has what they hand on, and `boxes` puts it in boxes.
-//! - `kept`: [`keep`] reads and makes what no question changes ([`Kept`]); `question`: [`answer`] gives a [`Question`]'s
-//!   answer by it, [`answers`] those of a list. [`watch_study`] goes the same way: it makes what is kept, and answers
-//!   the study's own question.
+//! - `kept`: [`keep`] reads and makes what no question changes ([`Kept`]); `question`: [`answer`] gives the answer of
+//!   a [`Question`] by it, [`answers`] those of a list. [`watch_study`] goes the same way: it makes what is kept, and
+//!   answers the study's own question.
 //! - `watch`: [`watch_study`] is [`run_study`] with a [`Watch`], who is told what each stage has made.
 //! - `inputs`, `named_file`, `settings`: what a study is made of, and `limits`, within which; `fault`: why there is
 //!   none.
 //! - `laws`: a study has one text, which with destinations has some of the columns of the text without; and no files
 //!   are both refused and accepted.
 //! - `feed_files`: [`FeedFiles`], the files of a feed as a program holds them.
-//! - `minute`: [`minute_line`], a door for other programs: the durations of one minute over each trip of a feed once
-//!   (`once`, `line`).
+//! - `plain`, not on the program's way: [`minute_line`], the durations of one minute over each trip of a feed once, as
+//!   the definitions have them, without a window, scenarios or workers.
 //!
 //! `specs/Study` says what the inputs mean and which fault comes first.
 #![tactic(auto)]
@@ -25,14 +25,12 @@ mod inputs;
 mod kept;
 mod laws;
 mod limits;
-mod line;
 mod matrix;
-mod minute;
 mod named_file;
 mod names;
 mod networks;
-mod once;
 mod parts;
+mod plain;
 mod question;
 mod scenario_files;
 mod settings;
@@ -46,8 +44,8 @@ pub use inputs::Inputs;
 pub use kept::{Kept, keep};
 pub use laws::{refused_have_no_meaning, texts_are_unique, texts_have_their_columns};
 pub use limits::{MOST_DAYS, MOST_WORKERS, limits_are_as_stated};
-pub use minute::minute_line;
 pub use named_file::NamedFile;
+pub use plain::minute_line;
 pub use question::{Question, answer, answers};
 pub use settings::Settings;
 pub use study::{run_study, watch_study};

@@ -85,8 +85,8 @@ impl Settings {
             && self.tries <= MOST_TRIES
     }
 
-    /// What a study with these settings and destinations asks of every network, as a study that has no networks, origins
-    /// and opportunities yet.
+    /// What a study with these settings and destinations asks of every network, as a study that has no networks,
+    /// origins and opportunities yet.
     pub fn asked<'a>(&'a self, destinations: &'a [StopNo]) -> Study<'a>
         requires { SettingsFit self.now }
         ensures { study.query_of result ≡ query_of self.now destinations.now }

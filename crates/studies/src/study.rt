@@ -7,7 +7,7 @@ ghost use Rattle.studies.specs.Inputs.{AreWithinLimit, inputs_of};
 ghost use Rattle.studies.specs.Parts.{feed_in, labels_in};
 ghost use Rattle.studies.specs.Settings.{SettingsFit};
 ghost use Rattle.studies.specs.Stages.{AreTables, TellsText};
-ghost use Rattle.studies.specs.Watched.{SawAll, listed};
+ghost use Rattle.studies.specs.Watched.{SawAll, SawFault, listed};
 ghost use Rattle.studies.specs.Study.{AreNetworks, IsStudyText, Tells, TellsBy};
 
 use crate::fault::StudyFault;
@@ -68,6 +68,7 @@ pub fn watch_study<G: Gate + Sync, W: Watch, R: Threads + Wait + Sync>(
     requires settings { SettingsFit settings.now }
     ensures text { IfOk result (λ text. IsStudyText (inputs_of inputs.now) settings.now text.items) }
     ensures told { IfOk result (λ _. SawAll (W.saw watch.now) (inputs_of inputs.now) settings.now) }
+    ensures told_fault { IfErr result (λ e. SawFault (W.saw watch.now) e (inputs_of inputs.now) settings.now) }
     ensures fault { IfErr result (λ e. Tells e (inputs_of inputs.now) settings.now) }
     ensures run { IfErr result (λ e. TellsBy (G.decides gate.now) (G.was_told gate.now) e (inputs_of inputs.now)
         settings.now) }
@@ -99,6 +100,8 @@ pub(crate) fn text_of<G: Gate + Sync, W: Watch, R: Threads + Wait + Sync>(
         IsStudyText (inputs_of asked.now.inputs.now) asked.now.settings.now text.items) }
     ensures told { IfOk result (λ _.
         SawAll (W.saw watch.now) (inputs_of asked.now.inputs.now) asked.now.settings.now) }
+    ensures told_fault { IfErr result (λ e.
+        SawFault (W.saw watch.now) e (inputs_of asked.now.inputs.now) asked.now.settings.now) }
     ensures run { IfErr result (λ e. TellsBy (G.decides gate.now) (G.was_told gate.now) e
         (inputs_of asked.now.inputs.now) asked.now.settings.now) }
 {

@@ -1,6 +1,6 @@
-//! Tests of the surface that other programs are promised: each public name is called once, with its parameters, through
-//! the crate that has it (docs/explanation/decisions.md has a table of the calls of `ttm`). A name that is gone, or that
-//! wants other parameters, doesn't compile here.
+//! Tests of the surface that other programs are promised: each public name is called once, with its parameters,
+//! through the crate that has it (docs/explanation/decisions.md has a table of the calls of `ttm`). A name that is
+//! gone, or that wants other parameters, doesn't compile here.
 //!
 //! - `networks`: `timetable`, `trip_lanes` (`carry_trip` is called in `matrix_tests`), `rounds`, `shares`.
 //! - `feeds`, `days`: `gtfs_tables`; `service_days`, `footpaths` and `scenarios`. `small_feeds` has their feed.

@@ -1,7 +1,7 @@
 -- What transfers.txt says: walks between stops and stations, and change times of stops.
 -- A row counts where it says how long a walk takes, of any vehicle to any other; all other rows are unused.
 -- A row of type 2 from a stop to itself states how long a change between two vehicles at the stop takes at least, and
--- one from a station to itself states that for each of its stops, beside the walks between these.
+-- one from a station to itself states that for each of its stops, in addition to the walks between these.
 -- (GTFS Schedule reference, transfers.txt: types 0 to 2 are recommended, timed and minimum times of a change; type 3
 -- forbids a change, 4 and 5 are changes without leaving the vehicle.)
 use Rattle.std.specs.Prelude.{◌≡◌, ◌+◌, ◌-◌, ◌&&◌, ◌||◌, ◌==◌, ℕ, Bool, false, List, [], ◌∷◌, ◌++◌, Option, Some, None}

@@ -35,6 +35,7 @@ pub struct Calendar {
     pub rows: Vec<CalendarRow>,
 }
 
+/// The checks; [`calendar_checks`] says what holds of them.
 const CHECKS: Checks = Checks {
     required: &[
         b"service_id",
@@ -87,7 +88,7 @@ pub struct CalendarColumns {
 }
 
 impl CalendarColumns {
-    // The weekdays of a record, where each is a flag.
+    /// The weekdays of a record, where each is a flag.
     fn days(&self, row: &ByteRecord) -> Option<[bool; 7]>
         ensures { result ≡ days_of (row_at self.now (fields_of row.now)).days }
     {
@@ -157,6 +158,7 @@ impl RecordReader for CalendarColumns {
     }
 }
 
+/// The columns that a header names.
 fn columns_in(header: &ByteRecord) -> CalendarColumns
     ensures { result ≡ columns_of (fields_of header.now) }
 {
@@ -192,7 +194,7 @@ pub fn read_calendar(alloc: Global, bytes: &[u8]) -> Result<Calendar, FeedFault>
         alloc,
         &columns_in(&file.header),
         &mut calendar,
-        &mut file.rows,
+        &mut file.records,
     );
     drop(file);
     read.and(Ok(calendar))

@@ -7,6 +7,7 @@ ghost use Rattle.table_records.specs.Faults.{Tells};
 ghost use Rattle.table_records.specs.declared.limits.TheConstants.{MOST_BYTES};
 ghost use Rattle.table_files.specs.CalendarDates as spec;
 ghost use Rattle.table_files.specs.CalendarDates.{AreExceptions, columns_of, date_rows, exception_faults};
+ghost use Rattle.table_files.specs.declared.services.TheConstants.{MOST_DATED_SERVICES};
 
 use crate::days::read_adds;
 use crate::services::number_service;
@@ -35,6 +36,7 @@ pub struct CalendarDates {
     pub rows: Vec<ExceptionRow>,
 }
 
+/// The checks; [`calendar_date_checks`] says what holds of them.
 const CHECKS: Checks = Checks {
     required: &[b"service_id", b"date", b"exception_type"],
     fields: &[
@@ -107,6 +109,7 @@ impl RecordReader for ExceptionColumns {
     }
 }
 
+/// The columns that a header names.
 fn columns_in(header: &ByteRecord) -> ExceptionColumns
     ensures { result ≡ columns_of (fields_of header.now) }
 {
@@ -129,7 +132,7 @@ pub fn read_calendar_dates(
     requires known { length services ≤ MOST_BYTES }
     ensures good { IfOk result (λ d. (exception_faults bytes.now ≡ [])
         × AreExceptions services d (date_rows bytes.now)) }
-    ensures few { IfOk result (λ d. length d.services ≤ 2147483650) }
+    ensures few { IfOk result (λ d. length d.services ≤ MOST_DATED_SERVICES) }
     ensures fault { IfErr result (λ e. Tells e (exception_faults bytes.now)) }
 {
     let mut file = open_table(alloc, bytes, FileName::CalendarDates, CHECKS.required)?;
@@ -137,7 +140,12 @@ pub fn read_calendar_dates(
         services,
         rows: Vec::new(alloc),
     };
-    let read = read_records(alloc, &columns_in(&file.header), &mut dates, &mut file.rows);
+    let read = read_records(
+        alloc,
+        &columns_in(&file.header),
+        &mut dates,
+        &mut file.records,
+    );
     drop(file);
     read.and(Ok(dates))
 }

@@ -27,7 +27,7 @@ impl Model for Children {
 }
 
 impl Children {
-    // No stops yet, for each of so many stations.
+    /// No stops yet, for each of `stations` stations.
     fn none(alloc: Global, stations: usize) -> Result<Children, AllocError>
         ensures { IfOk result (λ c. c ≡ replicate {A = List StopNo} stations []) }
     {
@@ -38,7 +38,7 @@ impl Children {
         Ok(Children { lists })
     }
 
-    // Puts a stop after those of its station.
+    /// Puts a stop after those of its station.
     fn add(&mut self, station: usize, stop: StopNo) -> Result<(), AllocError>
         requires { station < length self.old }
         ensures { IfOk result (λ _. (stops : List StopNo) × (slice_get self.old station ≡ Some stops)

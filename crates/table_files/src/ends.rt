@@ -39,7 +39,7 @@ pub fn have_pair(from: &[StopNo], to: &[StopNo]) -> bool
     from.iter().any(|stop| has_other(*stop, to))
 }
 
-// Whether another stop is among some.
+/// Whether another stop is among some.
 fn has_other(stop: StopNo, stops: &[StopNo]) -> bool
     ensures { result ≡ list_any (spec.differ stop) stops.now }
 {

@@ -7,6 +7,7 @@ ghost use Rattle.table_records.specs.Faults.{Tells};
 ghost use Rattle.table_records.specs.declared.limits.TheConstants.{MOST_BYTES};
 ghost use Rattle.table_files.specs.FeedTrips as spec;
 ghost use Rattle.table_files.specs.FeedTrips.{AreTrips, columns_of, trip_faults, trip_rows};
+ghost use Rattle.table_files.specs.declared.services.TheConstants.{MOST_DATED_SERVICES};
 
 use crate::services::number_service;
 use csv::ByteRecord;
@@ -35,6 +36,7 @@ pub struct FeedTrips {
     pub numbers: Vec<TripNumbers>,
 }
 
+/// The checks; [`feed_trip_checks`] says what holds of them.
 const CHECKS: Checks = Checks {
     required: &[b"route_id", b"service_id", b"trip_id"],
     fields: &[
@@ -46,7 +48,7 @@ const CHECKS: Checks = Checks {
     ],
 };
 
-/// What is checked of `trips.txt`, beside its limit: each fault of a record is that of a check.
+/// What is checked of `trips.txt`, apart from its limit: each fault of a record is that of a check.
 pub fn feed_trip_checks() -> Checks
     ensures required { map (λ name. name.now) result.required.now ≡ spec.required }
     ensures explains { (routes : List (List ℕ)) → Explains result.fields.now spec.row_of (spec.checks routes) }
@@ -86,7 +88,8 @@ impl<'a> RecordReader for TripReader<'a> {
 
     ghost After = { λ s start rows now. AreTrips s.routes.now start.services now rows };
 
-    ghost HasRoom = { λ s table at. (length s.routes.now ≤ MOST_BYTES) × (length table.services ≤ 2147483650 + at) };
+    ghost HasRoom = { λ s table at. (length s.routes.now ≤ MOST_BYTES)
+        × (length table.services ≤ MOST_DATED_SERVICES + at) };
 
     fn add(
         &self,
@@ -126,7 +129,7 @@ impl<'a> RecordReader for TripReader<'a> {
     }
 }
 
-// What the next trip is likely to have: the numbers of the trip before.
+/// What the next trip is likely to have: the numbers of the trip before.
 fn likely_numbers(numbers: &[TripNumbers]) -> TripNumbers {
     match numbers.last() {
         Some(last) => *last,
@@ -137,6 +140,7 @@ fn likely_numbers(numbers: &[TripNumbers]) -> TripNumbers {
     }
 }
 
+/// The columns that a header names.
 fn columns_in(header: &ByteRecord) -> TripColumns
     ensures { result ≡ columns_of (fields_of header.now) }
 {
@@ -158,7 +162,7 @@ pub fn read_feed_trips(
 ) -> Result<FeedTrips, FeedFault>
     requires size { length bytes.now ≤ MOST_BYTES }
     requires routes { length routes.now ≤ MOST_BYTES }
-    requires known { length services ≤ 2147483650 }
+    requires known { length services ≤ MOST_DATED_SERVICES }
     ensures good { IfOk result (λ t. (trip_faults routes.now bytes.now ≡ [])
         × AreTrips routes.now services t (trip_rows bytes.now)) }
     ensures fault { IfErr result (λ e. Tells e (trip_faults routes.now bytes.now)) }
@@ -173,7 +177,7 @@ pub fn read_feed_trips(
         columns: columns_in(&file.header),
         routes,
     };
-    let read = read_records(alloc, &reader, &mut trips, &mut file.rows);
+    let read = read_records(alloc, &reader, &mut trips, &mut file.records);
     drop(file);
     read.and(Ok(trips))
 }

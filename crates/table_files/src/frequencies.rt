@@ -32,6 +32,7 @@ pub struct Departures {
     pub headway: u32,
 }
 
+/// The checks; [`frequency_checks`] says what holds of them.
 const CHECKS: Checks = Checks {
     required: &[b"trip_id", b"start_time", b"end_time", b"headway_secs"],
     fields: &[
@@ -67,7 +68,7 @@ pub struct FrequencyReader<'a> {
     pub trips: &'a Identifiers,
 }
 
-// A headway is a number of seconds, at least 1.
+/// The seconds of a headway, at least 1.
 fn read_headway(text: &[u8]) -> Option<u32>
     ensures { result ≡ headway_of (trimmed text.now) }
 {
@@ -78,7 +79,7 @@ fn read_headway(text: &[u8]) -> Option<u32>
     Some(headway)
 }
 
-// Puts a row after those of its trip.
+/// Puts a row after those of its trip.
 fn add_row(table: &mut Vec<Vec<Departures>>, trip: usize, row: Departures) -> Result<(), AllocError>
     requires { trip < length table.old.items }
     ensures added { IfOk result (λ _. (v : Vec Departures Global) × (v ≡ slice_index_or table.old.items trip v)
@@ -147,6 +148,7 @@ impl<'a> RecordReader for FrequencyReader<'a> {
     }
 }
 
+/// The columns that a header names.
 fn columns_in(header: &ByteRecord) -> FrequencyColumns
     ensures { result ≡ columns_of (fields_of header.now) }
 {
@@ -190,7 +192,7 @@ pub fn read_frequencies(
         columns: columns_in(&file.header),
         trips,
     };
-    let read = read_records(alloc, &reader, &mut departures, &mut file.rows);
+    let read = read_records(alloc, &reader, &mut departures, &mut file.records);
     drop(file);
     read.and(Ok(departures))
 }

@@ -9,8 +9,8 @@
 //! - [`read_frequencies`] gives the departures of the trips that run at a headway.
 //! - [`read_transfers`] gives the walks between stops and stations.
 //!
-//! Beside the readers stand `children` and `ends` (the stops for which a place stands). `stop_times.txt` is read by
-//! `trip_events`. `specs/` has one module per file, with its checks in their order.
+//! `children` and `ends` say which stops a place stands for. `trip_events` reads `stop_times.txt`. `specs/` has one
+//! module per file, with its checks in their order.
 #![tactic(auto)]
 
 mod calendar;

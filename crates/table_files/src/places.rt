@@ -65,13 +65,6 @@ impl Places {
         let _ = &self.places;
     }
 
-    /// The identifiers of all records.
-    pub fn names(&self) -> &Identifiers
-        ensures { result.now ≡ self.now.names }
-    {
-        &self.names
-    }
-
     /// The identifiers of the stops, each at its number.
     pub fn stops(&self) -> &Identifiers
         ensures { result.now ≡ self.now.stops }
@@ -110,6 +103,7 @@ impl Places {
     }
 }
 
+/// The checks; [`place_checks`] says what holds of them.
 const CHECKS: Checks = Checks {
     required: &[b"stop_id"],
     fields: &[
@@ -119,7 +113,7 @@ const CHECKS: Checks = Checks {
     ],
 };
 
-/// What is checked of `stops.txt`, beside its limit: each fault of a record is that of a check.
+/// What is checked of `stops.txt`, apart from its limit: each fault of a record is that of a check.
 pub fn place_checks() -> Checks
     ensures required { map (λ name. name.now) result.required.now ≡ spec.required }
     ensures explains { Explains result.fields.now spec.row_of spec.checks }
@@ -151,7 +145,7 @@ impl PlaceList {
     ghost use Rattle.table_files.specs.Places.{ArePlaces, HasRoom, IsPlaceList, IsPlaced};
     ghost use Rattle.table_files.specs.Children.{children_of};
 
-    // No places.
+    /// No places.
     fn new(alloc: Global) -> PlaceList
         ensures empty { IsPlaceList result [] }
         ensures room { HasRoom result 2 }
@@ -165,7 +159,7 @@ impl PlaceList {
         }
     }
 
-    // Puts a place of a kind after the others; its name is put with the names.
+    /// Puts a place of a kind after the others; its name is put with the names.
     fn add(&mut self, alloc: Global, kind: u32, id: &[u8], parent: &[u8]) -> Result<(), AllocError>
         requires stops { length self.old.stops ≤ MOST_STOPS }
         requires stations { length self.old.stations ≤ MOST_STOPS }
@@ -188,7 +182,7 @@ impl PlaceList {
         Ok(())
     }
 
-    // The places, with the stops of each station.
+    /// The places, with the stops of each station.
     fn into_places(self, alloc: Global) -> Result<Places, AllocError>
         requires few { length self.parents.items ≤ MOST_STOPS }
         requires in_range { ArePlaces (record {
@@ -271,6 +265,7 @@ pub fn kind_number(text: &[u8]) -> Option<u32>
     }
 }
 
+/// The columns that a header names.
 fn columns_in(header: &ByteRecord) -> PlaceColumns
     ensures { result ≡ spec.columns_of (fields_of header.now) }
 {
@@ -293,7 +288,12 @@ pub fn read_places(alloc: Global, bytes: &[u8]) -> Result<Places, FeedFault>
 {
     let mut file = open_table(alloc, bytes, FileName::Stops, CHECKS.required)?;
     let mut list = PlaceList::new(alloc);
-    let read = read_records(alloc, &columns_in(&file.header), &mut list, &mut file.rows);
+    let read = read_records(
+        alloc,
+        &columns_in(&file.header),
+        &mut list,
+        &mut file.records,
+    );
     drop(file);
     match read {
         Ok(()) => Ok(list.into_places(alloc)?),

@@ -15,6 +15,7 @@ use table_records::{
     open_table, read_records,
 };
 
+/// The checks; [`route_checks`] says what holds of them.
 const CHECKS: Checks = Checks {
     required: &[b"route_id"],
     fields: &[
@@ -74,6 +75,7 @@ impl RecordReader for RouteColumns {
     }
 }
 
+/// The columns that a header names.
 fn columns_in(header: &ByteRecord) -> RouteColumns
     ensures { result ≡ columns_of (fields_of header.now) }
 {
@@ -93,7 +95,12 @@ pub fn read_routes(alloc: Global, bytes: &[u8]) -> Result<Identifiers, FeedFault
 {
     let mut file = open_table(alloc, bytes, FileName::Routes, CHECKS.required)?;
     let mut ids = Identifiers::new(alloc);
-    let read = read_records(alloc, &columns_in(&file.header), &mut ids, &mut file.rows);
+    let read = read_records(
+        alloc,
+        &columns_in(&file.header),
+        &mut ids,
+        &mut file.records,
+    );
     drop(file);
     read.and(Ok(ids))
 }

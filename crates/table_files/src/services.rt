@@ -7,8 +7,15 @@ ghost use Rattle.table_files.specs.Services.{named};
 use std::alloc::{AllocError, Global};
 use table_records::Identifiers;
 
-/// The number of a service, which gets the next number where it is named for the first time. It is looked for where it
-/// is likely first.
+/// No fewer than `calendar.txt` and `calendar_dates.txt` can name: a record of theirs names one, and a file has no more
+/// records than bytes.
+pub const MOST_DATED_SERVICES: usize = 2_147_483_650;
+
+/// No fewer than a feed can have: `trips.txt` names one more for each of its trips.
+pub const MOST_SERVICES: usize = 2_148_483_650;
+
+/// The number of a service, which gets the next number if it is named for the first time. It is found fastest if it is
+/// `likely` or the number after it.
 pub fn number_service(
     alloc: Global,
     services: &mut Identifiers,

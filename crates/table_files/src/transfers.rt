@@ -17,8 +17,8 @@ use crate::places::{Places, kind_number};
 use csv::ByteRecord;
 use std::alloc::{AllocError, Global};
 use table_records::{
-    Check, Checks, FeedFault, FileName, OpenTable, RecordReader, Rows, Rule, What, column, field,
-    number, read_records, trim,
+    Check, Checks, FeedFault, FileName, OpenTable, RecordReader, Records, Rule, What, column,
+    field, number, read_records, trim,
 };
 
 /// A walk from one place to another, as a row of `transfers.txt` states it. A station stands for all its stops.
@@ -43,6 +43,7 @@ pub struct Transfers {
     pub unused: u32,
 }
 
+/// The checks; [`transfer_checks`] says what holds of them.
 const CHECKS: Checks = Checks {
     required: &[],
     fields: &[
@@ -74,7 +75,7 @@ pub struct TransferColumns {
     pub to_trip: Option<usize>,
 }
 
-// Whether a field of a record is empty.
+/// Whether a field of a record is empty.
 fn lacks(row: &ByteRecord, column: Option<usize>) -> bool
     ensures { result ≡ is_empty (columns_spec.field (fields_of row.now) column) }
 {
@@ -86,7 +87,7 @@ impl TransferColumns {
     ghost use Rattle.std.specs.Str.{bytes_eq};
     ghost use Rattle.table_files.specs.Transfers.{is_general, is_whole, row_at};
 
-    // Whether a row holds for every route and trip.
+    /// Whether a row holds for every route and trip.
     fn is_general(&self, row: &ByteRecord) -> bool
         ensures { result ≡ is_general (row_at self.now (fields_of row.now)) }
     {
@@ -96,14 +97,14 @@ impl TransferColumns {
             && lacks(row, self.to_trip)
     }
 
-    // Whether a row has two ends and a time.
+    /// Whether a row has two ends and a time.
     fn is_whole(&self, row: &ByteRecord) -> bool
         ensures { result ≡ is_whole (row_at self.now (fields_of row.now)) }
     {
         !trim(field(row, self.time)).is_empty() && !lacks(row, self.from) && !lacks(row, self.to)
     }
 
-    // Whether a row with this type says how long a walk takes.
+    /// Whether a row with this type says how long a walk takes.
     fn is_used(&self, kind: u32, row: &ByteRecord) -> bool
         ensures { result ≡ (nat_le kind 2 && is_general (row_at self.now (fields_of row.now)) && is_whole
             (row_at self.now (fields_of row.now))) }
@@ -111,7 +112,7 @@ impl TransferColumns {
         kind <= 2 && self.is_general(row) && self.is_whole(row)
     }
 
-    // Whether a row with this type states a change time.
+    /// Whether a row with this type states a change time.
     fn is_change(&self, kind: u32, row: &ByteRecord) -> bool
         ensures { result ≡ ((kind == 2) && bytes_eq (row_at self.now (fields_of row.now)).from
             (row_at self.now (fields_of row.now)).to) }
@@ -131,7 +132,7 @@ impl<'a> TransferReader<'a> {
     ghost use Rattle.std.specs.Prelude.{◌≡◌, [], length, map, IfOk, IfErr, IfSome};
     ghost use Rattle.table_files.specs.Transfers.{IsLink, checks, is_change, link_at, link_of, row_at, used_checks};
 
-    // The values of a row that is used, and states a change time or none.
+    /// The values of a row that is used, and states a change time or none.
     fn link(&self, at: u64, changes: bool, row: &ByteRecord) -> Result<Link, FeedFault>
         requires { changes ≡ is_change (row_at self.now.columns (fields_of row.now)) }
         ensures good { IfOk result (λ link. (used_checks self.now.places.now.names
@@ -161,7 +162,7 @@ impl<'a> TransferReader<'a> {
         })
     }
 
-    // The link of a row, if it gives a walk or a change time.
+    /// The link of a row, if it gives a walk or a change time.
     fn link_in(&self, at: u64, row: &ByteRecord) -> Result<Option<Link>, FeedFault>
         ensures good { IfOk result (λ link. (checks self.now.places.now.names []
             (row_at self.now.columns (fields_of row.now)) ≡ [])
@@ -183,7 +184,7 @@ impl<'a> TransferReader<'a> {
         Ok(Some(link))
     }
 
-    // Whether a link gives a pair or a change time.
+    /// Whether a link gives a pair or a change time.
     fn gives_any(&self, link: Link) -> bool
         requires { IsLink (length self.now.places.now.stops) (length self.now.places.now.stations) link }
         ensures { result ≡ spec.gives_any self.now.places.now.children link }
@@ -191,7 +192,7 @@ impl<'a> TransferReader<'a> {
         self.gives_pair(link) || self.gives_change(link)
     }
 
-    // Whether a link states a change time for some stop.
+    /// Whether a link states a change time for some stop.
     fn gives_change(&self, link: Link) -> bool
         requires { IsLink (length self.now.places.now.stops) (length self.now.places.now.stations) link }
         ensures { result ≡ spec.gives_change self.now.places.now.children link }
@@ -200,7 +201,7 @@ impl<'a> TransferReader<'a> {
         link.changes && !stops.as_slice().is_empty()
     }
 
-    // Whether a link's ends give a pair of different stops.
+    /// Whether a link's ends give a pair of different stops.
     fn gives_pair(&self, link: Link) -> bool
         requires { IsLink (length self.now.places.now.stops) (length self.now.places.now.stations) link }
         ensures { result ≡ spec.gives_pair self.now.places.now.children link }
@@ -215,7 +216,7 @@ impl Transfers {
     ghost use Rattle.std.specs.Prelude.{◌≡◌, ◌++◌, ◌∷◌, ◌+◌, ◌<◌, ◌^◌, [], IfOk};
     ghost use Rattle.table_files.specs.Transfers.{Takes};
 
-    // Takes a row's link, or counts a row without one.
+    /// Takes a row's link, or counts a row without one.
     fn take(&mut self, link: Option<Link>) -> Result<(), AllocError>
         requires { self.old.unused + 1 < 2 ^ 32 }
         ensures { IfOk result (λ _. Takes link self.old self.new) }
@@ -259,6 +260,7 @@ impl<'a> RecordReader for TransferReader<'a> {
     }
 }
 
+/// The columns that a header names.
 fn columns_in(header: &ByteRecord) -> TransferColumns
     ensures { result ≡ spec.columns_of (fields_of header.now) }
 {
@@ -274,16 +276,16 @@ fn columns_in(header: &ByteRecord) -> TransferColumns
     }
 }
 
-// The header, which may be absent since no column is required, and the records after it.
+/// The header, which may be absent since no column is required, and the records after it.
 fn open_file(alloc: Global, bytes: &[u8]) -> Result<OpenTable<'_>, AllocError>
     requires { length bytes.now ≤ MOST_BYTES }
-    ensures rows { IfOk result (λ t. spec.transfer_rows bytes.now ≡ map (spec.row_of (fields_of t.header)) t.rows) }
-    ensures few { IfOk result (λ t. length t.rows ≤ MOST_BYTES) }
+    ensures rows { IfOk result (λ t. spec.transfer_rows bytes.now ≡ map (spec.row_of (fields_of t.header)) t.records) }
+    ensures few { IfOk result (λ t. length t.records ≤ MOST_BYTES) }
 {
-    let mut rows = Rows::new(alloc, bytes);
+    let mut records = Records::new(alloc, bytes);
     let mut header = ByteRecord::new(alloc);
-    rows.next(&mut header)?;
-    Ok(OpenTable { header, rows })
+    records.next(&mut header)?;
+    Ok(OpenTable { header, records })
 }
 
 /// The walks and change times of `transfers.txt`, or its first fault. No column is required, nor any record.
@@ -309,7 +311,7 @@ pub fn read_transfers(alloc: Global, bytes: &[u8], places: &Places) -> Result<Tr
         columns: columns_in(&file.header),
         places,
     };
-    let read = read_records(alloc, &reader, &mut transfers, &mut file.rows);
+    let read = read_records(alloc, &reader, &mut transfers, &mut file.records);
     drop(file);
     places.known();
     read.and(Ok(transfers))

@@ -1,12 +1,12 @@
 pub mod RecordsLeft
-pub mod Mapped
+pub mod MappedTests
 pub mod Trims
 pub mod Dates
 pub mod FieldFacts
 pub mod FaultFacts
 pub mod ReadingFacts
 pub mod TableFacts
-pub mod Near
+pub mod DistinctTexts
 pub mod PlainTimes
 pub mod CheckFacts
 pub mod RowFacts

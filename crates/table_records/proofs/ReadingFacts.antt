@@ -8,7 +8,7 @@ use Rattle.csv.specs.declared.parser.Config.{Config}
 use Rattle.csv.specs.declared.parser.State.{State}
 use Rattle.csv.specs.declared.parser.State.TheVariants as st
 use Rattle.std.specs.List.{list_any}
-use Rattle.table_records.proofs.Mapped.{list_any-map}
+use Rattle.table_records.proofs.MappedTests.{list_any-map}
 use Rattle.table_records.specs.Columns.{column}
 use Rattle.table_records.specs.Faults.{Tells, faults_after}
 use Rattle.table_records.specs.Table.{Gives, records_of}

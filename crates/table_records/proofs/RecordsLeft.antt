@@ -11,7 +11,7 @@ use Rattle.csv.specs.declared.reader.Reader.{Reader}
 use Rattle.csv.specs.Reading.{NextIs, ReadRecord, ReadsNext, default_config, records_from, records_next}
 use Rattle.csv.specs.Reading.{buffered_of, strip_bom}
 use Rattle.std.specs.Prelude.{option_map, not}
-use Rattle.table_records.specs.Left.{IsBetween, IsPlain, bytes_left, records_after}
+use Rattle.table_records.specs.Records.{IsBetween, IsPlain, bytes_left, records_after}
 use Rattle.table_records.specs.Table.{Gives}
 
 -- where a byte ends a record, no record is begun after it

@@ -18,7 +18,7 @@ pub first_told : (file : FileName) (at : ℕ) (faults : List What) (w : What) (e
 first_told file at faults w e is first =
     rw is (first_map (λ (x : What). let t : FeedFault = record { file = file; at = at; what = x } in t) faults w first)
 
--- the first fault of a record is what may be told
+-- the first fault of a record is one that may be returned
 pub tells_row : {R : Type 0} (file : FileName) (checks : List R → R →
     List What) (before : List R) (r : R) (w : What) (e : FeedFault) (at : ℕ)
     → e ≡ record { file = file; at = at; what = w } → at ≡ length before + 2 → slice_get (checks before r) 0 ≡ Some w →

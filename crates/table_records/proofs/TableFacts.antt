@@ -1,4 +1,4 @@
--- A table whose records were read is handed over, and else the fault of its records is told.
+-- A table whose records were read is returned, and else the fault of its records.
 use Rattle.std.proofs.Common.{◌≡◌}
 use Rattle.std.specs.Prelude.{Result, Ok, Err, IfOk, IfErr}
 use Rattle.std.specs.Result.{result_and}

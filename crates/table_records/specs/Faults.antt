@@ -25,6 +25,6 @@ faults_after file checks before (r ∷ rs) =
 abbrev pub IsFirst : {F : Type 0} → F → List F → Type 0
 IsFirst e faults = slice_get faults 0 ≡ Some e
 
--- what may be told: the first fault, or that there was no memory
+-- what may be returned: the first fault, or that there was no memory
 abbrev pub Tells : FeedFault → List FeedFault → Type 0
 Tells e faults = (e.what ≡ what.Memory) ⊎ IsFirst e faults

@@ -1,5 +1,5 @@
 pub mod Table
-pub mod Left
+pub mod Records
 pub mod Fields
 pub mod Columns
 pub mod Faults

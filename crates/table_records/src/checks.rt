@@ -1,4 +1,4 @@
-//! What is checked of the records of a file, as data: proved to explain the faults that the file's reader tells.
+//! What is checked of the records of a file, as data: proved to explain the faults that the file's reader returns.
 
 ghost use Rattle.std.specs.Prelude.{◌≡◌};
 ghost use Rattle.table_records.specs.Checks as spec;

@@ -1,5 +1,5 @@
 //! What can be wrong with a file of a feed, and where.
-//! Only the first fault is told: the least by file, then by record, then by check.
+//! Only the first fault is reported: the least by file, then by record, then by check.
 
 ghost use Rattle.std.specs.Prelude.{◌≡◌};
 
@@ -50,7 +50,7 @@ pub enum What {
     BadNumber,
     /// The first or the last event of a trip has no time.
     NoTime,
-    /// A time along a trip is before the time ahead of it.
+    /// A time along a trip is earlier than the time before it.
     TimesGoBack,
     /// More records than the limit.
     TooMany,
@@ -90,7 +90,7 @@ impl FeedFault {
         FeedFault { file, at, what }
     }
 
-    // Out of memory, which no file is the cause of.
+    /// Out of memory, which is no file's fault.
     fn memory() -> FeedFault
         ensures { result.what ≡ Memory }
     {

@@ -16,7 +16,7 @@ pub fn trim(text: &[u8]) -> &[u8]
     trim_back(trim_front(text))
 }
 
-// A text without the spaces at its start.
+/// A text without the spaces at its start.
 fn trim_front(text: &[u8]) -> &[u8]
     ensures { result.now ≡ trim_start text.now }
 {
@@ -27,7 +27,7 @@ fn trim_front(text: &[u8]) -> &[u8]
     rest
 }
 
-// A text without the spaces at its end.
+/// A text without the spaces at its end.
 fn trim_back(text: &[u8]) -> &[u8]
     ensures { result.now ≡ trim_end text.now }
 {
@@ -75,7 +75,8 @@ pub fn read_time(text: &[u8]) -> Option<u32>
     }
 }
 
-// The seconds of a time in the form that nearly all have, two digits of hours to 59 and no space; none of another text.
+/// The seconds of a time in the form that nearly all have: two digits of hours, up to 59, and no space. `None` for any
+/// other text.
 fn plain_time(text: &[u8]) -> Option<u32>
     ensures { IfSome result (λ seconds. time_of (trimmed text.now) ≡ Some seconds) }
 {
@@ -91,7 +92,7 @@ fn plain_time(text: &[u8]) -> Option<u32>
     Some(3600 * hours + 60 * minutes + seconds)
 }
 
-// The seconds of a time in any form.
+/// The seconds of a time in any form.
 #[inline(never)]
 fn any_time(text: &[u8]) -> Option<u32>
     ensures { result ≡ time_of (trimmed text.now) }
@@ -113,7 +114,7 @@ fn any_time(text: &[u8]) -> Option<u32>
     Some(hours * 3600 + minutes * 60 + seconds)
 }
 
-// Minutes or seconds, of their two digits.
+/// Minutes or seconds, of their two digits.
 fn two_digits(tens: u8, ones: u8) -> Option<u32>
     ensures value { result ≡ sixty tens ones }
     ensures small { IfSome result (λ n. n < 60) }

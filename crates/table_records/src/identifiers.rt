@@ -56,8 +56,8 @@ impl Identifiers {
         self.set.get_index_of(id)
     }
 
-    /// The number of an identifier, if it is here: the same as [`Identifiers::number`], found soonest where it is
-    /// `guess` or the one after it.
+    /// The number of an identifier, if it is here, as [`Identifiers::number`] gives it. It is found fastest if it is
+    /// `guess` or the number after it.
     pub fn number_near(&self, id: &[u8], guess: usize) -> Option<usize>
         ensures { result ≡ position (bytes_eq id.now) self.now }
     {
@@ -71,7 +71,7 @@ impl Identifiers {
         self.number(id)
     }
 
-    // Whether an identifier has this number.
+    /// Whether an identifier has this number.
     fn has_at(&self, id: &[u8], number: usize) -> bool
         ensures { IsTrue result → position (bytes_eq id.now) self.now ≡ Some number }
     {
@@ -79,7 +79,7 @@ impl Identifiers {
         number < ids.len() && are_equal(ids[number].as_slice(), id)
     }
 
-    /// The identifier that has this number, if there are so many.
+    /// The identifier that has this number, if there is one.
     pub fn id(&self, number: usize) -> Option<&[u8]>
         ensures { option_map (λ s. s.now) result ≡ slice_get self.now number }
     {
@@ -106,8 +106,8 @@ impl Identifiers {
     }
 }
 
-// Whether two identifiers are equal. Nearly all have 4 to 16 bytes, which their first and their last ones tell in two
-// steps.
+/// Whether two identifiers are equal. Nearly all have 4 to 16 bytes, so two steps compare them: the first bytes, then
+/// the last.
 fn are_equal(a: &[u8], b: &[u8]) -> bool
     ensures { IsTrue result → a.now ≡ b.now }
 {
@@ -121,7 +121,8 @@ fn are_equal(a: &[u8], b: &[u8]) -> bool
     }
 }
 
-// Whether all bytes of two texts are equal. It stands apart, so that no first byte is fetched alone for it above.
+/// Whether all bytes of two texts are equal. It is a function of its own, so that the compiler fetches no first byte
+/// alone for it in `are_equal`.
 #[inline(never)]
 fn all_are_equal(a: &[u8], b: &[u8]) -> bool
     ensures { IsTrue result → a.now ≡ b.now }
@@ -129,7 +130,7 @@ fn all_are_equal(a: &[u8], b: &[u8]) -> bool
     a == b
 }
 
-// Whether the first and the last bytes of two texts of one length are equal, so many that they are all.
+/// Whether the first `N` and the last `N` bytes of two texts of one length are equal. Together these are all bytes.
 fn ends_are_equal<const N: usize>(a: &[u8], b: &[u8]) -> bool
     requires few { N ≤ 8 }
     requires same { length a.now ≡ length b.now }
@@ -142,7 +143,7 @@ fn ends_are_equal<const N: usize>(a: &[u8], b: &[u8]) -> bool
     }
 }
 
-// Whether the last bytes of two texts of one length are equal.
+/// Whether the last `N` bytes of two texts of one length are equal.
 fn last_are_equal<const N: usize>(a: &[u8], b: &[u8]) -> bool
     requires few { N ≤ 8 }
     requires same { length a.now ≡ length b.now }

@@ -2,7 +2,7 @@
 //! their numbers, and the first fault with its file and record.
 //! It knows no column and no file's rules; those are with the files' own readers.
 //!
-//! - `rows`: [`Rows`] gives the records of a file one at a time, the header first.
+//! - `records`: [`Records`] gives the records of a file one at a time, the header first.
 //! - `columns`: [`column`] finds a column in the header, [`field`] its text in a record.
 //! - `fields`: [`trim`], [`number`], [`read_time`] and [`read_date`] give texts their values.
 //! - `identifiers`: [`Identifiers`] numbers stops, routes, trips and services.
@@ -25,7 +25,7 @@ mod fields;
 mod identifiers;
 mod limits;
 mod reading;
-mod rows;
+mod records;
 
 pub use checks::{Check, Checks, Rule};
 pub use columns::{column, field};
@@ -36,4 +36,4 @@ pub use limits::{MOST_BYTES, limits_are_as_stated};
 pub use reading::{
     OpenTable, RecordReader, RecordTaker, open_records, open_table, read_records, take_records,
 };
-pub use rows::Rows;
+pub use records::Records;

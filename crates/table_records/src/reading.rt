@@ -16,7 +16,7 @@ ghost use Rattle.table_records.specs.Reading.{lacks_column, missing_column};
 
 use crate::columns::column;
 use crate::fault::{FeedFault, FileName, HeaderFault, What};
-use crate::rows::Rows;
+use crate::records::Records;
 use csv::ByteRecord;
 use std::alloc::{AllocError, Global};
 
@@ -73,7 +73,7 @@ pub trait RecordTaker {
     // what records without fault make of a table
     ghost Makes: { Self → Self.Table → List (List (List ℕ)) → Self.Table → Type 0 };
 
-    // a fault that may be told of records
+    // a fault that may be returned for records
     ghost Refuses: { Self → Self.Table → List (List (List ℕ)) → Self.Fault → Type 0 };
 
     // the table has room for the record of a number
@@ -97,7 +97,7 @@ pub trait RecordTaker {
             at ≡ length before + 2 → Makes self.now start before table.old
             → Refuses self.now start (before ++ fields_of row.now ∷ after) e) };
 
-    /// The error when memory runs out, which may be told of any records.
+    /// The error when memory runs out, which may be returned for any records.
     fn memory(&self) -> Self::Fault
         ensures { (start : Self.Table) (records : List (List (List ℕ))) → Refuses self.now start records result };
 }
@@ -107,35 +107,35 @@ pub fn take_records<T: RecordTaker>(
     alloc: Global,
     taker: &T,
     table: &mut T::Table,
-    rows: &mut Rows<'_>,
+    records: &mut Records<'_>,
 ) -> Result<(), T::Fault>
-    requires few { length rows.old ≤ MOST_BYTES }
+    requires few { length records.old ≤ MOST_BYTES }
     requires room { T.HasRoom taker.now table.old 2 }
     requires empty { T.Makes taker.now table.old [] table.old }
-    ensures good { IfOk result (λ _. T.Makes taker.now table.old rows.old table.new) }
-    ensures room { IfOk result (λ _. T.HasRoom taker.now table.new (length rows.old + 2)) }
-    ensures fault { IfErr result (λ e. T.Refuses taker.now table.old rows.old e) }
+    ensures good { IfOk result (λ _. T.Makes taker.now table.old records.old table.new) }
+    ensures room { IfOk result (λ _. T.HasRoom taker.now table.new (length records.old + 2)) }
+    ensures fault { IfErr result (λ e. T.Refuses taker.now table.old records.old e) }
 {
     let mut row = ByteRecord::new(alloc);
     let mut at: u64 = 2;
-    while next_of(taker, rows, &mut row)? {
+    while next_of(taker, records, &mut row)? {
         taker.take(alloc, table, at, &row)?;
         at += 1;
     }
     Ok(())
 }
 
-// Puts the next record into `row`, and says whether there was one; out of memory is told as the taker tells it.
+/// Puts the next record into `row`, and says whether there was one. Out of memory it returns the taker's error.
 fn next_of<T: RecordTaker>(
     taker: &T,
-    rows: &mut Rows<'_>,
+    records: &mut Records<'_>,
     row: &mut ByteRecord,
 ) -> Result<bool, T::Fault>
-    ensures given { IfOk result (λ found. Gives rows.old found (fields_of row.new) rows.new) }
+    ensures given { IfOk result (λ found. Gives records.old found (fields_of row.new) records.new) }
     ensures memory { IfErr result (λ e. (start : T.Table) (records : List (List (List ℕ))) →
         T.Refuses taker.now start records e) }
 {
-    match rows.next(row) {
+    match records.next(row) {
         Ok(found) => Ok(found),
         Err(_) => Err(taker.memory()),
     }
@@ -146,22 +146,22 @@ pub fn read_records<R: RecordReader>(
     alloc: Global,
     reader: &R,
     table: &mut R::Table,
-    rows: &mut Rows<'_>,
+    records: &mut Records<'_>,
 ) -> Result<(), FeedFault>
-    requires few { length rows.old ≤ MOST_BYTES }
+    requires few { length records.old ≤ MOST_BYTES }
     requires room { R.HasRoom reader.now table.old 2 }
     requires empty { R.After reader.now table.old [] table.old }
-    ensures good { IfOk result (λ _. (faults_after R.file (R.checks reader.now) [] (map (R.row_of reader.now) rows.old)
-        ≡ [])
-        × R.After reader.now table.old (map (R.row_of reader.now) rows.old) table.new) }
-    ensures room { IfOk result (λ _. R.HasRoom reader.now table.new (length rows.old + 2)) }
+    ensures good { IfOk result (λ _.
+        (faults_after R.file (R.checks reader.now) [] (map (R.row_of reader.now) records.old) ≡ [])
+        × R.After reader.now table.old (map (R.row_of reader.now) records.old) table.new) }
+    ensures room { IfOk result (λ _. R.HasRoom reader.now table.new (length records.old + 2)) }
     ensures fault { IfErr result (λ e. Tells e
-        (faults_after R.file (R.checks reader.now) [] (map (R.row_of reader.now) rows.old))) }
+        (faults_after R.file (R.checks reader.now) [] (map (R.row_of reader.now) records.old))) }
 {
-    take_records(alloc, &FeedRecords { reader }, table, rows)
+    take_records(alloc, &FeedRecords { reader }, table, records)
 }
 
-// The records of a file of a feed, each checked against those before.
+/// A [`RecordReader`] as a [`RecordTaker`], so that one loop goes over the records of every file.
 #[derive(Clone, Copy)]
 struct FeedRecords<'a, R> {
     reader: &'a R,
@@ -196,7 +196,7 @@ impl<'a, R: RecordReader> RecordTaker for FeedRecords<'a, R> {
     }
 }
 
-// Whether a header lacks one of the columns with these names.
+/// Whether a header lacks one of the columns with these names.
 fn lacks_one(header: &ByteRecord, required: &[&[u8]]) -> bool
     ensures { result ≡ list_any (λ name. is_none (spec.column (fields_of header.now) name.now)) required.now }
 {
@@ -207,7 +207,7 @@ fn lacks_one(header: &ByteRecord, required: &[&[u8]]) -> bool
 #[derive(Drop)]
 pub struct OpenTable<'a> {
     pub header: ByteRecord,
-    pub rows: Rows<'a>,
+    pub records: Records<'a>,
 }
 
 /// Reads the header of a file of a feed, which must name each required column.
@@ -220,8 +220,8 @@ pub fn open_table<'a>(
     requires { length bytes.now ≤ MOST_BYTES }
     ensures columns { IfOk result (λ _. lacks_column (map (λ name. name.now) required.now) (records_of bytes.now)
         ≡ false) }
-    ensures records { IfOk result (λ t. records_of bytes.now ≡ fields_of t.header ∷ t.rows) }
-    ensures few { IfOk result (λ t. length t.rows ≤ MOST_BYTES) }
+    ensures records { IfOk result (λ t. records_of bytes.now ≡ fields_of t.header ∷ t.records) }
+    ensures few { IfOk result (λ t. length t.records ≤ MOST_BYTES) }
     ensures fault { IfErr result (λ e. (e.what ≡ Memory)
         ⊎ ((lacks_column (map (λ name. name.now) required.now) (records_of bytes.now) ≡ true)
         × (e ≡ missing_column file))) }
@@ -242,36 +242,37 @@ pub fn open_records<'a>(
     requires { length bytes.now ≤ MOST_BYTES }
     ensures columns { IfOk result (λ _. lacks_column (map (λ name. name.now) required.now) (records_of bytes.now)
         ≡ false) }
-    ensures records { IfOk result (λ t. records_of bytes.now ≡ fields_of t.header ∷ t.rows) }
-    ensures few { IfOk result (λ t. length t.rows ≤ MOST_BYTES) }
+    ensures records { IfOk result (λ t. records_of bytes.now ≡ fields_of t.header ∷ t.records) }
+    ensures few { IfOk result (λ t. length t.records ≤ MOST_BYTES) }
     ensures fault { IfErr result (λ e. (e ≡ header_fault.Memory)
         ⊎ ((lacks_column (map (λ name. name.now) required.now) (records_of bytes.now) ≡ true)
         × (e ≡ header_fault.MissingColumn))) }
 {
-    let mut rows = Rows::new(alloc, bytes);
+    let mut records = Records::new(alloc, bytes);
     let mut header = ByteRecord::new(alloc);
-    match read_header(&mut rows, &mut header, required) {
-        Ok(()) => Ok(OpenTable { header, rows }),
+    match read_header(&mut records, &mut header, required) {
+        Ok(()) => Ok(OpenTable { header, records }),
         Err(fault) => {
-            drop(rows);
+            drop(records);
             drop(header);
             Err(fault)
         }
     }
 }
 
-// Takes the first record, which must name each required column.
+/// Takes the first record, which must name each required column.
 fn read_header(
-    rows: &mut Rows<'_>,
+    records: &mut Records<'_>,
     header: &mut ByteRecord,
     required: &[&[u8]],
 ) -> Result<(), HeaderFault>
-    ensures columns { OnOk result (lacks_column (map (λ name. name.now) required.now) rows.old ≡ false) }
-    ensures records { OnOk result (rows.old ≡ fields_of header.new ∷ rows.new) }
+    ensures columns { OnOk result (lacks_column (map (λ name. name.now) required.now) records.old ≡ false) }
+    ensures records { OnOk result (records.old ≡ fields_of header.new ∷ records.new) }
     ensures fault { IfErr result (λ e. (e ≡ header_fault.Memory)
-        ⊎ ((lacks_column (map (λ name. name.now) required.now) rows.old ≡ true) × (e ≡ header_fault.MissingColumn))) }
+        ⊎ ((lacks_column (map (λ name. name.now) required.now) records.old ≡ true)
+        × (e ≡ header_fault.MissingColumn))) }
 {
-    let Ok(found) = rows.next(header) else {
+    let Ok(found) = records.next(header) else {
         return Err(HeaderFault::Memory);
     };
     if !found {

@@ -6,12 +6,12 @@ use std::test::Fail;
 use table_files::{Calendar, CalendarRow, read_calendar};
 use table_records::FeedFault;
 
-// A day of May 2026.
+/// A day of May 2026.
 fn in_may(day: i8) -> Option<Date> {
     Date::new(2026, 5, day).ok()
 }
 
-// Whether a row is that of a service on these weekdays, from one date to another.
+/// Whether a row is that of a service on these weekdays, from one date to another.
 fn is_row(
     row: &CalendarRow,
     service: u32,
@@ -22,7 +22,7 @@ fn is_row(
     row.service == service && row.days == days && Some(row.first) == first && Some(row.last) == last
 }
 
-// Whether the service MON runs on Mondays from 4 May, and SUN on Sundays from 3 May, both to the end of that month.
+/// Whether the service MON runs on Mondays from 4 May, and SUN on Sundays from 3 May, both to the end of that month.
 fn has_monday_and_sunday(calendar: &Calendar) -> bool {
     let monday = [true, false, false, false, false, false, false];
     let sunday = [false, false, false, false, false, false, true];
@@ -34,7 +34,7 @@ fn has_monday_and_sunday(calendar: &Calendar) -> bool {
         && is_row(&rows[1], 1, sunday, in_may(3), in_may(31))
 }
 
-// Whether two services, each on one weekday, are read as such.
+/// Whether two services, each on one weekday, are read as such.
 fn reads_monday_and_sunday(alloc: Global) -> Result<bool, FeedFault> {
     let calendar = read_calendar(
         alloc,

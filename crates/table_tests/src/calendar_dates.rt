@@ -7,17 +7,17 @@ use std::test::Fail;
 use table_files::{CalendarDates, ExceptionRow, read_calendar_dates};
 use table_records::FeedFault;
 
-// A day of 2026.
+/// A day of 2026.
 fn in_2026(month: i8, day: i8) -> Option<Date> {
     Date::new(2026, month, day).ok()
 }
 
-// Whether a row adds a date to a service, or removes it.
+/// Whether a row adds a date to a service, or removes it.
 fn is_row(row: &ExceptionRow, service: u32, date: Option<Date>, adds: bool) -> bool {
     row.service == service && Some(row.date) == date && row.adds == adds
 }
 
-// Whether the service XMAS is new beside MON, with the 25th and 26th of December, and MON has the 4th of May twice.
+/// Whether the service XMAS is new beside MON, with the 25th and 26th of December, and MON has the 4th of May twice.
 fn has_christmas(dates: &CalendarDates) -> bool {
     let rows = dates.rows.as_slice();
     dates.services.len() == 2
@@ -29,7 +29,7 @@ fn has_christmas(dates: &CalendarDates) -> bool {
         && is_row(&rows[3], 0, in_2026(5, 4), true)
 }
 
-// Whether a file that names a new service beside MON is read so.
+/// Whether a file that names a new service beside MON is read so.
 fn reads_christmas(alloc: Global) -> Result<bool, FeedFault> {
     let services = identifiers(alloc, &[b"MON"])?;
     if services.len() > 1 {

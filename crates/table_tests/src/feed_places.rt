@@ -5,11 +5,11 @@ use gtfs_tables::{Feed, FeedBytes, FileName, Link, Place, What};
 use std::alloc::Global;
 use timetable::StopNo;
 
-// A file whose third record names a stop that `stops.txt` hasn't.
+/// A file whose third record names a stop that `stops.txt` hasn't.
 const UNKNOWN: &[u8] =
     b"from_stop_id,to_stop_id,transfer_type,min_transfer_time\nA,B,2,60\nA,Z,2,60\n";
 
-// What a test expects of a feed.
+/// What a test expects of a feed.
 #[derive(Clone, Copy)]
 enum Expected {
     Places,
@@ -20,8 +20,8 @@ enum Expected {
     NoTransfers,
 }
 
-// Whether the files are read, and a feed is as expected. One function owns the feeds of all tests, so that the drop of
-// one is proved once.
+/// Whether the files are read, and a feed is as expected. One function owns the feeds of all tests, so that the drop of
+/// one is proved once.
 fn reads(alloc: Global, expected: Expected, files: FeedBytes<'static>) -> bool {
     match feed_in(alloc, files) {
         Some(feed) => is_as_expected(&feed, expected),
@@ -40,7 +40,7 @@ fn is_as_expected(feed: &Feed, expected: Expected) -> bool {
     }
 }
 
-// Whether an identifier is that of a station with these children.
+/// Whether an identifier is that of a station with these children.
 fn has_children(feed: &Feed, id: &[u8], stops: &[StopNo]) -> bool {
     match feed.place(id) {
         Some(Place::Station(station)) => feed.children(station) == stops,
@@ -48,7 +48,7 @@ fn has_children(feed: &Feed, id: &[u8], stops: &[StopNo]) -> bool {
     }
 }
 
-// Whether a place stands for these stops.
+/// Whether a place stands for these stops.
 fn stands_for(feed: &Feed, id: &[u8], stops: &[StopNo]) -> bool {
     match feed.place(id) {
         Some(place) => feed.stops_at(place).as_slice() == stops,
@@ -56,7 +56,7 @@ fn stands_for(feed: &Feed, id: &[u8], stops: &[StopNo]) -> bool {
     }
 }
 
-// Whether each of six identifiers is that of its place.
+/// Whether each of six identifiers is that of its place.
 fn has_places(feed: &Feed) -> bool {
     feed.place(b"A") == Some(Place::Stop(StopNo(0)))
         && feed.place(b"B") == Some(Place::Stop(StopNo(1)))
@@ -72,7 +72,7 @@ fn a_place_is_a_stop_a_station_or_another(rt: HostRuntime) {
     assert!(rt; reads(rt.alloc(), Expected::Places, station_feed()));
 }
 
-// Whether the station S has the children A and B, T has none, and A is no station.
+/// Whether the station S has the children A and B, T has none, and A is no station.
 fn has_stations(feed: &Feed) -> bool {
     has_children(feed, b"S", &[StopNo(0), StopNo(1)])
         && has_children(feed, b"T", &[])
@@ -85,7 +85,7 @@ fn a_station_between_its_children_has_both(rt: HostRuntime) {
     assert!(rt; reads(rt.alloc(), Expected::Stations, station_feed()));
 }
 
-// Whether the station S, the stop C and the entrance E stand for their stops.
+/// Whether the station S, the stop C and the entrance E stand for their stops.
 fn has_stops_of_places(feed: &Feed) -> bool {
     stands_for(feed, b"S", &[StopNo(0), StopNo(1)])
         && stands_for(feed, b"C", &[StopNo(2)])
@@ -98,7 +98,7 @@ fn a_place_stands_for_its_stops(rt: HostRuntime) {
     assert!(rt; reads(rt.alloc(), Expected::StopsOfPlaces, station_feed()));
 }
 
-// Whether a walk leads from A to B, and one from the station S to C.
+/// Whether a walk leads from A to B, and one from the station S to C.
 fn has_two_links(feed: &Feed) -> bool {
     let walk = Link {
         origin: Place::Stop(StopNo(0)),
@@ -123,7 +123,7 @@ fn links_are_the_rows_that_give_a_walk(rt: HostRuntime) {
     assert!(rt; reads(rt.alloc(), Expected::TwoLinks, station_feed()));
 }
 
-// Whether three rows of transfers give no walk.
+/// Whether three rows of transfers give no walk.
 fn has_three_unused(feed: &Feed) -> bool {
     feed.unused_transfers() == 3
 }
@@ -134,7 +134,7 @@ fn rows_without_a_walk_are_counted(rt: HostRuntime) {
     assert!(rt; reads(rt.alloc(), Expected::ThreeUnused, station_feed()));
 }
 
-// Whether a feed has no walk, and no row of transfers without one.
+/// Whether a feed has no walk, and no row of transfers without one.
 fn has_no_transfers(feed: &Feed) -> bool {
     feed.links().is_empty() && feed.unused_transfers() == 0
 }

@@ -6,7 +6,7 @@ use std::test::Fail;
 use table_files::{FeedTrips, TripNumbers, read_feed_trips};
 use table_records::FeedFault;
 
-// Whether the trips T1, T2 and T3 have their routes and services, of which NEW is the second.
+/// Whether the trips T1, T2 and T3 have their routes and services, of which NEW is the second.
 fn has_three_trips(trips: &FeedTrips) -> bool {
     let first = TripNumbers {
         route: 0,
@@ -25,7 +25,7 @@ fn has_three_trips(trips: &FeedTrips) -> bool {
         && trips.numbers.as_slice() == [first, second, third].as_slice()
 }
 
-// Whether three trips of two routes, with a service that no calendar names, are read as such.
+/// Whether three trips of two routes, with a service that no calendar names, are read as such.
 fn reads_three_trips(alloc: Global) -> Result<bool, FeedFault> {
     let routes = identifiers(alloc, &[b"R1", b"R2"])?;
     let services = identifiers(alloc, &[b"MON"])?;

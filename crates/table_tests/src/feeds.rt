@@ -7,7 +7,7 @@ use gtfs_tables::{
 use std::alloc::Global;
 use timetable::{Event, StopNo};
 
-// What a test expects of a feed.
+/// What a test expects of a feed.
 #[derive(Clone, Copy)]
 enum Expected {
     Small,
@@ -23,8 +23,8 @@ enum Expected {
     OpenTimes,
 }
 
-// Whether the files are read, and a feed is as expected. One function owns the feeds of all tests, so that the drop of
-// one is proved once.
+/// Whether the files are read, and a feed is as expected. One function owns the feeds of all tests, so that the drop of
+/// one is proved once.
 fn reads(alloc: Global, expected: Expected, files: FeedBytes<'static>) -> bool {
     match feed_in(alloc, files) {
         Some(feed) => is_as_expected(&feed, expected),
@@ -48,7 +48,7 @@ fn is_as_expected(feed: &Feed, expected: Expected) -> bool {
     }
 }
 
-// Whether a feed has the stops, routes, services and the two trips of the small feed, in seconds.
+/// Whether a feed has the stops, routes, services and the two trips of the small feed, in seconds.
 fn is_small(feed: &Feed) -> bool {
     has_three_stops(feed)
         && feed.route_no(b"R2") == Some(1)
@@ -68,7 +68,7 @@ fn has_three_stops(feed: &Feed) -> bool {
         && feed.stop_no(b"Z") == None
 }
 
-// Whether the stop of a number has this identifier.
+/// Whether the stop of a number has this identifier.
 fn has_stop(feed: &Feed, stop: u32, id: &[u8]) -> bool {
     stop < feed.stop_count() && feed.stop_id(StopNo(stop)) == id
 }
@@ -82,7 +82,7 @@ fn has_two_trips(feed: &Feed) -> bool {
         && is_trip(feed.trip(1), b"T2", 1, &[at(1, 29_700), at(2, 30_600)])
 }
 
-// Whether a trip of the first service has this identifier, route and events.
+/// Whether a trip of the first service has this identifier, route and events.
 fn is_trip(trip: &FeedTrip, id: &[u8], route: u32, events: &[Event]) -> bool {
     trip.id.as_slice() == id
         && trip.route == route
@@ -90,7 +90,7 @@ fn is_trip(trip: &FeedTrip, id: &[u8], route: u32, events: &[Event]) -> bool {
         && trip.events.as_slice() == events
 }
 
-// A stay of no length at a stop, where travellers may board and alight.
+/// A stay of no length at a stop, where travellers may board and alight.
 fn at(stop: u32, time: u32) -> Event {
     Event {
         stop: StopNo(stop),
@@ -101,7 +101,7 @@ fn at(stop: u32, time: u32) -> Event {
     }
 }
 
-// Whether a feed has the calendar of the small feed, no exceptions, and a first trip without departures of its own.
+/// Whether a feed has the calendar of the small feed, no exceptions, and a first trip without departures of its own.
 fn runs_on_mondays(feed: &Feed) -> bool {
     let rows = feed.calendar();
     feed.trip_count() > 0
@@ -111,7 +111,7 @@ fn runs_on_mondays(feed: &Feed) -> bool {
         && is_every_monday(&rows[0])
 }
 
-// Whether a row is that of the first service on Mondays in May 2026.
+/// Whether a row is that of the first service on Mondays in May 2026.
 fn is_every_monday(row: &CalendarRow) -> bool {
     row.service == 0
         && row.days == [true, false, false, false, false, false, false]
@@ -129,7 +129,7 @@ fn reads_a_feed(rt: HostRuntime) {
     assert!(rt; reads(rt.alloc(), Expected::SmallOnMondays, small_feed()));
 }
 
-// Whether a feed is the small one, with one row of each calendar, and one row of departures of its second trip.
+/// Whether a feed is the small one, with one row of each calendar, and one row of departures of its second trip.
 fn has_calendars_and_departures(feed: &Feed) -> bool {
     is_small(feed)
         && feed.calendar().len() == 1
@@ -184,7 +184,7 @@ fn counts_stops_alone(rt: HostRuntime) {
     assert!(rt; reads(rt.alloc(), Expected::Small, feed_of(stops, TRIPS, TIMES)));
 }
 
-// The small feed with services that calendar_dates.txt and trips.txt name.
+/// The small feed with services that calendar_dates.txt and trips.txt name.
 fn three_services() -> FeedBytes<'static> {
     FeedBytes {
         calendar_dates: Some(b"service_id,date,exception_type\nSAT,20260509,1\nMON,20260518,2\n"),
@@ -206,12 +206,12 @@ fn services_are_numbered_as_first_named(rt: HostRuntime) {
     assert!(rt; reads(rt.alloc(), Expected::ThreeServices, three_services()));
 }
 
-// Whether two trips of the second route run on the third and the second service.
+/// Whether two trips of the second route run on the third and the second service.
 fn has_trips_of_services(feed: &Feed) -> bool {
     feed.trip_count() == 2 && runs_on(feed, 0, 1, 2) && runs_on(feed, 1, 1, 1)
 }
 
-// Whether a trip is of this route and runs on this service.
+/// Whether a trip is of this route and runs on this service.
 fn runs_on(feed: &Feed, trip: u32, route: u32, service: u32) -> bool {
     if trip >= feed.trip_count() {
         return false;
@@ -226,13 +226,13 @@ fn trips_have_routes_and_services(rt: HostRuntime) {
     assert!(rt; reads(rt.alloc(), Expected::TripsOfServices, three_services()));
 }
 
-// Whether a date is added to the second service, and then one removed from the first.
+/// Whether a date is added to the second service, and then one removed from the first.
 fn has_two_exceptions(feed: &Feed) -> bool {
     let rows = feed.exceptions();
     rows.len() == 2 && is_exception(&rows[0], 1, true) && is_exception(&rows[1], 0, false)
 }
 
-// Whether a row adds its date to this service, or removes it from it.
+/// Whether a row adds its date to this service, or removes it from it.
 fn is_exception(row: &ExceptionRow, service: u32, adds: bool) -> bool {
     row.service == service && row.adds == adds
 }
@@ -243,7 +243,7 @@ fn exceptions_have_services(rt: HostRuntime) {
     assert!(rt; reads(rt.alloc(), Expected::TwoExceptions, three_services()));
 }
 
-// Whether a feed is the small one but for its days: no row of the first calendar, and one exception.
+/// Whether a feed is the small one but for its days: no row of the first calendar, and one exception.
 fn has_one_exception(feed: &Feed) -> bool {
     is_small(feed) && feed.calendar().is_empty() && feed.exceptions().len() == 1
 }
@@ -259,8 +259,8 @@ fn one_calendar_is_enough(rt: HostRuntime) {
     assert!(rt; reads(rt.alloc(), Expected::OneException, files));
 }
 
-// Whether the second trip of the small feed departs every ten minutes from eight to nine, and then never, and the first
-// has no departures.
+/// Whether the second trip of the small feed departs every ten minutes from eight to nine, and then never, and the
+/// first has no departures.
 fn has_departures(feed: &Feed) -> bool {
     let early = Departures {
         start: 28_800,
@@ -275,7 +275,7 @@ fn has_departures(feed: &Feed) -> bool {
     is_small(feed) && departs(feed, 0, &[]) && departs(feed, 1, &[early, never])
 }
 
-// Whether a trip has these rows of departures.
+/// Whether a trip has these rows of departures.
 fn departs(feed: &Feed, trip: u32, rows: &[Departures]) -> bool {
     trip < feed.trip_count() && feed.trip(trip).departures.as_slice() == rows
 }
@@ -316,14 +316,14 @@ fn an_empty_feed(rt: HostRuntime) {
     assert!(rt; reads(rt.alloc(), Expected::Empty, files));
 }
 
-/// `read_feed`.
+/// `read_time`, `read_date`.
 #[test]
 fn times_and_dates_of_texts(rt: HostRuntime) {
     assert!(rt; read_time(b" 167:59:59 ") == Some(604_799));
     assert!(rt; read_date(b"20260230").is_none());
 }
 
-// Whether the first of two trips is set aside, and has no events, and the second has two.
+/// Whether the first of two trips is set aside, and has no events, and the second has two.
 fn has_one_aside(feed: &Feed) -> bool {
     feed.aside() == 1
         && feed.trip_count() == 2
@@ -331,7 +331,7 @@ fn has_one_aside(feed: &Feed) -> bool {
         && has_events(feed, 1, &[at(1, 29_700), at(2, 30_600)])
 }
 
-// Whether a trip has these events.
+/// Whether a trip has these events.
 fn has_events(feed: &Feed, trip: u32, events: &[Event]) -> bool {
     trip < feed.trip_count() && feed.trip(trip).events.as_slice() == events
 }
@@ -348,7 +348,7 @@ T2,08:30:00,08:30:00,C,2
     assert!(rt; reads(rt.alloc(), Expected::OneAside, feed_of(STOPS, TRIPS, times)));
 }
 
-// Whether the first of two trips has three events, with a time between, of which each forbids boarding or alighting.
+/// Whether the first of two trips has three events, with a time between, of which each forbids boarding or alighting.
 fn has_open_times(feed: &Feed) -> bool {
     let mut first = at(0, 32_400);
     first.alight = false;

@@ -9,12 +9,12 @@ use std::test::Fail;
 use table_files::{Departures, read_frequencies};
 use table_records::FeedFault;
 
-// Whether the second of two trips has these departures, and the first has none.
+/// Whether the second of two trips has these departures, and the first has none.
 fn has_departures(rows: &[Vec<Departures>], second: &[Departures]) -> bool {
     rows.len() == 2 && rows[0].len() == 0 && rows[1].as_slice() == second
 }
 
-// Whether the rows of a file are the departures of the second of two trips.
+/// Whether the rows of a file are the departures of the second of two trips.
 fn gives(alloc: Global, bytes: &[u8], second: &[Departures]) -> Result<bool, FeedFault>
     requires { length bytes.now ≤ MOST_BYTES }
 {

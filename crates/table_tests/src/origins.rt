@@ -6,7 +6,7 @@ use std::alloc::Global;
 use std::process::Abort;
 use timetable::StopNo;
 
-// Whether the origins of a file are these stops of the small feed.
+/// Whether the origins of a file are these stops of the small feed.
 fn gives_origins(alloc: Global, file: Option<&[u8]>, feed: &Feed, want: &[StopNo]) -> bool {
     if !file_fits(file) {
         return false;
@@ -17,7 +17,7 @@ fn gives_origins(alloc: Global, file: Option<&[u8]>, feed: &Feed, want: &[StopNo
     }
 }
 
-// Whether the opportunities of a file are these at the stops of the small feed.
+/// Whether the opportunities of a file are these at the stops of the small feed.
 fn gives_opportunities(alloc: Global, file: Option<&[u8]>, feed: &Feed, want: &[u32]) -> bool {
     if !file_fits(file) {
         return false;
@@ -28,15 +28,15 @@ fn gives_opportunities(alloc: Global, file: Option<&[u8]>, feed: &Feed, want: &[
     }
 }
 
-// What a test expects of a file, or of none, beside the small feed.
+/// What a test expects of a file, or of none, beside the small feed.
 #[derive(Clone, Copy)]
 enum Expected<'a> {
     Origins(Option<&'a [u8]>, &'a [StopNo]),
     Opportunities(Option<&'a [u8]>, &'a [u32]),
 }
 
-// Whether a file gives what is expected. One function owns the feeds of all tests, so that the drop of one is proved
-// once.
+/// Whether a file gives what is expected. One function owns the feeds of all tests, so that the drop of one is proved
+/// once.
 fn gives(alloc: Global, expected: Expected<'_>) -> bool {
     match feed_in(alloc, small_feed()) {
         Some(feed) => is_as_expected(alloc, &feed, expected),
@@ -79,7 +79,7 @@ fn origins_in_file_order(rt: HostRuntime) {
     expect_origins(&rt, alloc, Some(b"stop_id\n"), &[]);
 }
 
-/// `read_origins`.
+/// `read_opportunities`.
 #[test]
 fn opportunities_at_each_stop(rt: HostRuntime) {
     let alloc = rt.alloc();

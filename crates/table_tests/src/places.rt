@@ -8,7 +8,7 @@ use table_files::{Place, Places, read_places};
 use table_records::{FeedFault, FileName, MOST_BYTES, What};
 use timetable::StopNo;
 
-// Whether a place stands for these stops.
+/// Whether a place stands for these stops.
 fn stands_for(places: &Places, id: &[u8], stops: &[StopNo]) -> bool {
     match places.place(id) {
         Some(place) => places.stops_at(place).as_slice() == stops,
@@ -16,10 +16,9 @@ fn stands_for(places: &Places, id: &[u8], stops: &[StopNo]) -> bool {
     }
 }
 
-// Whether three stops, two stations and an entrance have their numbers.
+/// Whether three stops, two stations and an entrance have their numbers.
 fn has_six_places(places: &Places) -> bool {
-    places.names().len() == 6
-        && places.stops().len() == 3
+    places.stops().len() == 3
         && places.place(b"A") == Some(Place::Stop(StopNo(0)))
         && places.place(b"B") == Some(Place::Stop(StopNo(1)))
         && places.place(b" ") == Some(Place::Stop(StopNo(2)))
@@ -29,7 +28,7 @@ fn has_six_places(places: &Places) -> bool {
         && places.place(b"Z") == None
 }
 
-// The places of a file. They stand in a box, so that whoever holds them drops them in one step.
+/// The places of a file. They stand in a box, so that whoever holds them drops them in one step.
 fn places_of(alloc: Global, bytes: &[u8]) -> Result<Box<Places>, Fail>
     requires { length bytes.now ≤ MOST_BYTES }
 {
@@ -39,7 +38,7 @@ fn places_of(alloc: Global, bytes: &[u8]) -> Result<Box<Places>, Fail>
     }
 }
 
-/// `read_places`, `Places::names`.
+/// `read_places`, `Places::stops`, `Places::place`.
 #[test]
 fn stops_and_stations_are_numbered_apart(rt: HostRuntime) -> Result<(), Fail> {
     let places = places_of(
@@ -50,7 +49,7 @@ fn stops_and_stations_are_numbered_apart(rt: HostRuntime) -> Result<(), Fail> {
     Ok(())
 }
 
-// Whether the station S stands for the stops A and F, T for B, a stop for itself, and the entrance E for none.
+/// Whether the station S stands for the stops A and F, T for B, a stop for itself, and the entrance E for none.
 fn has_two_stations(places: &Places) -> bool {
     stands_for(places, b"S", &[StopNo(0), StopNo(4)])
         && stands_for(places, b"T", &[StopNo(1)])
@@ -71,14 +70,14 @@ fn a_station_stands_for_its_stops(rt: HostRuntime) -> Result<(), Fail> {
     Ok(())
 }
 
-// The fault of a file, none where it has none.
+/// The fault of a file, none where it has none.
 fn fault_of(alloc: Global, bytes: &[u8]) -> Option<FeedFault>
     requires { length bytes.now ≤ MOST_BYTES }
 {
     read_places(alloc, bytes).err()
 }
 
-// The bytes of a file of so many stops.
+/// The bytes of a file of so many stops.
 fn stops_file(alloc: Global, stops: u32) -> Result<Vec<u8>, AllocError> {
     let mut bytes = Vec::from_slice(alloc, b"stop_id\n")?;
     for stop in 0..stops {
@@ -88,7 +87,7 @@ fn stops_file(alloc: Global, stops: u32) -> Result<Vec<u8>, AllocError> {
     Ok(bytes)
 }
 
-// The fault of a file of so many stops.
+/// The fault of a file of so many stops.
 fn fault_of_many(alloc: Global, stops: u32) -> Result<Option<FeedFault>, AllocError> {
     let bytes = stops_file(alloc, stops)?;
     if bytes.len() > MOST_BYTES {

@@ -5,19 +5,19 @@ use csv::ByteRecord;
 use std::alloc::{AllocError, Global};
 use std::test::Fail;
 use table_records::{
-    FeedFault, FileName, Rows, What, column, field, number, read_date, read_time, trim,
+    FeedFault, FileName, Records, What, column, field, number, read_date, read_time, trim,
 };
 
-// A box is dropped in one step, where a reader and a record would be in many.
-fn reader<'a>(alloc: Global, bytes: &'a [u8]) -> Result<Box<Rows<'a>>, AllocError> {
-    Ok(Box::new(alloc, Rows::new(alloc, bytes))?)
+/// A box is dropped in one step, where a reader and a record would be in many.
+fn reader<'a>(alloc: Global, bytes: &'a [u8]) -> Result<Box<Records<'a>>, AllocError> {
+    Ok(Box::new(alloc, Records::new(alloc, bytes))?)
 }
 
 fn empty_record(alloc: Global) -> Result<Box<ByteRecord>, AllocError> {
     Ok(Box::new(alloc, ByteRecord::new(alloc))?)
 }
 
-// The first ten records of a file, with `|` between two fields and `;` after a record.
+/// The first ten records of a file, with `|` between two fields and `;` after a record.
 fn shown(alloc: Global, bytes: &[u8]) -> Result<Vec<u8>, AllocError> {
     let mut rows = reader(alloc, bytes)?;
     let mut row = empty_record(alloc)?;
@@ -43,7 +43,7 @@ fn show(row: &ByteRecord, text: &mut Vec<u8>) -> Result<(), AllocError> {
     Ok(())
 }
 
-/// `Rows::new`, `field`.
+/// `Records::new`, `field`.
 #[test]
 fn reads_records(rt: HostRuntime) -> Result<(), Fail> {
     let cases: [(&[u8], &[u8]); 15] = [
@@ -94,7 +94,7 @@ fn finds_columns_by_name(rt: HostRuntime) -> Result<(), Fail> {
     Ok(())
 }
 
-// Whether the first two fields of a record are these, and one in no column is empty.
+/// Whether the first two fields of a record are these, and one in no column is empty.
 fn has_fields(row: &ByteRecord, first: &[u8], second: &[u8]) -> bool {
     field(row, Some(0)) == first && field(row, Some(1)) == second && field(row, None).is_empty()
 }
@@ -136,7 +136,7 @@ fn trims_spaces(rt: HostRuntime) {
     }
 }
 
-/// `trim`.
+/// `number`.
 #[test]
 fn reads_numbers(rt: HostRuntime) {
     let cases: [(&[u8], Option<u32>); 10] = [

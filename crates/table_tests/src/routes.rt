@@ -5,7 +5,7 @@ use std::test::Fail;
 use table_files::read_routes;
 use table_records::{FeedFault, Identifiers};
 
-// Whether the routes are R1 and R2.
+/// Whether the routes are R1 and R2.
 fn has_two_routes(ids: &Identifiers) -> bool {
     ids.len() == 2
         && ids.number(b"R1") == Some(0)
@@ -13,7 +13,7 @@ fn has_two_routes(ids: &Identifiers) -> bool {
         && ids.number(b"R3") == None
 }
 
-// Whether two routes are read as such.
+/// Whether two routes are read as such.
 fn reads_two_routes(alloc: Global) -> Result<bool, FeedFault> {
     let ids = read_routes(alloc, b"agency_id, route_id \nx,R1\nx,R2\n")?;
     Ok(has_two_routes(&ids))

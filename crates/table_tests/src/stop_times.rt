@@ -41,7 +41,7 @@ fn event(stop: u32, arrive: u32, depart: u32) -> Event {
     }
 }
 
-// Whether the two trips have these events, and so many trips are set aside.
+/// Whether the two trips have these events, and so many trips are set aside.
 fn has_events(times: &StopTimes, first: &[Event], second: &[Event], aside: u32) -> bool {
     times.trips.len() == 2
         && events(times, 0) == first
@@ -49,7 +49,7 @@ fn has_events(times: &StopTimes, first: &[Event], second: &[Event], aside: u32) 
         && times.aside == aside
 }
 
-// Whether a file gives the two trips these events, and sets so many trips aside.
+/// Whether a file gives the two trips these events, and sets so many trips aside.
 fn gives(
     alloc: Global,
     bytes: &[u8],
@@ -63,14 +63,14 @@ fn gives(
     Ok(has_events(&times, first, second, aside))
 }
 
-// The fault of a file, none where it has none.
+/// The fault of a file, none where it has none.
 fn fault_of(alloc: Global, bytes: &[u8]) -> Option<FeedFault>
     requires { length bytes.now ≤ MOST_BYTES }
 {
     read(alloc, bytes).err()
 }
 
-// A file is refused for this fault.
+/// A file is refused for this fault.
 fn expect_fault(rt: &impl Abort, alloc: Global, bytes: &'static [u8], at: u64, what: What)
     requires { length bytes.now ≤ MOST_BYTES }
 {

@@ -9,8 +9,8 @@ use table_files::{Link, Place, Places, Transfers, read_places, read_transfers};
 use table_records::FeedFault;
 use timetable::StopNo;
 
-// Stops A and B, station S with the stops B and C, the empty station T, and an entrance E. They stand in a box, so that
-// whoever holds them drops them in one step.
+/// Stops A and B, station S with the stops B and C, the empty station T, and an entrance E, in a box, which is dropped
+/// in one step.
 fn some_places(alloc: Global) -> Option<Box<Places>> {
     match read_places(
         alloc,
@@ -21,12 +21,12 @@ fn some_places(alloc: Global) -> Option<Box<Places>> {
     }
 }
 
-// Whether the walks are these, and so many rows give none.
+/// Whether the walks are these, and so many rows give none.
 fn has_links(transfers: &Transfers, links: &[Link], unused: u32) -> bool {
     transfers.links.as_slice() == links && transfers.unused == unused
 }
 
-// Whether a file gives these walks, and so many of its rows give none.
+/// Whether a file gives these walks, and so many of its rows give none.
 fn gives(alloc: Global, bytes: &[u8], links: &[Link], unused: u32) -> Result<bool, FeedFault>
     requires { length bytes.now ≤ MOST_BYTES }
 {

@@ -10,6 +10,7 @@ pub mod Indexes
 pub mod Faults
 pub mod Least
 pub mod Journeys
-pub mod Steps
+pub mod RoundSteps
+pub mod Numbering
 pub mod Renumbering
 pub mod FaultWords

@@ -5,7 +5,7 @@ use Rattle.std.specs.Prelude.{Some}
 use Rattle.timetable.specs.declared.trips.Event.{Event}
 use Rattle.timetable.specs.declared.trips.Trip.{Trip}
 use Rattle.timetable.specs.declared.views.Call.{Call}
-use Rattle.timetable.specs.declared.views.Times.{Times}
+use Rattle.timetable.specs.declared.views.CallTimes.{CallTimes}
 
 -- the events of a trip of the list
 abbrev pub events_of : List Trip → ℕ → List Event
@@ -22,15 +22,16 @@ pub record IsAt (rows : List (List Event)) (r j : ℕ) (e : Event) : Type 0 wher
   pub event : slice_get row j ≡ Some e
 
 -- the arrivals among some times, and the departures
-abbrev pub arrivals_in : List Times → List ℕ
+abbrev pub arrivals_in : List CallTimes → List ℕ
 arrivals_in times = map (λ t. t.arrive) times
 
-abbrev pub departures_in : List Times → List ℕ
+abbrev pub departures_in : List CallTimes → List ℕ
 departures_in times = map (λ t. t.depart) times
 
 -- calls and times show these trips: the stop and the flags of each position, and the times of one trip after another,
 -- each as it is told
-pub record IsToldView (told : ℕ → ℕ) (rows : List (List Event)) (calls : List Call) (times : List Times) : Type 0 where
+pub record IsToldView (told : ℕ → ℕ) (rows : List (List Event)) (calls : List Call) (times : List CallTimes) :
+    Type 0 where
   pub positions : (r : ℕ) (row : List Event) → slice_get rows r ≡ Some row → length row ≡ length calls
   pub size : length times ≡ length rows * length calls
   pub stop : (r j : ℕ) (e : Event) (c : Call) → IsAt rows r j e → slice_get calls j ≡ Some c → c.stop.0 ≡ e.stop.0
@@ -42,7 +43,7 @@ pub record IsToldView (told : ℕ → ℕ) (rows : List (List Event)) (calls : L
       told (slice_index (departures_in times) (r * length calls + j)) ≡ e.depart
 
 -- the times as they stand
-abbrev pub IsViewOf : List (List Event) → List Call → List Times → Type 0
+abbrev pub IsViewOf : List (List Event) → List Call → List CallTimes → Type 0
 IsViewOf rows calls times = IsToldView (λ time. time) rows calls times
 
 -- what an event says of its position
@@ -50,7 +51,7 @@ abbrev pub call_of : Event → Call
 call_of e = record { stop = e.stop; board = e.board; alight = e.alight }
 
 -- when it takes place
-abbrev pub times_at : Event → Times
+abbrev pub times_at : Event → CallTimes
 times_at e = record { arrive = e.arrive; depart = e.depart }
 
 -- when the r-th row arrives at position j, and when it departs there
@@ -72,7 +73,7 @@ pub record AreFor {X : Type 0} (Fits : List ℕ → X →
   pub each : (k : ℕ) (line : List ℕ) (x : X) → slice_get lines k ≡ Some line → slice_get made k ≡ Some x → Fits line x
 
 -- m rows of n times, of which these are the arrivals and the departures
-pub record AreTimes (m n : ℕ) (rows : List (List Event)) (times : List Times) : Type 0 where
+pub record AreTimes (m n : ℕ) (rows : List (List Event)) (times : List CallTimes) : Type 0 where
   pub arrivals : IsGrid m n (arrives rows) (arrivals_in times)
   pub departures : IsGrid m n (departs rows) (departures_in times)
 
@@ -80,6 +81,6 @@ pub record AreTimes (m n : ℕ) (rows : List (List Event)) (times : List Times) 
 abbrev pub IsCalls : List Trip → List ℕ → List Call → Type 0
 IsCalls trips line calls = calls ≡ map call_of (events_of trips (slice_index line 0))
 
-abbrev pub IsTimes : List Trip → List ℕ → List Times → Type 0
+abbrev pub IsTimes : List Trip → List ℕ → List CallTimes → Type 0
 IsTimes trips line times = AreTimes (length line) (length (events_of trips (slice_index line 0)))
     (rows_of_line trips line) times

@@ -5,7 +5,7 @@ use Rattle.timetable.specs.declared.trips.Event.{Event}
 use Rattle.timetable.specs.declared.trips.Trip.{Trip}
 use Rattle.timetable.specs.Networks.{IsEvent}
 use Rattle.timetable.specs.declared.views.Call.{Call}
-use Rattle.timetable.specs.declared.views.Times.{Times}
+use Rattle.timetable.specs.declared.views.CallTimes.{CallTimes}
 use Rattle.timetable.specs.FlatLists.{IsIn}
 use Rattle.timetable.specs.LineViews.{IsViewOf, rows_of_line}
 
@@ -78,13 +78,13 @@ pub record LineTable : Type 0 where
   pub lines : List Line
   pub boarded : List (List (ℕ × ℕ))
   pub calls : List (List Call)
-  pub times : List (List Times)
+  pub times : List (List CallTimes)
 
 -- each line has its calls and its times
 pub record AreViews (trips : List Trip) (table : LineTable) : Type 0 where
   pub calls_size : length table.calls ≡ length table.lines
   pub times_size : length table.times ≡ length table.lines
-  pub view : (line : ℕ) (row : Line) (calls : List Call) (times : List Times) →
+  pub view : (line : ℕ) (row : Line) (calls : List Call) (times : List CallTimes) →
       slice_get table.lines line ≡ Some row → slice_get table.calls line ≡ Some calls →
       slice_get table.times line ≡ Some times →
       IsViewOf (rows_of_line trips row) calls times

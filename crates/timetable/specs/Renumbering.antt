@@ -1,9 +1,12 @@
--- A network whose stops are numbered anew: each stop has one new number, no two have the same, and nothing else changes.
-use Rattle.std.specs.Prelude.{◌≡◌, ℕ, ◌<◌, map, slice_index, ◌↔◌}
+-- A network whose stops are numbered anew: each stop has one new number, no two have the same, nothing else changes.
+use Rattle.std.specs.Prelude.{◌≡◌, ℕ, ◌<◌, List, [], length, map, slice_get, slice_index, slice_index_or, Some, ◌↔◌}
+use Rattle.std.specs.List.Sorted.{IsNonDecreasingBy, IsPermutation}
 use Rattle.timetable.specs.declared.trips.Event.{Event}
+use Rattle.timetable.specs.declared.trips.StopNo.{StopNo}
 use Rattle.timetable.specs.declared.trips.Trip.{Trip}
-use Rattle.timetable.specs.Footpaths.{FeetData, IsFoot}
+use Rattle.timetable.specs.Footpaths.{FeetData, FootLists, IsFoot}
 use Rattle.timetable.specs.Networks.{Net, IsNet}
+use Rattle.timetable.specs.Numbering.{number_in}
 use Rattle.timetable.specs.Least.{IsLeastOrNever}
 use Rattle.timetable.specs.Journeys.{IsDuration}
 
@@ -55,3 +58,24 @@ RenumberedStopsKeepLabels =
     IsRenumbered number n renumbered → origin < n.stops → p < n.stops →
     IsLeastOrNever (IsDuration n origin depart k p) label
     ↔ IsLeastOrNever (IsDuration renumbered (number origin) depart k (number p)) label
+
+-- a footpath that leads to a stop by its number
+abbrev pub renumbered_walk : (ℕ → ℕ) → StopNo × ℕ → StopNo × ℕ
+renumbered_walk number x = (record { 0 = number x.0.0 }, x.1)
+
+-- the footpaths from a stop, to stops by their numbers, in the numbers' order
+pub record IsRenumberedRow (number : ℕ → ℕ) (row renumbered : List (StopNo × ℕ)) : Type 0 where
+  pub walks : IsPermutation (map (renumbered_walk number) row) renumbered
+  pub sorted : IsNonDecreasingBy (λ x. x.0.0) renumbered
+
+-- by each of the first numbers, those from its stop
+pub record AreRenumberedRows (number : ℕ → ℕ) (order : List ℕ) (rows : FootLists) (first : ℕ)
+    (renumbered : FootLists) : Type 0 where
+  pub count : length renumbered ≡ first
+  pub each : (n : ℕ) (row : List (StopNo × ℕ)) → slice_get renumbered n ≡ Some row →
+      IsRenumberedRow number (slice_index_or rows (slice_index order n) []) row
+
+-- the network, with its stops by their numbers and these footpaths
+abbrev pub renumbered_net : List ℕ → Net → FeetData → Net
+renumbered_net numbers n feet =
+    record { stops = n.stops; trips = map (renumbered_trip (number_in numbers)) n.trips; feet = feet }

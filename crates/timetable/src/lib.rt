@@ -13,7 +13,7 @@
 //! - [`Network::serving`], [`Feet::seconds`] and [`are_stops`]: doors for other programs.
 //!
 //! `specs/` has the words of every layer above: what a ride, a journey and a least duration are (`Journeys`, `Least`),
-//! and what one trip, the footpaths and the change times offer in a round (`Steps`).
+//! and what one trip, the footpaths and the change times offer in a round (`RoundSteps`).
 #![tactic(auto)]
 
 mod faults;
@@ -24,6 +24,8 @@ mod least;
 mod limits;
 mod lines;
 mod networks;
+mod numbering;
+mod renumbered;
 mod serving;
 mod trips;
 mod views;
@@ -38,5 +40,6 @@ pub use limits::{
 };
 pub use lines::Lines;
 pub use networks::Network;
+pub use renumbered::{NumberedTrips, Renumbered};
 pub use trips::{Event, Events, StopNo, Trip, are_stops};
-pub use views::{Call, Times};
+pub use views::{Call, CallTimes};

@@ -12,7 +12,7 @@ ghost use Rattle.timetable.specs.Lines.{AreBoarded, AreLinesOf};
 use crate::flat_lists::{FlatLists, add, no_lists};
 use crate::limits::{MOST_EVENTS, MOST_TRIPS};
 use crate::trips::{Event, StopNo, Trip};
-use crate::views::{Call, Times, views_of};
+use crate::views::{Call, CallTimes, views_of};
 use std::alloc::{AllocError, Global};
 use std::marker::Model;
 
@@ -26,7 +26,7 @@ pub struct Lines {
     lines: FlatLists<u32>,
     boarded: FlatLists<(u32, u32)>,
     calls: FlatLists<Call>,
-    times: FlatLists<Times>,
+    times: FlatLists<CallTimes>,
 }
 
 impl Model for Lines {
@@ -93,7 +93,7 @@ impl Lines {
 
     /// The times of a line, trip by trip, and of each trip position by position: those of the trip of `rank` at
     /// `position` are at `rank * positions + position`, where `positions` counts the line's positions.
-    pub fn times_of(&self, line: u32) -> &[Times]
+    pub fn times_of(&self, line: u32) -> &[CallTimes]
         requires { line < length self.now.times }
         ensures { slice_get self.now.times line ≡ Some result.now }
     {

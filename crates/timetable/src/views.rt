@@ -20,7 +20,7 @@ pub struct Call {
 /// When a trip arrives at a position and departs there, in seconds. Of a line's times the two stand side by side, since
 /// who scans a line at a position looks at both.
 #[derive(Clone, Copy, Debug, PartialEq, Eq)]
-pub struct Times {
+pub struct CallTimes {
     pub arrive: u32,
     pub depart: u32,
 }
@@ -30,7 +30,7 @@ pub(crate) fn views_of(
     alloc: Global,
     trips: &[Trip],
     lines: &FlatLists<u32>,
-) -> Result<(Vec<Vec<Call>>, Vec<Vec<Times>>), AllocError>
+) -> Result<(Vec<Vec<Call>>, Vec<Vec<CallTimes>>), AllocError>
     requires lines { All (IsLine trips.now) lines.now }
     ensures calls { IfOk result (λ views. AreFor (IsCalls trips.now) (length lines.now) lines.now
         (lists_of views.0.items)) }
@@ -65,7 +65,7 @@ fn calls_of(alloc: Global, events: &[Event]) -> Result<Vec<Call>, AllocError>
 }
 
 /// Trip by trip, in the order of the line, its times.
-fn times_of(alloc: Global, trips: &[Trip], line: &[u32]) -> Result<Vec<Times>, AllocError>
+fn times_of(alloc: Global, trips: &[Trip], line: &[u32]) -> Result<Vec<CallTimes>, AllocError>
     requires in_range { All (λ i. i < length trips.now) line.now }
     ensures { IfOk result (λ made. (positions : ℕ) → All (λ row. length row ≡ positions)
         (rows_of_line trips.now line.now) →
@@ -79,11 +79,11 @@ fn times_of(alloc: Global, trips: &[Trip], line: &[u32]) -> Result<Vec<Times>, A
 }
 
 /// Adds the times of a trip.
-fn add_times(times: &mut Vec<Times>, events: &[Event]) -> Result<(), AllocError>
+fn add_times(times: &mut Vec<CallTimes>, events: &[Event]) -> Result<(), AllocError>
     ensures { OnOk result (times.new.items ≡ times.old.items ++ map times_at events.now) }
 {
     for event in events {
-        times.push(Times {
+        times.push(CallTimes {
             arrive: event.arrive,
             depart: event.depart,
         })?;

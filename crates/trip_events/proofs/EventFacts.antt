@@ -17,7 +17,7 @@ use Rattle.trip_events.specs.WholeTrips.{AreEvents, departed, events_of, faults_
 use Rattle.trip_events.specs.WholeTrips.{trip_faults, untimed, untimed_ends, whole_trip_faults}
 use Rattle.trip_events.specs.declared.fill.Neighbour.{Neighbour}
 use Rattle.trip_events.specs.declared.trip_times.StopTime.{StopTime}
-use Rattle.trip_events.specs.declared.trip_times.Times.{Times}
+use Rattle.trip_events.specs.declared.trip_times.VisitTimes.{VisitTimes}
 use Rattle.table_records.proofs.RowFacts.{first_map}
 use Rattle.table_records.specs.declared.fault.FileName.TheVariants.{StopTimes}
 use Rattle.trip_events.proofs.FillFacts.{Climbs, OneIs, filled_is, filled_on, gap_within, left_at, length-filled_on}
@@ -75,7 +75,7 @@ ahead s [] last = there s.times None last
 ahead s (t ∷ rest) last = swap s.times (nearer t.times (nearest rest))
     (found t.times (nearest rest) (ahead t rest last))
   where
-    found : (o : Option Times) (p : Option Neighbour) → OneIs o p → is_none (nearer o p) ≡ false
+    found : (o : Option VisitTimes) (p : Option Neighbour) → OneIs o p → is_none (nearer o p) ≡ false
     found None None h = cc h
     found None (Some n) h = refl
     found (Some t) p h = refl
@@ -89,7 +89,7 @@ rest_timed : (s : StopTime) (rest : List StopTime) → LastIsTimed (s ∷ rest) 
 rest_timed s [] last = tt
 rest_timed s (t ∷ rest) last = last
 
-passed : (times : Option Times) (before : Option Neighbour) →
+passed : (times : Option VisitTimes) (before : Option Neighbour) →
     left_at (nearer times before) ≡ departed (left_at before) times
 passed None None = refl
 passed None (Some n) = refl
@@ -98,7 +98,7 @@ passed (Some t) before = refl
 follows : (s t : StopTime) (before : Option Neighbour) → OneIs s.times before → OneIs t.times (nearer s.times before)
 follows s t before h = by t.times s.times before h
   where
-    by : {X : Type 0} (o : Option X) (times : Option Times) (n : Option Neighbour) → OneIs times n →
+    by : {X : Type 0} (o : Option X) (times : Option VisitTimes) (n : Option Neighbour) → OneIs times n →
         OneIs o (nearer times n)
     by None None None h = cc h
     by None None (Some n) h = tt
@@ -152,7 +152,7 @@ IsTimely o = IfSome o (λ n. AreTimes n.times)
 tail_sound : {X : Type 0} (P : X → Type 0) (x : X) (rest : List X) → All P (x ∷ rest) → All P rest
 tail_sound P x rest all k d lt = all (suc k) d (omega (arith, lt))
 
-nearer_timely : (times : Option Times) (beyond : Option Neighbour) → IfSome times AreTimes → IsTimely beyond →
+nearer_timely : (times : Option VisitTimes) (beyond : Option Neighbour) → IfSome times AreTimes → IsTimely beyond →
     IsTimely (nearer times beyond)
 nearer_timely None None a b = tt
 nearer_timely None (Some n) a b = b
@@ -163,7 +163,7 @@ nearest_timely n [] all = tt
 nearest_timely n (s ∷ rest) all = nearer_timely s.times (nearest rest) (all zero s (omega arith)).times
     (nearest_timely n rest (tail_sound (IsSound n) s rest all))
 
-timely : (times : Option Times) (before after : Option Neighbour) → IfSome times AreTimes → IsTimely before →
+timely : (times : Option VisitTimes) (before after : Option Neighbour) → IfSome times AreTimes → IsTimely before →
     IsTimely after → AreTimes (unwrap_or times (between before after))
 timely (Some t) before after a b c = a
 timely None None after a b c = record { arrive = omega arith; depart = omega arith }

@@ -15,7 +15,7 @@ use Rattle.trip_events.specs.Fill.{between, event_at, events_after, filled, near
 use Rattle.trip_events.specs.WholeTrips.{goes_back}
 use Rattle.trip_events.specs.declared.fill.Neighbour.{Neighbour}
 use Rattle.trip_events.specs.declared.trip_times.StopTime.{StopTime}
-use Rattle.trip_events.specs.declared.trip_times.Times.{Times}
+use Rattle.trip_events.specs.declared.trip_times.VisitTimes.{VisitTimes}
 
 -- the events of records that follow a neighbour
 abbrev pub filled_on : Option Neighbour → List StopTime → List Event
@@ -104,7 +104,7 @@ OneIs None None = zero ≡ suc zero
 OneIs None (Some y) = Unit {0}
 OneIs (Some x) o = Unit {0}
 
-onward : (low : ℕ) (t : Times) → goes_back low (Some t) ≡ false → (low ≤ t.arrive) × (t.arrive ≤ t.depart)
+onward : (low : ℕ) (t : VisitTimes) → goes_back low (Some t) ≡ false → (low ≤ t.arrive) × (t.arrive ≤ t.depart)
 onward low t h = by (nat_lt t.arrive low) (nat_lt t.depart t.arrive) refl refl h
   where
     by : (b c : Bool) → nat_lt t.arrive low ≡ b → nat_lt t.depart t.arrive ≡ c → (b || c) ≡ false →
@@ -113,15 +113,16 @@ onward low t h = by (nat_lt t.arrive low) (nat_lt t.depart t.arrive) refl refl h
     by false true e f g = cc g
     by false false e f g = (grind (arith, nat_tests), grind (arith, nat_tests))
 
-after_first : (t : Times) (after : Option Neighbour) → departure_before (nearer (Some t) None) after ≡ t.depart
+after_first : (t : VisitTimes) (after : Option Neighbour) → departure_before (nearer (Some t) None) after ≡ t.depart
 after_first t None = refl
 after_first t (Some a) = no_gap t.depart a.times.arrive (0 + a.untimed + 1) (omega arith)
 
-after_timed : (t : Times) (before after : Option Neighbour) → departure_before (nearer (Some t) before) after ≡ t.depart
+after_timed : (t : VisitTimes) (before after : Option Neighbour) →
+    departure_before (nearer (Some t) before) after ≡ t.depart
 after_timed t before after = after_first t after
 
 -- one event goes on from those before it
-pub step : (s : StopTime) (times : Option Times) (before after : Option Neighbour) (xs : List Event) →
+pub step : (s : StopTime) (times : Option VisitTimes) (before after : Option Neighbour) (xs : List Event) →
     OneIs times before → OneIs times after → goes_back (left_at before) times ≡ false
     → Climbs (departure_before (nearer times before) after) xs →
     Climbs (departure_before before (nearer times after)) (event_at s (unwrap_or times (between before after)) ∷ xs)
@@ -157,7 +158,7 @@ pub nearest_near : (trip_times : List StopTime) → IsNear (nearest trip_times) 
 nearest_near [] = tt
 nearest_near (s ∷ rest) = by s.times (nearest rest) (nearest_near rest)
   where
-    by : (times : Option Times) (o : Option Neighbour) → IsNear o (length rest) →
+    by : (times : Option VisitTimes) (o : Option Neighbour) → IsNear o (length rest) →
         IsNear (nearer times o) (suc (length rest))
     by None None h = tt
     by None (Some n) h = omega (arith, h)
@@ -173,7 +174,7 @@ approached_near None most h = tt
 approached_near (Some x) most h = omega (arith, h)
 
 -- a record with times goes on from those before it, whatever these are
-pub one_timed : (before : Option Neighbour) (xs : List StopTime) (i : ℕ) (d : StopTime) (t : Times)
+pub one_timed : (before : Option Neighbour) (xs : List StopTime) (i : ℕ) (d : StopTime) (t : VisitTimes)
     (done all : List Event) → i < length xs
     → (get_or xs i d).times ≡ Some t → done ++ filled_on before (drop i xs) ≡ all
     → (done ++ event_at (get_or xs i d) t ∷ []) ++ filled_on (Some (record { times = t; untimed = 0 }))

@@ -4,4 +4,4 @@ pub mod OneOrder
 pub mod SortedFacts
 pub mod TripTimeFacts
 pub mod TimeFacts
-pub mod Ascending
+pub mod RecordsAscend

@@ -8,10 +8,10 @@ use Rattle.std.specs.Prelude.{◌+◌, ◌-◌, ◌*◌, ◌/◌, ℕ, List, [],
 use Rattle.timetable.specs.declared.trips.Event.{Event}
 use Rattle.trip_events.specs.declared.fill.Neighbour.{Neighbour}
 use Rattle.trip_events.specs.declared.trip_times.StopTime.{StopTime}
-use Rattle.trip_events.specs.declared.trip_times.Times.{Times}
+use Rattle.trip_events.specs.declared.trip_times.VisitTimes.{VisitTimes}
 
 -- the nearest timed event, one event further on: that event where it is timed
-abbrev pub nearer : Option Times → Option Neighbour → Option Neighbour
+abbrev pub nearer : Option VisitTimes → Option Neighbour → Option Neighbour
 nearer (Some t) beyond = Some (record { times = t; untimed = 0 })
 nearer None beyond = option_map (λ n. record { times = n.times; untimed = n.untimed + 1 }) beyond
 
@@ -26,7 +26,7 @@ time_at_gap depart arrive j n = depart + (arrive - depart) * j / n
 
 -- the times between the nearest timed events, which lie as many gaps apart as untimed events stand on both sides of an
 -- event, and two more
-abbrev pub between : Option Neighbour → Option Neighbour → Times
+abbrev pub between : Option Neighbour → Option Neighbour → VisitTimes
 between None after = record { arrive = 0; depart = 0 }
 between (Some b) None = record { arrive = 0; depart = 0 }
 between (Some b) (Some a) = record {
@@ -35,7 +35,7 @@ between (Some b) (Some a) = record {
 }
 
 -- the event of a record that has these times
-abbrev pub event_at : StopTime → Times → Event
+abbrev pub event_at : StopTime → VisitTimes → Event
 event_at s t = record {
   stop = record { 0 = unwrap_or s.stop 0 };
   arrive = t.arrive;

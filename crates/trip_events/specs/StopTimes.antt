@@ -22,7 +22,7 @@ use Rattle.table_records.specs.Identifiers.{number_in}
 use Rattle.trip_events.specs.TripTimes.{IsSound, has_number, in_order}
 use Rattle.trip_events.specs.WholeTrips.{events_of, whole_trip_faults}
 use Rattle.trip_events.specs.declared.trip_times.StopTime.{StopTime}
-use Rattle.trip_events.specs.declared.trip_times.Times.{Times}
+use Rattle.trip_events.specs.declared.trip_times.VisitTimes.{VisitTimes}
 use Rattle.trip_events.specs.declared.stop_times.TimeColumns.{TimeColumns}
 
 -- what counts of a record
@@ -76,7 +76,7 @@ abbrev pub sequence_of : TimeRow → ℕ
 sequence_of r = unwrap_or (number_of r.sequence) 0
 
 -- the times of an event: where one is given the other equals it
-abbrev pub times_of : Option ℕ → Option ℕ → Option Times
+abbrev pub times_of : Option ℕ → Option ℕ → Option VisitTimes
 times_of None None = None
 times_of None (Some d) = Some (record { arrive = d; depart = d })
 times_of (Some a) None = Some (record { arrive = a; depart = a })

@@ -5,7 +5,7 @@ use Rattle.std.specs.Prelude.{◌≡◌, ◌<◌, ◌≤◌, ◌+◌, ◌==◌, 
 use Rattle.std.specs.Prelude.{⊤, if◌then◌else◌}
 use Rattle.std.specs.List.{list_any}
 use Rattle.trip_events.specs.declared.trip_times.StopTime.{StopTime}
-use Rattle.trip_events.specs.declared.trip_times.Times.{Times}
+use Rattle.trip_events.specs.declared.trip_times.VisitTimes.{VisitTimes}
 
 -- the sequence numbers ascend, the first being at least `low`
 abbrev pub IsAscending : ℕ → List StopTime → Type 0
@@ -37,7 +37,7 @@ pub record FitsAt (i n : ℕ) (trip_times : List StopTime) : Type 0 where
   pub ascending : (s : StopTime) → s.sequence ≡ n → IsAscending 0 (insert trip_times i s)
 
 -- times within 168 hours
-pub record AreTimes (t : Times) : Type 0 where
+pub record AreTimes (t : VisitTimes) : Type 0 where
   pub arrive : t.arrive ≤ 604799
   pub depart : t.depart ≤ 604799
 

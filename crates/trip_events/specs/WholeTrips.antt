@@ -14,7 +14,7 @@ use Rattle.table_records.specs.declared.fault.What.{What}
 use Rattle.table_records.specs.declared.fault.What.TheVariants.{NoTime, TimesGoBack}
 use Rattle.trip_events.specs.Fill.{filled}
 use Rattle.trip_events.specs.declared.trip_times.StopTime.{StopTime}
-use Rattle.trip_events.specs.declared.trip_times.Times.{Times}
+use Rattle.trip_events.specs.declared.trip_times.VisitTimes.{VisitTimes}
 
 -- whether a trip is set aside: one of its records names no stop
 abbrev pub is_aside : List StopTime → Bool
@@ -30,12 +30,12 @@ abbrev pub untimed_ends : List StopTime → List ℕ
 untimed_ends trip_times = untimed (slice_get trip_times 0) ++ untimed (slice_get trip_times (length trip_times - 1))
 
 -- whether a trip goes back at an event, given the last departure before it
-abbrev pub goes_back : ℕ → Option Times → Bool
+abbrev pub goes_back : ℕ → Option VisitTimes → Bool
 goes_back last None = false
 goes_back last (Some t) = nat_lt t.arrive last || nat_lt t.depart t.arrive
 
 -- the last departure once an event is over
-abbrev pub departed : ℕ → Option Times → ℕ
+abbrev pub departed : ℕ → Option VisitTimes → ℕ
 departed last None = last
 departed last (Some t) = t.depart
 

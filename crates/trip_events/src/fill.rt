@@ -5,15 +5,15 @@ ghost use Rattle.timetable.specs.declared.limits.TheConstants.{MOST_EVENTS};
 ghost use Rattle.trip_events.specs.declared.fill.Neighbour.{Neighbour};
 ghost use Rattle.trip_events.specs.Fill as spec;
 
-use crate::trip_times::{StopTime, Times};
+use crate::trip_times::{StopTime, VisitTimes};
 use std::alloc::{AllocError, Global};
 use timetable::{Event, StopNo};
 
 /// The nearest timed event on one side of an event.
 #[derive(Clone, Copy)]
 pub struct Neighbour {
-    pub times: Times,
-    /// How many untimed events stand between the two.
+    pub times: VisitTimes,
+    /// How many untimed events are between the two.
     pub untimed: u32,
 }
 
@@ -30,7 +30,7 @@ pub fn filled(alloc: Global, trip_times: &[StopTime]) -> Result<Vec<Event>, Allo
     }
 }
 
-// The events of records that all have their times, as those of most trips; none where one has no times.
+/// The events of records that all have their times, as those of most trips; none where one has no times.
 fn timed(alloc: Global, trip_times: &[StopTime]) -> Result<Option<Vec<Event>>, AllocError>
     ensures { IfOk result (λ events. IfSome events (λ v. v.items ≡ spec.filled trip_times.now)) }
 {
@@ -44,7 +44,7 @@ fn timed(alloc: Global, trip_times: &[StopTime]) -> Result<Option<Vec<Event>>, A
     Ok(Some(events))
 }
 
-// The events of records of which some may have no times.
+/// The events of records of which some may have no times.
 fn with_between(alloc: Global, trip_times: &[StopTime]) -> Result<Vec<Event>, AllocError>
     requires { length trip_times.now ≤ MOST_EVENTS }
     ensures { IfOk result (λ v. v.items ≡ spec.filled trip_times.now) }
@@ -65,7 +65,7 @@ fn with_between(alloc: Global, trip_times: &[StopTime]) -> Result<Vec<Event>, Al
     Ok(events)
 }
 
-// The nearest timed event among some. All calls of a trip together look at each record at most twice.
+/// The nearest timed event among some. All calls of a trip together look at each record at most twice.
 fn nearest(trip_times: &[StopTime]) -> Option<Neighbour>
     requires { length trip_times.now ≤ MOST_EVENTS }
     ensures { result ≡ spec.nearest trip_times.now }
@@ -80,7 +80,7 @@ fn nearest(trip_times: &[StopTime]) -> Option<Neighbour>
     None
 }
 
-// The nearest timed event after an untimed one, as it is seen from there.
+/// The nearest timed event after an untimed one, as it is seen from there.
 fn approached(next: Option<Neighbour>) -> Option<Neighbour>
     ensures { result ≡ option_map (λ n. record { times = n.times; untimed = n.untimed - 1 }) next }
 {
@@ -91,8 +91,8 @@ fn approached(next: Option<Neighbour>) -> Option<Neighbour>
     })
 }
 
-// The nearest timed event before the next event.
-fn nearer(times: Option<Times>, beyond: Option<Neighbour>) -> Option<Neighbour>
+/// The nearest timed event before the next event.
+fn nearer(times: Option<VisitTimes>, beyond: Option<Neighbour>) -> Option<Neighbour>
     requires { IfSome beyond (λ n. n.untimed ≤ MOST_EVENTS) }
     ensures { result ≡ spec.nearer times beyond }
 {
@@ -106,7 +106,7 @@ fn nearer(times: Option<Times>, beyond: Option<Neighbour>) -> Option<Neighbour>
     }
 }
 
-// The event of a record between its nearest timed events.
+/// The event of a record between its nearest timed events.
 fn event_at(stop_time: StopTime, before: Option<Neighbour>, after: Option<Neighbour>) -> Event
     requires before { IfSome before (λ n. n.untimed ≤ MOST_EVENTS) }
     requires after { IfSome after (λ n. n.untimed ≤ MOST_EVENTS) }
@@ -119,8 +119,8 @@ fn event_at(stop_time: StopTime, before: Option<Neighbour>, after: Option<Neighb
     event_with(stop_time, times)
 }
 
-// The event of a record that has these times.
-fn event_with(stop_time: StopTime, times: Times) -> Event
+/// The event of a record that has these times.
+fn event_with(stop_time: StopTime, times: VisitTimes) -> Event
     ensures { result ≡ spec.event_at stop_time times }
 {
     Event {
@@ -132,8 +132,8 @@ fn event_with(stop_time: StopTime, times: Times) -> Event
     }
 }
 
-// The times of an event that has none.
-fn between(before: Option<Neighbour>, after: Option<Neighbour>) -> Times
+/// The times of an event that has none.
+fn between(before: Option<Neighbour>, after: Option<Neighbour>) -> VisitTimes
     requires before { IfSome before (λ n. n.untimed ≤ MOST_EVENTS) }
     requires after { IfSome after (λ n. n.untimed ≤ MOST_EVENTS) }
     ensures { result ≡ spec.between before after }
@@ -143,19 +143,19 @@ fn between(before: Option<Neighbour>, after: Option<Neighbour>) -> Times
             let gap = before.untimed + 1;
             let gaps = gap + after.untimed + 1;
             let time = time_at_gap(before.times.depart, after.times.arrive, gap, gaps);
-            Times {
+            VisitTimes {
                 arrive: time,
                 depart: time,
             }
         }
-        _ => Times {
+        _ => VisitTimes {
             arrive: 0,
             depart: 0,
         },
     }
 }
 
-// The time at the end of a gap, of so many between a departure and an arrival.
+/// The time at the end of gap number `gap`, of `gaps` equal ones between a departure and an arrival.
 fn time_at_gap(depart: u32, arrive: u32, gap: u32, gaps: u32) -> u32
     requires within { gap ≤ gaps }
     requires some { 0 < gaps }

@@ -1,8 +1,9 @@
-//! What the next record of `stop_times.txt` is likely to name. It is looked at first and changes no answer.
+//! What the next record of `stop_times.txt` is likely to name. It makes look-ups faster and changes no result.
 
 use std::alloc::{AllocError, Global};
 
-/// The records of a trip mostly stand together, and a stop mostly comes after the same one as the last time.
+/// What the next record is likely to name: the records of a trip mostly follow one another, and a stop mostly follows
+/// the same stop as the last time.
 #[derive(Drop)]
 pub struct Likely {
     /// The trip of the record before.
@@ -20,7 +21,7 @@ pub struct Likely {
 }
 
 impl Likely {
-    /// Nothing is known yet of so many stops.
+    /// Nothing is known yet, of a feed with `stops` stops.
     pub fn new(alloc: Global, stops: usize) -> Result<Likely, AllocError> {
         Ok(Likely {
             trip: 0,
@@ -56,6 +57,7 @@ impl Likely {
         }
     }
 
+    /// The record of this number named this trip.
     fn note_trip(&mut self, at: u64, trip: usize) {
         if self.trip != trip {
             self.run_before = at.saturating_sub(self.since) as usize;
@@ -64,6 +66,7 @@ impl Likely {
         }
     }
 
+    /// The record after the last one named this stop.
     fn note_stop(&mut self, stop: u32) {
         if self.stop < self.after.len() {
             self.after[self.stop] = stop;

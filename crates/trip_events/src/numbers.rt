@@ -15,7 +15,7 @@ pub fn read_number(text: &[u8]) -> Option<u32>
     }
 }
 
-// The number of a digit or two, without a space; none of another text.
+/// The number of a digit or two, without a space; none of another text.
 fn short_number(text: &[u8]) -> Option<u32>
     ensures { IfSome result (λ value. number_of (trimmed text.now) ≡ Some value) }
 {
@@ -26,7 +26,7 @@ fn short_number(text: &[u8]) -> Option<u32>
     }
 }
 
-// The number of any text.
+/// The number of any text.
 #[inline(never)]
 fn any_number(text: &[u8]) -> Option<u32>
     ensures { result ≡ number_of (trimmed text.now) }
@@ -34,7 +34,7 @@ fn any_number(text: &[u8]) -> Option<u32>
     number(trim(text))
 }
 
-// The value of a digit.
+/// The value of a digit.
 fn digit(byte: u8) -> Option<u32>
     ensures { IfSome result (λ n. (is_digit byte ≡ true) × (n ≡ byte - 48) × (n < 10)) }
 {

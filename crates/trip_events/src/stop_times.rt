@@ -17,7 +17,7 @@ ghost use Rattle.trip_events.specs.WholeTrips.{AreEvents};
 
 use crate::likely::Likely;
 use crate::numbers::read_number;
-use crate::trip_times::{StopTime, Times, TripTimes};
+use crate::trip_times::{StopTime, TripTimes, VisitTimes};
 use crate::whole_trips::{StopTimes, events_of_trips};
 use csv::ByteRecord;
 use std::alloc::{AllocError, Global};
@@ -27,6 +27,7 @@ use table_records::{
 };
 use timetable::MOST_EVENTS;
 
+/// The checks; [`stop_time_checks`] says what holds of them.
 const CHECKS: Checks = Checks {
     required: &[b"trip_id", b"stop_id", b"stop_sequence"],
     fields: &[
@@ -43,8 +44,8 @@ const CHECKS: Checks = Checks {
     ],
 };
 
-/// What is checked of `stop_times.txt`, beside its limit: each fault of a record is that of a check. The last is that
-/// of a whole trip, which is looked at after all records.
+/// What is checked of `stop_times.txt`, apart from its limit: each fault of a record is that of a check. The last check
+/// is that of a whole trip, after all records.
 pub fn stop_time_checks() -> Checks
     ensures required { map (λ name. name.now) result.required.now ≡ spec.required }
     ensures explains { (trips stops : List (List ℕ)) →
@@ -80,7 +81,7 @@ pub struct TimeReader<'a> {
     pub stops: &'a Identifiers,
 }
 
-// Which trip a record is of, where it stops, and its position along the trip.
+/// Which trip a record is of, where it stops, and its position along the trip.
 #[derive(Clone, Copy)]
 struct TripStop {
     trip: usize,
@@ -88,10 +89,10 @@ struct TripStop {
     sequence: u32,
 }
 
-// When a trip is at its stop, and whether travellers may board and alight there.
+/// When a trip is at its stop, and whether travellers may board and alight there.
 #[derive(Clone, Copy)]
 struct Visit {
-    times: Option<Times>,
+    times: Option<VisitTimes>,
     board: bool,
     alight: bool,
 }
@@ -154,7 +155,7 @@ impl<'a> RecordReader for TimeReader<'a> {
 }
 
 impl<'a> TimeReader<'a> {
-    // Where a record belongs.
+    /// Where a record belongs.
     fn trip_stop(&self, row: &ByteRecord, likely: &Likely) -> Result<TripStop, What>
         requires { length self.now.stops.now ≤ MOST_STOPS }
         ensures good { let r = spec.row_at self.now.columns (fields_of row.now) in
@@ -184,7 +185,7 @@ impl<'a> TimeReader<'a> {
         })
     }
 
-    // What a record says of its visit to the stop.
+    /// What a record says of its visit to the stop.
     fn visit(&self, row: &ByteRecord) -> Result<Visit, What>
         ensures good { let r = spec.row_at self.now.columns (fields_of row.now) in
             IfOk result (λ v. (spec.visit_checks r ≡ [])
@@ -206,7 +207,7 @@ impl<'a> TimeReader<'a> {
     }
 }
 
-// The number of a stop, none where the text is empty. It is looked for where it is likely first.
+/// The number of a stop, none where the text is empty. It is found fastest if it is `likely` or the number after it.
 fn read_stop(text: &[u8], stops: &Identifiers, likely: usize) -> Result<Option<u32>, What>
     requires { length stops.now ≤ MOST_STOPS }
     ensures good { IfOk result (λ stop. (is_wrong (λ id. position (bytes_eq id) stops.now) text.now ≡ false)
@@ -224,8 +225,8 @@ fn read_stop(text: &[u8], stops: &Identifiers, likely: usize) -> Result<Option<u
     }
 }
 
-// The times of an event. Nearly all arrivals and departures are written alike.
-fn read_times(arrive: &[u8], depart: &[u8]) -> Result<Option<Times>, What>
+/// The times of an event. Nearly all arrivals and departures are written alike.
+fn read_times(arrive: &[u8], depart: &[u8]) -> Result<Option<VisitTimes>, What>
     ensures good { IfOk result (λ times. (is_wrong time_of (trimmed arrive.now) ≡ false)
         × (is_wrong time_of (trimmed depart.now) ≡ false)
         × (times ≡ spec.times_of (time_of (trimmed arrive.now)) (time_of (trimmed depart.now)))) }
@@ -234,7 +235,7 @@ fn read_times(arrive: &[u8], depart: &[u8]) -> Result<Option<Times>, What>
 {
     if are_equal_times(arrive, depart) {
         if let Some(time) = read_time(arrive) {
-            return Ok(Some(Times {
+            return Ok(Some(VisitTimes {
                 arrive: time,
                 depart: time,
             }));
@@ -243,9 +244,9 @@ fn read_times(arrive: &[u8], depart: &[u8]) -> Result<Option<Times>, What>
     read_both_times(arrive, depart)
 }
 
-// The same of times that are read one by one.
+/// The same of times that are read one by one.
 #[inline(never)]
-fn read_both_times(arrive: &[u8], depart: &[u8]) -> Result<Option<Times>, What>
+fn read_both_times(arrive: &[u8], depart: &[u8]) -> Result<Option<VisitTimes>, What>
     ensures good { IfOk result (λ times. (is_wrong time_of (trimmed arrive.now) ≡ false)
         × (is_wrong time_of (trimmed depart.now) ≡ false)
         × (times ≡ spec.times_of (time_of (trimmed arrive.now)) (time_of (trimmed depart.now)))) }
@@ -257,7 +258,7 @@ fn read_both_times(arrive: &[u8], depart: &[u8]) -> Result<Option<Times>, What>
     Ok(times_of(arrive, depart))
 }
 
-// A time that may be left open: none where the text is empty.
+/// A time that may be left open: none where the text is empty.
 fn read_open_time(text: &[u8]) -> Result<Option<u32>, What>
     ensures good { IfOk result (λ time. (is_wrong time_of (trimmed text.now) ≡ false)
         × (time ≡ time_of (trimmed text.now))) }
@@ -270,7 +271,7 @@ fn read_open_time(text: &[u8]) -> Result<Option<u32>, What>
     Ok(time)
 }
 
-// Whether two texts are found equal, as those of many arrivals and departures with two digits of hours are.
+/// Whether two texts are found equal, as those of many arrivals and departures with two digits of hours are.
 fn are_equal_times(a: &[u8], b: &[u8]) -> bool
     ensures { IsTrue result → a.now ≡ b.now }
 {
@@ -283,7 +284,7 @@ fn are_equal_times(a: &[u8], b: &[u8]) -> bool
     }
 }
 
-// Whether a pickup or drop-off type allows what it speaks of. Only 1 forbids it.
+/// Whether a pickup or drop-off type allows what it speaks of. Only 1 forbids it.
 fn read_allowed(text: &[u8]) -> Result<bool, What>
     ensures good { IfOk result (λ allowed. (is_wrong number_of (trimmed text.now) ≡ false)
         × (allowed ≡ spec.allows (trimmed text.now))) }
@@ -298,7 +299,7 @@ fn read_allowed(text: &[u8]) -> Result<bool, What>
     read_any_allowed(text)
 }
 
-// The same of a type in any form.
+/// The same of a type in any form.
 #[inline(never)]
 fn read_any_allowed(text: &[u8]) -> Result<bool, What>
     ensures good { IfOk result (λ allowed. (is_wrong number_of (trimmed text.now) ≡ false)
@@ -312,17 +313,18 @@ fn read_any_allowed(text: &[u8]) -> Result<bool, What>
     }
 }
 
-// The times of an event: where one is given the other equals it.
-fn times_of(arrive: Option<u32>, depart: Option<u32>) -> Option<Times>
+/// The times of an event: where one is given the other equals it.
+fn times_of(arrive: Option<u32>, depart: Option<u32>) -> Option<VisitTimes>
     ensures { result ≡ spec.times_of arrive depart }
 {
     let arrive_or_depart = arrive.or(depart)?;
-    Some(Times {
+    Some(VisitTimes {
         arrive: arrive_or_depart,
         depart: depart.unwrap_or(arrive_or_depart),
     })
 }
 
+/// The columns that a header names.
 fn columns_in(header: &ByteRecord) -> TimeColumns
     ensures { result ≡ spec.columns_of (fields_of header.now) }
 {
@@ -337,7 +339,7 @@ fn columns_in(header: &ByteRecord) -> TimeColumns
     }
 }
 
-// No records yet, for each of the trips.
+/// No records yet, for each of the trips.
 fn no_records(alloc: Global, count: usize) -> Result<Vec<TripTimes>, AllocError>
     ensures { IfOk result (λ v. v.items ≡ replicate count []) }
 {
@@ -378,7 +380,7 @@ pub fn read_stop_times(
         trips,
         stops,
     };
-    let read = read_records(alloc, &reader, &mut records, &mut file.rows);
+    let read = read_records(alloc, &reader, &mut records, &mut file.records);
     drop(file);
     read?;
     events_of_trips(alloc, records.trips)

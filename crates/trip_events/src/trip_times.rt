@@ -11,7 +11,7 @@ use std::marker::Model;
 
 /// When a vehicle arrives at a stop and when it departs, in seconds of its service day.
 #[derive(Clone, Copy, Debug, PartialEq, Eq)]
-pub struct Times {
+pub struct VisitTimes {
     pub arrive: u32,
     pub depart: u32,
 }
@@ -26,7 +26,7 @@ pub struct StopTime {
     /// The number of the stop, none where the record names none.
     pub stop: Option<u32>,
     /// Its times, none where the record has neither.
-    pub times: Option<Times>,
+    pub times: Option<VisitTimes>,
     /// Whether travellers may board here.
     pub board: bool,
     /// Whether travellers may alight here.
@@ -35,7 +35,7 @@ pub struct StopTime {
 
 /// The records of one trip in ascending order, each sequence number once. Contracts see the list.
 ///
-/// Room for a record is made from the nearer end, so that records which ascend take as little time as those which
+/// An insertion moves the records of the nearer end, so that records which ascend take as little time as those which
 /// descend.
 #[derive(Drop)]
 pub struct TripTimes {
@@ -77,7 +77,7 @@ impl TripTimes {
         position_of(&self.items, sequence)
     }
 
-    /// Puts a record where its sequence number belongs. With the first one room is made for `likely` records in all.
+    /// Puts a record where its sequence number belongs. The first record reserves room for `likely` records in all.
     pub fn insert(
         &mut self,
         position: usize,
@@ -103,6 +103,7 @@ impl TripTimes {
     }
 }
 
+/// Puts a record at its position. A function of the list alone, so that the order need not hold of `self` halfway.
 fn insert_at(
     trip_times: &mut VecDeque<StopTime>,
     position: usize,
@@ -123,7 +124,7 @@ fn insert_at(
     Ok(())
 }
 
-// Where a record with this sequence number belongs, none where there is one already.
+/// Where a record with this sequence number belongs, none where there is one already.
 fn position_of(trip_times: &VecDeque<StopTime>, sequence: u32) -> Option<usize>
     requires { IsAscending 0 trip_times.now.items }
     ensures taken { IfNone result (has_number sequence trip_times.now.items ≡ true) }
@@ -136,7 +137,7 @@ fn position_of(trip_times: &VecDeque<StopTime>, sequence: u32) -> Option<usize>
     Some(i)
 }
 
-// How many records have a lesser sequence number.
+/// How many records have a lesser sequence number.
 fn count_below(trip_times: &VecDeque<StopTime>, sequence: u32) -> usize
     requires { IsAscending 0 trip_times.now.items }
     ensures within { result ≤ length trip_times.now.items }
@@ -148,7 +149,7 @@ fn count_below(trip_times: &VecDeque<StopTime>, sequence: u32) -> usize
     trip_times.partition_point(|stop_time| stop_time.sequence < sequence)
 }
 
-// Whether all records have a lesser sequence number, so that one with this number belongs last.
+/// Whether all records have a lesser sequence number, so that one with this number belongs last.
 fn is_past_all(trip_times: &VecDeque<StopTime>, sequence: u32) -> bool
     requires { IsAscending 0 trip_times.now.items }
     ensures last { IsTrue result → FitsAt (length trip_times.now.items) sequence trip_times.now.items }

@@ -6,7 +6,7 @@ ghost use Rattle.table_records.specs.Faults.{Tells};
 ghost use Rattle.trip_events.specs.WholeTrips as spec;
 
 use crate::fill::filled;
-use crate::trip_times::{StopTime, Times, TripTimes};
+use crate::trip_times::{StopTime, TripTimes, VisitTimes};
 use std::alloc::Global;
 use table_records::{FeedFault, FileName, What};
 use timetable::Events;
@@ -41,14 +41,14 @@ pub fn events_of_trips(alloc: Global, trips: Vec<TripTimes>) -> Result<StopTimes
     Ok(StopTimes { trips: all, aside })
 }
 
-// Whether one of a trip's records names no stop.
+/// Whether one of a trip's records names no stop.
 fn is_aside(trip_times: &[StopTime]) -> bool
     ensures { result ≡ spec.is_aside trip_times.now }
 {
     trip_times.iter().any(|stop_time| stop_time.stop.is_none())
 }
 
-// The events of one trip.
+/// The events of one trip.
 fn events_of_trip(
     alloc: Global,
     trip_times: &[StopTime],
@@ -72,14 +72,14 @@ fn events_of_trip(
     Ok(Events::new(filled(alloc, trip_times)?))
 }
 
-// The record of the first event, or else of the last one, that has no time.
+/// The record of the first event, or else of the last one, that has no time.
 fn first_untimed_end(trip_times: &[StopTime]) -> Option<u32>
     ensures { result ≡ slice_get (spec.untimed_ends trip_times.now) 0 }
 {
     untimed(trip_times.first().copied()).or(untimed(trip_times.last().copied()))
 }
 
-// The record of an event that has no time.
+/// The record of an event that has no time.
 fn untimed(stop_time: Option<StopTime>) -> Option<u32>
     ensures { result ≡ slice_get (spec.untimed stop_time) 0 }
 {
@@ -89,7 +89,7 @@ fn untimed(stop_time: Option<StopTime>) -> Option<u32>
     }
 }
 
-// The record of the first event at which a trip goes back.
+/// The record of the first event at which a trip goes back.
 fn first_record_back(trip_times: &[StopTime]) -> Option<u32>
     ensures { result ≡ slice_get (spec.records_back 0 trip_times.now) 0 }
 {
@@ -103,8 +103,8 @@ fn first_record_back(trip_times: &[StopTime]) -> Option<u32>
     None
 }
 
-// Whether a trip goes back at an event, given the last departure before it.
-fn goes_back(departed: u32, times: Option<Times>) -> bool
+/// Whether a trip goes back at an event, given the last departure before it.
+fn goes_back(departed: u32, times: Option<VisitTimes>) -> bool
     ensures { result ≡ spec.goes_back departed times }
 {
     match times {

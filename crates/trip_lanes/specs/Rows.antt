@@ -3,7 +3,7 @@
 use Rattle.std.specs.Prelude.{◌≡◌, ℕ, ◌<◌, ◌≤◌, List, slice_index, IsTrue}
 use Rattle.timetable.specs.declared.trips.Event.{Event}
 use Rattle.timetable.specs.declared.views.Call.{Call}
-use Rattle.timetable.specs.declared.views.Times.{Times}
+use Rattle.timetable.specs.declared.views.CallTimes.{CallTimes}
 use Rattle.timetable.specs.LineViews.{IsAt, IsToldView}
 use Rattle.trip_lanes.specs.Cut.{cut}
 
@@ -13,7 +13,7 @@ pub record NoneOvertakes (rows : List (List Event)) : Type 0 where
   pub depart : (r s j : ℕ) (e f : Event) → r ≤ s → IsAt rows r j e → IsAt rows s j f → e.depart ≤ f.depart
 
 -- calls and times show these trips, each time as labels tell it
-abbrev pub IsCutViewOf : ℕ → ℕ → List (List Event) → List Call → List Times → Type 0
+abbrev pub IsCutViewOf : ℕ → ℕ → List (List Event) → List Call → List CallTimes → Type 0
 IsCutViewOf base cap rows calls times = IsToldView (cut base cap) rows calls times
 
 -- a trip of the line has a ride that ends at stop p at this time, for who is ready where it begins by its departure

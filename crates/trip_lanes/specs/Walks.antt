@@ -1,7 +1,7 @@
 -- What one stop offers to others: staying or changing there, and walks from it.
 use Rattle.std.specs.Prelude.{◌≡◌, ℕ, ◌⊎◌, List, slice_index}
 use Rattle.timetable.specs.Footpaths.{FootLists, FeetData}
-use Rattle.timetable.specs.Steps.{Walked, Changed}
+use Rattle.timetable.specs.RoundSteps.{Walked, Changed}
 
 -- staying at stop x, or walking from it
 abbrev pub OfferedFrom : FootLists → List ℕ → ℕ → ℕ → ℕ → Type 0

@@ -3,13 +3,13 @@ ghost use Rattle.std.specs.Prelude.{◌≡◌, ◌<◌};
 ghost use Rattle.trip_lanes.specs.Columns.{IsColumn, arrives, departs};
 ghost use Rattle.trip_lanes.specs.Cut.{cut};
 
-use timetable::Times;
+use timetable::CallTimes;
 
 /// A position on a line, with the times of the line's trips. The trips are known by their ranks, the earliest first.
 #[derive(Clone, Copy)]
 pub(crate) struct Column<'a> {
     /// The times of all trips, trip by trip, and of each trip position by position.
-    pub times: &'a [Times],
+    pub times: &'a [CallTimes],
     /// How many positions the line has.
     pub positions: usize,
     /// The position, counted from 0.

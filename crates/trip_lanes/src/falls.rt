@@ -3,7 +3,7 @@ ghost use Rattle.std.specs.Prelude.{◌≡◌, ℕ, ◌<◌, List, length};
 ghost use Rattle.trip_lanes.specs.Lane.{lane, labels_in};
 ghost use Rattle.trip_lanes.specs.Falls.{AreFalls, AreNoted};
 
-use crate::rows::Row;
+use crate::lane_labels::LaneLabels;
 use timetable::NEVER;
 
 /// How far the labels of a stop fell, over the lanes in which they fell.
@@ -26,7 +26,7 @@ pub const UNFALLEN: Fall = Fall {
 
 /// How far the labels of each stop fell that is noted in `fallen`, from those that were kept of it; at the others none
 /// did.
-pub fn falls_of<R: Row>(before: &[R], ready: &[R], fallen: &[bool], falls: &mut [Fall])
+pub fn falls_of<R: LaneLabels>(before: &[R], ready: &[R], fallen: &[bool], falls: &mut [Fall])
     requires before { length before.now ≡ length ready.now }
     requires fallen { length fallen.now ≡ length ready.now }
     requires falls { length falls.old ≡ length ready.now }

@@ -14,16 +14,16 @@ ghost use Rattle.timetable.specs.declared.trips.Event.{Event};
 use crate::columns::{Column, departure};
 use crate::falls::Fall;
 use crate::kernels::lower_row;
+use crate::lane_labels::LaneLabels;
 use crate::ranks::{Span, arrivals, board};
-use crate::rows::Row;
-use timetable::{Call, Times};
+use timetable::{Call, CallTimes};
 
 /// The positions of a line and the times of its trips, the earliest trip first: trip by trip, and of each trip position
 /// by position.
 #[derive(Clone, Copy)]
 pub struct LineView<'a> {
     pub calls: &'a [Call],
-    pub times: &'a [Times],
+    pub times: &'a [CallTimes],
     /// How many trips it has.
     pub trips: usize,
     /// From when on labels count, in seconds.
@@ -32,17 +32,17 @@ pub struct LineView<'a> {
 
 /// For each stop, from which second one may board there, and how far this fell from what it was before.
 #[derive(Clone, Copy)]
-pub struct Labels<'a, R> {
+pub struct ReadyLabels<'a, R> {
     pub falls: &'a [Fall],
     pub ready: &'a [R],
 }
 
 /// Carries travellers along the trips of a line, from a position on: in each lane at least whoever is ready by a
 /// departure and was not before, and nobody who isn't ready by it. Stops where a label fell are marked.
-pub fn scan_line<R: Row>(
+pub fn scan_line<R: LaneLabels>(
     line: LineView<'_>,
     from: usize,
-    labels: Labels<'_, R>,
+    labels: ReadyLabels<'_, R>,
     ride: &mut [R],
     marked: &mut [bool],
 )
@@ -162,7 +162,13 @@ fn forth(column: Column<'_>, time: u32, start: usize) -> usize
 
 /// Takes lanes aboard at a position, on trips that they are ready for: from the first of these ranks on, as long as
 /// somebody may newly catch one.
-fn board_position<R: Row>(column: Column<'_>, first: usize, fall: Fall, ready: &R, run: R) -> R
+fn board_position<R: LaneLabels>(
+    column: Column<'_>,
+    first: usize,
+    fall: Fall,
+    ready: &R,
+    run: R,
+) -> R
     requires column { IsColumn column }
     requires cap { column.cap ≡ R.NEVER }
     requires few { column.trips ≤ R.NEVER }

@@ -4,15 +4,15 @@ ghost use Rattle.trip_lanes.specs.Lane.{lane, labels_in, LeavesLaterTo, MarksFal
 ghost use Rattle.trip_lanes.specs.Falls.{AreNoted};
 ghost use Rattle.trip_lanes.specs.Scan.{NothingLower};
 ghost use Rattle.trip_lanes.specs.Walks.{OfferedFrom, TransferredFrom};
-ghost use Rattle.timetable.specs.Steps.{Lowers, WalkedOrStayed, ChangedOrWalked};
+ghost use Rattle.timetable.specs.RoundSteps.{Lowers, WalkedOrStayed, ChangedOrWalked};
 
 use crate::kernels::lower_noting;
-use crate::rows::Row;
+use crate::lane_labels::LaneLabels;
 use timetable::{Feet, StopNo};
 
 /// Walks from each marked stop, or stays there, in each lane, and notes the stops where a label fell: at its first
 /// fall a stop's labels before are kept. From the other stops nobody reaches a stop earlier.
-pub fn walk_marked<R: Row>(
+pub fn walk_marked<R: LaneLabels>(
     feet: &Feet,
     ride: &[R],
     marked: &[bool],
@@ -50,7 +50,7 @@ pub fn walk_marked<R: Row>(
 
 /// Changes to another vehicle at each marked stop, or walks from there, in each lane, and notes the stops where a label
 /// fell: at its first fall a stop's labels before are kept. From the other stops nobody is ready earlier.
-pub fn transfer_marked<R: Row>(
+pub fn transfer_marked<R: LaneLabels>(
     feet: &Feet,
     ride: &[R],
     marked: &[bool],
@@ -93,7 +93,7 @@ pub fn transfer_marked<R: Row>(
 
 /// Walks along the footpaths that leave a stop, in each lane, and notes the stops where a label fell: at its first fall
 /// a stop's labels before are kept.
-fn walk_noting<R: Row>(
+fn walk_noting<R: LaneLabels>(
     leaving: &[(StopNo, u32)],
     times: R,
     ready: &mut [R],

@@ -1,12 +1,12 @@
-//! Narrow rows: thirty-two labels of 16 bits, which tell 65,534 seconds, some eighteen hours, from where they count.
+//! Narrow lane labels: thirty-two of 16 bits, which tell 65,534 seconds, some eighteen hours, from where they count.
 ghost use Rattle.std.specs.Prelude.{◌≡◌, ◌≢◌, ℕ, ◌+◌, ◌*◌, ◌<◌, ◌≤◌, ◌⊎◌, min, max, refl, slice_index};
 ghost use Rattle.std.proofs.lemmas.Bool.{leb-true};
 ghost use Rattle.trip_lanes.specs.declared.lanes.TheConstants.{LANES as SIXTEEN};
 
 use crate::falls::Fall;
+use crate::lane_labels::LaneLabels;
 use crate::lanes::{LANES, Lanes};
 use crate::ranks::Span;
-use crate::rows::Row;
 use std::simd::prelude::*;
 use std::simd::{u16x8, u16x16, u16x32, u32x16};
 use timetable::NEVER;
@@ -23,7 +23,7 @@ pub type Narrow = [u16; NARROW_LANES];
 /// Eight labels: what one register of every x86-64 processor holds.
 type Eight = [u16; 8];
 
-impl Row for Narrow {
+impl LaneLabels for Narrow {
     ghost LANES = { 32 };
 
     const LANES: usize = NARROW_LANES;
@@ -168,7 +168,7 @@ fn of_fallen(before: Narrow, ready: Narrow, labels: Narrow, other: u16) -> Narro
         .to_array()
 }
 
-/// Eight of the labels, from eight times a part on: one register. A row is reduced and widened by registers, always
+/// Eight of the labels, from eight times a part on: one register. Labels are reduced and widened by registers, always
 /// inlined, since a loop over lanes in memory is compiled lane by lane.
 #[inline(always)]
 fn eight_of(labels: Narrow, part: usize) -> Eight

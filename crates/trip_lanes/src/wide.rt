@@ -1,17 +1,17 @@
-//! Wide rows: sixteen labels of 32 bits, which reach as far as times go.
+//! Wide lane labels: sixteen labels of 32 bits, which reach as far as times go.
 ghost use Rattle.std.specs.Prelude.{◌≡◌, ◌≢◌, ℕ, ◌+◌, ◌*◌, ◌<◌, ◌≤◌, ◌⊎◌, refl, slice_index};
 ghost use Rattle.std.proofs.lemmas.Bool.{leb-true};
 ghost use Rattle.trip_lanes.specs.declared.lanes.TheConstants.{LANES as SIXTEEN};
 
 use crate::falls::Fall;
+use crate::lane_labels::LaneLabels;
 use crate::lanes::{LANES, Lanes};
 use crate::ranks::Span;
-use crate::rows::Row;
 use std::simd::prelude::*;
 use std::simd::u32x16;
 use timetable::NEVER;
 
-impl Row for Lanes {
+impl LaneLabels for Lanes {
     ghost LANES = { 16 };
 
     const LANES: usize = LANES;

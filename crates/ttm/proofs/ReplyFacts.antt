@@ -1,7 +1,7 @@
 -- An answer and its parts.
-use Rattle.std.proofs.Common.{◌≡◌, ◌++◌, ◌+◌, ◌<◌, ℕ, zero, suc, Bool, true, false, not, cond, List, [], ◌∷◌, Option, Some}
-use Rattle.std.proofs.Common.{None, Result, Ok, Err, IfOk, IfErr, OnErr, OnOk, Vec, inl, inr, refl, sym, ap, subst, append-nil}
-use Rattle.std.proofs.Common.{◌∙◌, Bor, arith, is_err, length, map, take, slice_index_or}
+use Rattle.std.proofs.Common.{◌≡◌, ◌++◌, ◌+◌, ◌<◌, ℕ, zero, suc, Bool, true, false, not, cond, List, [], ◌∷◌, Option}
+use Rattle.std.proofs.Common.{Some, None, Result, Ok, Err, IfOk, IfErr, OnErr, OnOk, Vec, inl, inr, refl, sym, ap}
+use Rattle.std.proofs.Common.{subst, append-nil, ◌∙◌, Bor, arith, is_err, length, map, take, slice_index_or}
 use Rattle.std.specs.Io.KnownBytes.{Appends, Keeps}
 use Rattle.std.proofs.KnownBytes.{Appends-kept}
 use Rattle.std.specs.declared.alloc.Global.{Global}
@@ -72,8 +72,9 @@ turn_of puts finds kept base known left out put block r h answers puts_it = reco
 }
 
 -- a conversation, and what is told of its end
-pub ends_talk : (finds : Finds) (kept : InputFiles) (base : SettingsData) (known left out put err told : Option (List ℕ))
-    (status : ℕ) (r : Result Unit TalkFault) → OnOk r (IsWhole finds kept base known left out put)
+pub ends_talk : (finds : Finds) (kept : InputFiles) (base : SettingsData)
+    (known left out put err told : Option (List ℕ)) (status : ℕ) (r : Result Unit TalkFault) →
+    OnOk r (IsWhole finds kept base known left out put)
     → IfErr r (λ fault. IsTalk finds kept base known left out put fault) → IsEnd r err told status
     → EndsTalk finds kept base known left out put err told status
 ends_talk finds kept base known left out put err told status (Ok u) whole cut end = inl (end.0, whole)

@@ -1,10 +1,10 @@
 -- A conversation: the answers to the questions of the standard input.
 -- "A question is answered the matrix of its study with status 0, or the line that tells why there is none with the
--- status of what it tells: as a run with these words would. Its study has the command line's files and settings, but for
--- those that the question names. Out of memory may be told in place of any answer. An answer depends on its question
--- alone." (The program's own rule.)
-use Rattle.std.specs.Prelude.{◌≡◌, ◌≢◌, ◌≤◌, ◌<◌, ◌⊎◌, ◌++◌, ℕ, Bool, true, false, List, [], ◌∷◌, Option, Some, None, Ok, Err, codes, decimal, length}
-use Rattle.std.specs.Prelude.{Result, map, option_map, string_bytes, ⊤}
+-- status of what it tells: as a run with these words would. Its study has the command line's files and settings, but
+-- for those that the question names. Out of memory may be told in place of any answer. An answer depends on its
+-- question alone." (The program's own rule.)
+use Rattle.std.specs.Prelude.{◌≡◌, ◌≢◌, ◌≤◌, ◌<◌, ◌⊎◌, ◌++◌, ℕ, Bool, true, false, List, [], ◌∷◌, Option, Some, None}
+use Rattle.std.specs.Prelude.{Ok, Err, Result, codes, decimal, length, map, option_map, string_bytes, ⊤}
 use Rattle.std.specs.Io.KnownBytes.{Appends, Consumes, IsAtEnd}
 use Rattle.std.specs.List.{concat}
 use Rattle.gtfs_tables.specs.Files.{IsWithinLimit}

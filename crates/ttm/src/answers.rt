@@ -9,6 +9,7 @@ ghost use Rattle.std.specs.Prelude.{◌≡◌, ◌≤◌, IfErr, OnOk};
 ghost use Rattle.std.specs.Process.{exit_status};
 ghost use Rattle.studies.specs.Inputs.{AreWithinLimit, inputs_of};
 ghost use Rattle.studies.specs.Settings.{SettingsFit};
+ghost use Rattle.studies.specs.Watched.{SawFault};
 ghost use Rattle.ttm.specs.Answers as spec;
 
 use crate::host::Host;
@@ -119,8 +120,8 @@ fn answer_and_report<'a, H: Host, O: Write, E: Write>(
     }
 }
 
-/// Puts out the matrix of a study. At an error it isn't out whole. If the workers gave no matrix, the error says why, by
-/// what this gate may decide.
+/// Puts out the matrix of a study. At an error it isn't out whole. If the workers gave no matrix, the error says why,
+/// by what this gate may decide, and it is the one that the watch was told.
 fn put_matrix<H: Host, G: Gate + Sync, W: Watch, O: Write>(
     host: &H,
     inputs: &Inputs<'_>,
@@ -135,6 +136,8 @@ fn put_matrix<H: Host, G: Gate + Sync, W: Watch, O: Write>(
         (O.contents out.new)) }
     ensures why { IfErr result (λ fault. spec.IsWhy (G.decides gate.now) (G.was_told gate.now) fault
         (inputs_of inputs.now) settings.now (O.contents out.old) (O.contents out.new)) }
+    ensures told_fault { IfErr result (λ fault.
+        SawFault (W.saw watch.now) fault (inputs_of inputs.now) settings.now) }
 {
     match watch_study(host, host.alloc(), inputs, settings, gate, watch) {
         Ok(text) => match put_all(&text, out) {

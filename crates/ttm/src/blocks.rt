@@ -2,7 +2,8 @@
 //!
 //! A question is read byte by byte, so that no byte of the next one is waited for.
 
-ghost use Rattle.std.specs.Prelude.{◌≡◌, ◌++◌, ◌∷◌, [], List, ℕ, IfErr, IfOk, OnErr, OnOk, map, not, string_bytes, true, ◌==◌};
+ghost use Rattle.std.specs.Prelude.{◌≡◌, ◌++◌, ◌∷◌, ◌==◌, [], List, ℕ, IfErr, IfOk, OnErr, OnOk, map, not};
+ghost use Rattle.std.specs.Prelude.{string_bytes, true};
 ghost use Rattle.std.specs.Io.KnownBytes.{Consumes};
 ghost use Rattle.std.specs.List.{slice_split};
 ghost use Rattle.ttm.specs.Blocks as spec;

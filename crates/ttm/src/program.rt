@@ -48,8 +48,9 @@ pub(crate) fn run<H: Host, I: Read, O: Write, E: Write>(
     ensures success { exit_status result ≡ DONE →
         (words : List Text) × spec.EndsWell (H.finds host.now) words (I.remaining input.old) (I.remaining input.new)
         (O.contents out.old) (O.contents out.new) }
-    ensures ended { ((words : List Text) × spec.Ends (H.finds host.now) words (I.remaining input.old) (I.remaining input.new)
-        (O.contents out.old) (O.contents out.new) (E.contents err.old) (E.contents err.new) (exit_status result))
+    ensures ended { ((words : List Text) × spec.Ends (H.finds host.now) words (I.remaining input.old)
+        (I.remaining input.new) (O.contents out.old) (O.contents out.new) (E.contents err.old) (E.contents err.new)
+        (exit_status result))
         ⊎ spec.EndsUnread (O.contents out.old) (O.contents out.new) (E.contents err.old) (E.contents err.new)
         (exit_status result) }
     ensures quiet { exit_status result ≡ DONE → err.new ≡ err.old }
@@ -89,7 +90,8 @@ pub(crate) fn run_words<H: Host, I: Read, O: Write, E: Write>(
         spec.EndsWell (H.finds host.now) (map string_bytes words.now) (I.remaining input.old) (I.remaining input.new)
         (O.contents out.old) (O.contents out.new) }
     ensures ended { spec.Ends (H.finds host.now) (map string_bytes words.now) (I.remaining input.old)
-        (I.remaining input.new) (O.contents out.old) (O.contents out.new) (E.contents err.old) (E.contents err.new) (exit_status result) }
+        (I.remaining input.new) (O.contents out.old) (O.contents out.new) (E.contents err.old) (E.contents err.new)
+        (exit_status result) }
     ensures quiet { exit_status result ≡ DONE → err.new ≡ err.old }
 {
     if words.len() <= 1 {
@@ -132,7 +134,8 @@ fn asked<H: Host, I: Read, O: Write, E: Write>(
         spec.Succeeds (H.finds host.now) (map string_bytes words.now) (I.remaining input.old) (I.remaining input.new)
         (O.contents out.old) (O.contents out.new) }
     ensures ended { spec.EndsWords (H.finds host.now) (map string_bytes words.now) (I.remaining input.old)
-        (I.remaining input.new) (O.contents out.old) (O.contents out.new) (E.contents err.old) (E.contents err.new) (exit_status result) }
+        (I.remaining input.new) (O.contents out.old) (O.contents out.new) (E.contents err.old) (E.contents err.new)
+        (exit_status result) }
     ensures quiet { exit_status result ≡ DONE → err.new ≡ err.old }
 {
     match task_of(host.alloc(), words) {
@@ -221,8 +224,8 @@ fn read_and_answer<H: Host, I: Read, O: Write, E: Write>(
     ensures success { exit_status result ≡ DONE →
         spec.IsDone (H.finds host.now) task.now (I.remaining input.old) (I.remaining input.new) (O.contents out.old)
         (O.contents out.new) }
-    ensures ended { spec.EndsTask (H.finds host.now) task.now (I.remaining input.old) (I.remaining input.new) (O.contents out.old) (O.contents out.new)
-        (E.contents err.old) (E.contents err.new) (exit_status result) }
+    ensures ended { spec.EndsTask (H.finds host.now) task.now (I.remaining input.old) (I.remaining input.new)
+        (O.contents out.old) (O.contents out.new) (E.contents err.old) (E.contents err.new) (exit_status result) }
     ensures quiet { exit_status result ≡ DONE → err.new ≡ err.old }
 {
     match read_files(host.alloc(), host, task, files) {

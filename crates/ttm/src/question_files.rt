@@ -29,7 +29,8 @@ pub(crate) fn read_question_files<'a, D: Disk>(
 ) -> Result<QuestionFiles, Unread<'a>>
     ensures files { IfOk result (λ found. spec.AreFound (D.finds disk.now) task.now found) }
     ensures limit { IfOk result spec.AreWithinLimit }
-    ensures unread { IfErr result (λ unread. files.NamesUnread (D.finds disk.now) (spec.question_asks task.now) unread) }
+    ensures unread { IfErr result (λ unread.
+        files.NamesUnread (D.finds disk.now) (spec.question_asks task.now) unread) }
 {
     Ok(QuestionFiles {
         origins: own_file(alloc, disk, &task.origins)?,

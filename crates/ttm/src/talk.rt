@@ -1,7 +1,7 @@
 //! A conversation: what a study's files give is kept, and questions of it are answered one after another.
 //!
-//! A question is read to its end, its answer is put out and flushed, and then the next one is read. No answer depends on
-//! what was asked before, and a fault of one question changes nothing for the next.
+//! A question is read to its end, its answer is put out and flushed, and then the next one is read. No answer depends
+//! on what was asked before, and a fault of one question changes nothing for the next.
 
 ghost use Rattle.std.specs.Prelude.{◌≡◌, IfErr, IfOk, OnOk};
 ghost use Rattle.std.specs.Process.{exit_status};

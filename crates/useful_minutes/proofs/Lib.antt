@@ -1,6 +1,7 @@
-pub mod Alone
-pub mod Filled
-pub mod Marking
-pub mod Planning
-pub mod Riding
-pub mod Stopping
+pub mod WalksAlone
+pub mod FilledLabels
+pub mod SearchedMinutes
+pub mod LineEvents
+pub mod LabelsInOrder
+pub mod MarkedTrips
+pub mod MarkedLines

@@ -1,4 +1,5 @@
 pub mod Boarding
 pub mod Marks
+pub mod Orders
 pub mod Plan
 pub mod Waits

@@ -33,22 +33,23 @@ pub record AreStandIns (minutes : ℕ) (searched positions waits : List ℕ) : T
   pub too : length waits ≡ minutes
   pub each : (m : ℕ) → m < minutes → StandsIn searched m (slice_index positions m) (slice_index waits m)
 
--- the positions and waits of the minutes are as they were, and each lane past them stands in for itself
-pub record ArePadded (minutes lanes : ℕ) (positions waits more longer : List ℕ) : Type 0 where
+-- the positions and waits of the minutes are as they were, and the lanes past them have the position after those of the
+-- searched minutes
+pub record ArePadded (searched minutes lanes : ℕ) (positions waits more longer : List ℕ) : Type 0 where
   pub long : length more ≡ lanes
   pub too : length longer ≡ lanes
   pub kept : (m : ℕ) → m < minutes → slice_index more m ≡ slice_index positions m
   pub same : (m : ℕ) → m < minutes → slice_index longer m ≡ slice_index waits m
-  pub past : (m : ℕ) → minutes ≤ m → m < lanes → slice_index more m ≡ m
+  pub past : (m : ℕ) → minutes ≤ m → m < lanes → slice_index more m ≡ searched
 
--- the minutes of a window that are searched, and for each lane, which may lie past the window, the position of the
--- minute that stands in for it
+-- the minutes of a window that are searched, and for each of the window the position of the one that stands in for it;
+-- for lanes past the window the position after these
 pub record IsPlan (minutes lanes : ℕ) (searched positions waits : List ℕ) : Type 0 where
   pub are : AreMinutes minutes searched
   pub long : length positions ≡ lanes
   pub too : length waits ≡ lanes
   pub each : (m : ℕ) → m < minutes → StandsIn searched m (slice_index positions m) (slice_index waits m)
-  pub past : (m : ℕ) → minutes ≤ m → m < lanes → slice_index positions m ≡ m
+  pub past : (m : ℕ) → minutes ≤ m → m < lanes → slice_index positions m ≡ length searched
 
 -- no minute misses a trip by waiting for the one that stands in for it
 abbrev pub SkipsNothing : Net → ℕ → ℕ → ℕ → List ℕ → List ℕ → Type 0

@@ -1,5 +1,6 @@
 -- The labels of all minutes, from those of the minutes that were searched, and from walks alone.
-use Rattle.std.specs.Prelude.{◌≡◌, ℕ, ◌+◌, ◌*◌, ◌/◌, ◌%◌, ◌≤◌, ◌⊎◌, List, [], min, slice_index, slice_index_or}
+use Rattle.std.specs.Prelude.{◌≡◌, ℕ, ◌+◌, ◌*◌, ◌/◌, ◌%◌, ◌<◌, ◌≤◌, ◌⊎◌, List, [], min, length, slice_index}
+use Rattle.std.specs.Prelude.{slice_index_or, All}
 use Rattle.timetable.specs.declared.least.TheConstants.{NEVER}
 use Rattle.timetable.specs.Networks.{Net}
 use Rattle.useful_minutes.specs.Boarding.{IsNear}
@@ -15,6 +16,19 @@ label_from from labels m = slice_index (slice_index_or labels (from + m / 16) []
 -- a label and a wait, up to NEVER
 abbrev pub waited : ℕ → ℕ → ℕ
 waited label wait = min (label + wait) NEVER
+
+-- there is room for so many rows, which each of these positions lies in, and for one row more
+pub record HasRoom (positions : List ℕ) (room : ℕ) : Type 0 where
+  pub rows : ℕ
+  pub size : room ≡ 16 * rows + 16
+  pub few : 16 * rows ≤ length positions
+  pub within : All (λ position. position < 16 * rows) positions
+
+-- the new label of each stop and minute is the old one at the minute's position, and the minute's wait
+pub record AreFilled (positions waits : List ℕ) (stops : ℕ) (old new : List (List ℕ)) : Type 0 where
+  pub same : length new ≡ length old
+  pub filled : (rows p m : ℕ) → length positions ≡ 16 * rows → p < stops → m < length positions →
+      label_at rows new p m ≡ waited (label_at rows old p (slice_index positions m)) (slice_index waits m)
 
 -- the new label is no more than the old one and each walk from the origin, and one of these
 pub record IsWalked (n : Net) (origin p old new : ℕ) : Type 0 where

@@ -1,14 +1,15 @@
-//! Useful minutes: from an origin, the minutes of a window at which a trip can be boarded first that who waits for the
-//! next minute misses. The others need no search of their own: their journeys with a ride are those of the next useful
-//! minute.
+//! Useful minutes: from an origin, the minutes of a window whose trips a later minute can't board as well. The others
+//! need no search of their own: who departs then and waits for the next useful minute can board first each trip that
+//! could be boarded before, there or earlier on the trip's way, and so ends the same journeys.
 //!
 //! - `marks`: which minutes are useful.
 //! - `plan`: [`plan_for`], which minutes are searched, and which of them stands in for each minute.
-//! - `waits`: [`fill_in`], the durations of all minutes from those of the searched ones. `walks`: [`walk_alone`], the
-//!   walks that need no trip.
+//! - `waits`: [`fill_in`], the durations of all minutes from those of the searched ones, four at a time by the places of
+//!   `orders`. `walks`: [`walk_alone`], the walks that need no trip.
 #![tactic(auto)]
 
 mod marks;
+mod orders;
 mod plan;
 mod waits;
 mod walks;

@@ -6,7 +6,7 @@ ghost use Rattle.timetable.specs.declared.limits.TheConstants.{END_OF_AXIS};
 
 use crate::marks::mark_useful;
 use std::alloc::{AllocError, Global};
-use timetable::{Network, StopNo};
+use timetable::{Renumbered, StopNo};
 
 /// How many minutes lie between one searched minute and the next at most, in a long window: so a batch of them spans
 /// some hours only, and narrow labels keep most of their reach.
@@ -74,21 +74,23 @@ fn stand_ins(
     Ok((positions, waits))
 }
 
-/// Appends each position from a minute on, with no wait: lanes past the window stand in for themselves.
+/// Appends for each lane past the window the position after those of the searched minutes, and no wait: there the
+/// lanes of all labels are dead.
 fn pad(
     positions: &mut Vec<u32>,
     waits: &mut Vec<u32>,
+    searched: u32,
     minutes: u32,
     lanes: u32,
 ) -> Result<(), AllocError>
     requires positions { length positions.old.items ≡ minutes }
     requires waits { length waits.old.items ≡ minutes }
     requires lanes { minutes ≤ lanes }
-    ensures { OnOk result (ArePadded minutes lanes positions.old.items waits.old.items positions.new.items
+    ensures { OnOk result (ArePadded searched minutes lanes positions.old.items waits.old.items positions.new.items
         waits.new.items) }
 {
-    for m in minutes..lanes {
-        positions.push(m)?;
+    for _ in minutes..lanes {
+        positions.push(searched)?;
         waits.push(0)?;
     }
     Ok(())
@@ -105,8 +107,7 @@ pub struct Plan {
     pub waits: Vec<u32>,
 }
 
-/// The plan for the minutes that are marked. It has positions for so many lanes: those past the window stand in for
-/// themselves.
+/// The plan for the minutes that are marked. It has positions for so many lanes.
 fn plan_of(alloc: Global, marks: &[bool], lanes: u32) -> Result<Plan, AllocError>
     requires some { 0 < length marks.now }
     requires few { length marks.now ≤ 1440 }
@@ -119,7 +120,14 @@ fn plan_of(alloc: Global, marks: &[bool], lanes: u32) -> Result<Plan, AllocError
     let found = stand_ins(alloc, &minutes, marks.len() as u32)?;
     let mut positions = found.0;
     let mut waits = found.1;
-    pad(&mut positions, &mut waits, marks.len() as u32, lanes)?;
+    let searched = minutes.len() as u32;
+    pad(
+        &mut positions,
+        &mut waits,
+        searched,
+        marks.len() as u32,
+        lanes,
+    )?;
     Ok(Plan {
         minutes,
         positions,
@@ -144,7 +152,7 @@ fn plan_of_all(alloc: Global, minutes: u32, lanes: u32) -> Result<Plan, AllocErr
 /// The plan that searches the useful minutes of a window.
 fn plan_of_useful(
     alloc: Global,
-    network: &Network,
+    network: &Renumbered<'_>,
     origin: StopNo,
     first: u32,
     minutes: u32,
@@ -162,7 +170,7 @@ fn plan_of_useful(
 {
     let mut marks = vec![in alloc; false; minutes as usize]?;
     let useful = marks.as_mut_slice();
-    mark_useful(network, origin, first, useful);
+    mark_useful(alloc, network, origin, first, useful)?;
     let plan = plan_of(alloc, useful, lanes)?;
     Ok(plan)
 }
@@ -176,7 +184,7 @@ fn saves_a_batch(searched: usize, minutes: usize) -> bool {
 /// useful ones take fewer batches. There are positions for so many lanes. Out of memory is the only error.
 pub fn plan_for(
     alloc: Global,
-    network: &Network,
+    network: &Renumbered<'_>,
     origin: StopNo,
     first: u32,
     minutes: u32,

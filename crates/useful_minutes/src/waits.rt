@@ -1,8 +1,16 @@
 //! The labels of all minutes of a window, from those of the minutes that were searched.
 ghost use Rattle.std.specs.Prelude.{◌≡◌, ℕ, ◌+◌, ◌*◌, ◌<◌, ◌≤◌, ◌⊎◌, [], length, slice_index, slice_index_or, All};
+ghost use Rattle.std.specs.Prelude.{OnOk};
 ghost use Rattle.trip_lanes.specs.declared.lanes.TheConstants.{LANES};
-ghost use Rattle.useful_minutes.specs.Waits.{label_at, label_from, waited};
+ghost use Rattle.useful_minutes.specs.Orders.{AreSteps, AreOrders};
+ghost use Rattle.useful_minutes.specs.Waits.{AreFilled, HasRoom, label_at, label_from, waited};
+ghost use Rattle.useful_minutes.specs.declared.orders.TheConstants.{AT_ONCE as AT_ONCE_VALUE};
 
+use crate::orders::{AT_ONCE, Four, Order, in_order, orders_of};
+use std::alloc::{AllocError, Global};
+use std::simd::prelude::*;
+use std::simd::{u32x4, u32x16};
+use timetable::NEVER;
 use trip_lanes::{LANES, Lanes};
 
 /// Copies sixteen labels to their places among those of a stop.
@@ -18,9 +26,9 @@ fn copy_row(near: &mut [u32], lanes: Lanes, row: usize)
     }
 }
 
-/// Copies the labels of a stop, of which the rows stand side by side from one on.
+/// Copies the labels of a stop, of which so many rows stand side by side from one on.
 fn copy_stop(near: &mut [u32], labels: &[Lanes], from: usize, rows: usize)
-    requires near { length near.old ≡ LANES * rows }
+    requires near { LANES * rows ≤ length near.old }
     requires labels { from + rows ≤ length labels.now }
     ensures same { length near.new ≡ length near.old }
     ensures copied { (m : ℕ) → m < LANES * rows → slice_index near.new m ≡ label_from from labels.now m }
@@ -30,17 +38,53 @@ fn copy_stop(near: &mut [u32], labels: &[Lanes], from: usize, rows: usize)
     }
 }
 
+/// The labels of the minutes that stand in for four minutes.
+#[inline(always)]
+fn four_of(near: &[u32], positions: &[u32], orders: &[Order], group: usize) -> Four
+    requires group { AT_ONCE_VALUE * group + AT_ONCE_VALUE ≤ length positions.now }
+    requires near { All (λ position. position + AT_ONCE_VALUE ≤ length near.now) positions.now }
+    requires steps { AreSteps positions.now }
+    requires orders { AreOrders positions.now orders.now }
+    ensures { (l : ℕ) → l < AT_ONCE_VALUE →
+        slice_index result l ≡ slice_index near.now (slice_index positions.now (AT_ONCE_VALUE * group + l)) }
+{
+    let from = positions[AT_ONCE * group] as usize;
+    let labels = u32x4::from_slice(&near[from..from + AT_ONCE]).to_array();
+    in_order(labels, orders[group])
+}
+
+/// Puts four labels at a place among sixteen.
+#[inline(always)]
+fn put_four(labels: &mut [u32], at: usize, four: Four)
+    requires { at + AT_ONCE_VALUE ≤ length labels.old }
+    ensures same { length labels.new ≡ length labels.old }
+    ensures put { (l : ℕ) → l < AT_ONCE_VALUE → slice_index labels.new (at + l) ≡ slice_index four l }
+    ensures kept { (m : ℕ) → (m < at) ⊎ (at + AT_ONCE_VALUE ≤ m) →
+        slice_index labels.new m ≡ slice_index labels.old m }
+{
+    for l in 0..AT_ONCE {
+        labels[at + l] = four[l];
+    }
+}
+
 /// The labels of the minutes that stand in for sixteen minutes.
 #[inline(always)]
-fn stand_ins_of(near: &[u32], positions: &[u32], row: usize) -> Lanes
+fn stand_ins_of(near: &[u32], positions: &[u32], orders: &[Order], row: usize) -> Lanes
     requires row { LANES * row + LANES ≤ length positions.now }
-    requires near { All (λ position. position < length near.now) positions.now }
+    requires near { All (λ position. position + AT_ONCE_VALUE ≤ length near.now) positions.now }
+    requires steps { AreSteps positions.now }
+    requires orders { AreOrders positions.now orders.now }
     ensures { (l : ℕ) → l < LANES →
         slice_index result l ≡ slice_index near.now (slice_index positions.now (LANES * row + l)) }
 {
     let mut taken = [0; LANES];
-    for l in 0..LANES {
-        taken[l] = near[positions[LANES * row + l] as usize];
+    for part in 0..LANES / AT_ONCE {
+        let group = LANES / AT_ONCE * row + part;
+        put_four(
+            &mut taken,
+            AT_ONCE * part,
+            four_of(near, positions, orders, group),
+        );
     }
     taken
 }
@@ -52,54 +96,84 @@ fn with_waits(labels: Lanes, waits: &[u32], row: usize) -> Lanes
     ensures { (l : ℕ) → l < LANES →
         slice_index result l ≡ waited (slice_index labels l) (slice_index waits.now (LANES * row + l)) }
 {
-    let mut later = labels;
-    for l in 0..LANES {
-        later[l] = labels[l].saturating_add(waits[LANES * row + l]);
-    }
-    later
+    let from = LANES * row;
+    let more = u32x16::from_slice(&waits[from..from + LANES]);
+    let early = u32x16::from_array(labels).simd_min(u32x16::splat(NEVER) - more);
+    (early + more).to_array()
 }
 
-/// Fills in the labels of a stop, whose rows stand side by side from one on.
-fn fill_stop(labels: &mut [Lanes], near: &mut [u32], positions: &[u32], waits: &[u32], from: usize)
-    requires rows { (rows : ℕ) × (length near.old ≡ LANES * rows) × (from + rows ≤ length labels.old) }
-    requires positions { length positions.now ≡ length near.old }
-    requires waits { length waits.now ≡ length near.old }
-    requires within { All (λ position. position < length near.old) positions.now }
+/// Fills in the labels of a stop, whose rows stand side by side from one on. `near` has room for those of the searched
+/// minutes, and for one row more.
+fn fill_stop(
+    labels: &mut [Lanes],
+    near: &mut [u32],
+    positions: &[u32],
+    orders: &[Order],
+    waits: &[u32],
+    from: usize,
+)
+    requires rows { (rows : ℕ) × (length positions.now ≡ LANES * rows) × (from + rows ≤ length labels.old) }
+    requires near { HasRoom positions.now (length near.old) }
+    requires waits { length waits.now ≡ length positions.now }
+    requires steps { AreSteps positions.now }
+    requires orders { AreOrders positions.now orders.now }
     ensures same { length labels.new ≡ length labels.old }
     ensures near { length near.new ≡ length near.old }
-    ensures filled { (m : ℕ) → m < length near.old → label_from from labels.new m
+    ensures filled { (m : ℕ) → m < length positions.now → label_from from labels.new m
         ≡ waited (label_from from labels.old (slice_index positions.now m)) (slice_index waits.now m) }
-    ensures kept { (i : ℕ) → (i < from) ⊎ (LANES * from + length near.old ≤ LANES * i) →
+    ensures kept { (i : ℕ) → (i < from) ⊎ (LANES * from + length positions.now ≤ LANES * i) →
         slice_index_or labels.new i [] ≡ slice_index_or labels.old i [] }
 {
-    let rows = near.len() / LANES;
-    copy_stop(near, labels, from, rows);
-    for row in 0..rows {
-        let taken = stand_ins_of(near, positions, row);
+    copy_stop(near, labels, from, near.len() / LANES - 1);
+    for row in 0..positions.len() / LANES {
+        let taken = stand_ins_of(near, positions, orders, row);
         labels[from + row] = with_waits(taken, waits, row);
     }
 }
 
-/// Fills in the label of each stop and minute: that of the minute at its position among those that were searched, whose
-/// labels stand first, and its wait. There is room for the labels of a stop in `near`.
-pub fn fill_in(
+/// Fills in the labels of all stops, one after another.
+fn fill_stops(
     labels: &mut [Lanes],
     near: &mut [u32],
     positions: &[u32],
+    orders: &[Order],
     waits: &[u32],
     stops: usize,
 )
-    requires rows { (rows : ℕ) × (length near.old ≡ LANES * rows) × (length labels.old ≡ stops * rows) }
-    requires positions { length positions.now ≡ length near.old }
-    requires waits { length waits.now ≡ length near.old }
-    requires within { All (λ position. position < length near.old) positions.now }
-    ensures same { length labels.new ≡ length labels.old }
-    ensures filled { (rows p m : ℕ) → length near.old ≡ LANES * rows → p < stops → m < length near.old →
-        label_at rows labels.new p m
-        ≡ waited (label_at rows labels.old p (slice_index positions.now m)) (slice_index waits.now m) }
+    requires rows { (rows : ℕ) × (length positions.now ≡ LANES * rows) × (length labels.old ≡ stops * rows) }
+    requires near { HasRoom positions.now (length near.old) }
+    requires waits { length waits.now ≡ length positions.now }
+    requires steps { AreSteps positions.now }
+    requires orders { AreOrders positions.now orders.now }
+    ensures { AreFilled positions.now waits.now stops labels.old labels.new }
 {
-    let rows = near.len() / LANES;
+    let rows = positions.len() / LANES;
     for stop in 0..stops {
-        fill_stop(labels, near, positions, waits, stop * rows);
+        fill_stop(labels, near, positions, orders, waits, stop * rows);
     }
+}
+
+/// Fills in the label of each stop and minute: that of the minute at its position among those that were searched, whose
+/// labels stand first, and its wait. The label after these, at the position of lanes past the window, is one of them.
+/// Out of memory is the only error.
+pub fn fill_in(
+    alloc: Global,
+    labels: &mut [Lanes],
+    positions: &[u32],
+    waits: &[u32],
+    searched: usize,
+    stops: usize,
+) -> Result<(), AllocError>
+    requires rows { (rows : ℕ) × (length positions.now ≡ LANES * rows) × (length labels.old ≡ stops * rows) }
+    requires waits { length waits.now ≡ length positions.now }
+    requires steps { AreSteps positions.now }
+    requires within { All (λ position. position ≤ searched) positions.now }
+    requires few { searched < length positions.now }
+    ensures { OnOk result (AreFilled positions.now waits.now stops labels.old labels.new) }
+{
+    let orders = orders_of(alloc, positions)?;
+    let mut room = vec![in alloc; NEVER; LANES * (searched / LANES + 2)]?;
+    let near = room.as_mut_slice();
+    fill_stops(labels, near, positions, &orders, waits, stops);
+    Ok(())
 }

@@ -4,7 +4,7 @@ ghost use Rattle.std.specs.Prelude.{slice_index_or};
 ghost use Rattle.trip_lanes.specs.declared.lanes.TheConstants.{LANES};
 ghost use Rattle.useful_minutes.specs.Waits.{label_at, IsWalked};
 
-use timetable::{Network, StopNo};
+use timetable::{Renumbered, StopNo};
 use trip_lanes::{LANES, Lanes};
 
 /// Lowers one label of a row to some seconds.
@@ -40,7 +40,7 @@ fn lower_stop(labels: &mut [Lanes], stop: usize, rows: usize, minutes: usize, se
 /// Lowers the label of each stop near the origin to the seconds of the walk there, for each of so many minutes.
 pub fn walk_alone(
     labels: &mut [Lanes],
-    network: &Network,
+    network: &Renumbered<'_>,
     origin: StopNo,
     rows: usize,
     minutes: usize,

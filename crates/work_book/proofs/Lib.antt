@@ -1,15 +1,15 @@
-mod Ascending
+mod SearchByHalves
 mod DrawnBelow
-mod Stepping
-mod TakenBack
-mod RunBack
-pub mod Fair
-pub mod Nothing
-mod Counts
-mod Held
-mod Sharing
-mod Numbering
-mod Marking
-mod Ending
-mod SomeRun
-mod Told
+mod StepsKeepBooks
+mod StepsTakenBack
+mod RunsTakenBack
+pub mod StepsAreFair
+pub mod NothingIsLast
+mod SumsOverViews
+mod RuleAsSums
+mod SplitsAndJoinsKeepTheRule
+mod DrawsKeepTheRule
+mod SettlesKeepTheRule
+mod NewAndClosedBoards
+mod RunsOfOneSeat
+mod ClosedBoards

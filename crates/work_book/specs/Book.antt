@@ -32,7 +32,7 @@ acts book seat = option_map_or (λ (s : SeatState). not s.lost) (slice_get book.
 abbrev pub seat_has : BookState → ℕ → ℕ → Bool
 seat_has book seat number = option_map_or (has_drawn number) (slice_get book.seats seat) false
 
--- the job that a number is for, among so many jobs
+-- the job that a number is for
 abbrev pub job_among : ℕ → ℕ → ℕ
 job_among jobs number = number % jobs
 

@@ -1,4 +1,4 @@
--- What each kind of atomic step tells the seat that makes it.
+-- What each kind of atomic step shows the seat that takes it.
 use Rattle.std.specs.Prelude.{◌≡◌, ℕ, ◌-◌, ◌<◌, ◌≤◌, false}
 use Rattle.std.specs.List.{All}
 use Rattle.atomic_table.specs.Table.{Me, Step}

@@ -29,7 +29,7 @@ pub record MarksOwn (jobs : ℕ) (words : List ℕ) (v : View) : Type 0 where
   pub jobs_of : v.kept ≡ map (job_among jobs) v.under
   pub marks : (number : ℕ) → settled_under v number ≡ true → mark_of words (job_among jobs number) ≡ number + 1
 
--- the rule of a board of so many jobs and tries: its words and views are in order
+-- the rule of a board of an extent: its words and views are in order
 pub record IsKept (k : Extent) (s : State (Unit {0}) View) : Type 0 where
   pub wide : length s.words ≡ k.jobs + 1
   -- as in every run of a book: each number below the next one is drawn once, and a settled job is kept once

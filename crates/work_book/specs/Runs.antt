@@ -1,4 +1,4 @@
--- What a closed board tells is what some run of a book tells.
+-- What a closed board shows is what some run of a book shows.
 use Rattle.std.specs.Prelude.{◌≡◌, ◌∷◌, [], ℕ, List}
 use Rattle.work_book.specs.Book.{BookState, is_marked}
 use Rattle.work_book.specs.Laws.{drawn_count, kept_count, reached}
@@ -14,7 +14,7 @@ pub record TellsTheSame (a b : BookState) : Type 0 where
   pub drawn : (number : ℕ) → drawn_count number a ≡ drawn_count number b
   pub kept : (job : ℕ) → kept_count job a ≡ kept_count job b
 
--- a board that is closed by the only seat left, of which joined seats are parts, tells what some run of one seat tells
+-- a board that is closed by the only seat left, of which joined seats are parts, shows what some run of one seat shows
 abbrev pub IsSomeRun : View → Closed → Type 0
 IsSomeRun v closed = Closes v closed → v.share ≡ 65536 →
     (steps : List Step) × TellsTheSame (reached closed.jobs closed.tries 1 steps) (book_of closed (v ∷ []))

@@ -8,7 +8,7 @@ use Rattle.work_book.specs.declared.steps.Step.TheVariants.{Draw, Look, Settle, 
 use Rattle.work_book.specs.declared.steps.Answer.{Answer}
 use Rattle.work_book.specs.declared.steps.Answer.TheVariants as answer
 
--- the lease of a number, among so many jobs
+-- the lease of a number
 abbrev pub lease_among : ℕ → ℕ → Lease
 lease_among jobs number = record { number = number; job = job_among jobs number; pass = number / jobs }
 
@@ -46,12 +46,12 @@ after book (Settle seat number) =
     else book
 after book (Loss seat) = if acts book seat then on_seat book seat as_lost else book
 
--- the answers of steps that are made in order
+-- the answers of steps that are taken in order
 abbrev pub answers_of : BookState → List Step → List Answer
 answers_of book [] = []
 answers_of book (step ∷ steps) = answer_of book step ∷ answers_of (after book step) steps
 
--- the book after steps that are made in order
+-- the book after steps that are taken in order
 abbrev pub run_of : BookState → List Step → BookState
 run_of book [] = book
 run_of book (step ∷ steps) = run_of (after book step) steps

@@ -12,7 +12,7 @@ seat_of v = record { drawn = v.drawn; kept = v.kept; lost = false }
 abbrev pub knows : View → ℕ → Bool
 knows v job = list_any (λ known. known == job) v.known
 
--- the seat that a board is made with: it drew nothing, knows of no settled job, and has every share. Numbers stop at
+-- the first seat of a board: it drew nothing, knows of no settled job, and has every share. Numbers stop at
 -- the limit
 abbrev pub first_view : ℕ → View
 first_view limit = record {
@@ -30,7 +30,7 @@ first_view limit = record {
 abbrev pub spent : View
 spent = record { drawn = []; kept = []; under = []; known = []; told = false; share = 0; limit = 0; steps = 0 }
 
--- the seat after one more step, which told it nothing new
+-- the seat after one more step, which showed it nothing new
 abbrev pub stepped : View → View
 stepped v = record v { steps = v.steps + 1 }
 

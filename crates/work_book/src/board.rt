@@ -35,14 +35,14 @@ impl Board {
         Ok((board, first))
     }
 
-    /// A door for other programs: how many jobs there are.
+    /// How many jobs there are. For other programs.
     pub fn jobs(&self) -> u32
         ensures { result ≡ self.now.jobs }
     {
         self.jobs
     }
 
-    /// A door for other programs: how often each job is offered.
+    /// How many times each job is offered. For other programs.
     pub fn tries(&self) -> u32
         ensures { result ≡ self.now.tries }
     {
@@ -86,7 +86,7 @@ impl Board {
 
     /// The next number, by one atomic step, or `Nothing` where all are drawn.
     ///
-    /// A seat that was told `Nothing` is told so again without a step.
+    /// A seat that got `Nothing` gets it again without a step.
     pub fn draw(&self, seat: &mut WorkSeat) -> Draw
         requires board { IsOf self.now seat.old }
         ensures board { IsOf self.now seat.new }
@@ -143,7 +143,7 @@ impl Board {
         }
     }
 
-    /// A door for other programs, and what a law speaks of: what is left when no thread shares the board any more.
+    /// What is left when no thread shares the board any more. For other programs and for a law.
     pub fn close(self, seat: WorkSeat) -> Closed
         requires board { IsOf self seat }
         ensures size { (result.jobs ≡ self.jobs) × (result.tries ≡ self.tries) }
@@ -159,7 +159,7 @@ impl Board {
         Closed { words, jobs, tries }
     }
 
-    // The lease of a number.
+    /// The lease of a number.
     fn lease(&self, number: u64) -> Lease
         requires { number < self.now.jobs * self.now.tries }
         ensures { IsLease self.now result × (result.number ≡ number) }
@@ -174,8 +174,8 @@ impl Board {
 }
 
 impl WorkSeat {
-    /// A door for other programs: the seat's share of the board, at least 1. The first seat has 65,536, and each split
-    /// takes one.
+    /// The seat's share of the board, at least 1. The first seat has 65,536, and each split takes one. For other
+    /// programs.
     pub fn share(&self) -> u32
         ensures { result ≡ (seen_by self.now).share }
     {
@@ -201,7 +201,7 @@ impl Closed {
     }
 }
 
-// The words of a board before its first step.
+/// The words of a board before its first step.
 fn zeros(alloc: Global, count: usize) -> Result<Vec<u64>, AllocError>
     ensures { IfOk result (λ words. words.items ≡ replicate count 0) }
 {

@@ -1,4 +1,4 @@
-//! How many jobs there may be, and how often each is offered. Each limit is itself allowed.
+//! How many jobs there may be, and how many times each is offered. Each limit is itself allowed.
 
 ghost use Rattle.std.specs.Prelude.{◌≡◌};
 ghost use Rattle.work_book.specs.declared.limits.TheConstants as limit;

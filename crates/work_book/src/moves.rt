@@ -1,8 +1,8 @@
-//! The kinds of atomic step that a board takes, and what each tells its seat.
+//! The kinds of atomic step that a board takes, and what each shows its seat.
 use crate::rule::View;
 use atomic_table::{Join, Play, Split};
 
-// One share goes to a new seat.
+/// One share goes to a new seat.
 pub(crate) struct Cut;
 
 impl Split<View> for Cut {
@@ -13,7 +13,7 @@ impl Split<View> for Cut {
     ghost right = { split_off };
 }
 
-// One seat takes another in.
+/// One seat takes another in.
 pub(crate) struct Merge;
 
 impl Join<View> for Merge {
@@ -24,7 +24,7 @@ impl Join<View> for Merge {
     ghost spent = { spent };
 }
 
-// One more is added to the first word.
+/// One more is added to the first word.
 pub(crate) struct Drawing;
 
 impl Play<(), View> for Drawing {
@@ -33,7 +33,7 @@ impl Play<(), View> for Drawing {
     ghost then = { Draws };
 }
 
-// The first word is read, for what the rule says of any seat.
+/// The first word is read, for what the rule says of any seat.
 pub(crate) struct Showing;
 
 impl Play<(), View> for Showing {
@@ -42,7 +42,7 @@ impl Play<(), View> for Showing {
     ghost then = { Shows };
 }
 
-// The word of a job is read.
+/// The word of a job is read.
 pub(crate) struct Looking;
 
 impl Play<(), View> for Looking {
@@ -51,7 +51,7 @@ impl Play<(), View> for Looking {
     ghost then = { Looks };
 }
 
-// The word of a job is set where it is 0.
+/// The word of a job is set if it is 0.
 pub(crate) struct Settling;
 
 impl Play<(), View> for Settling {

@@ -9,7 +9,7 @@ pub struct Extent {
     pub tries: u32,
 }
 
-/// What a seat knows. It stands in contracts alone: no value of it is made.
+/// What a seat knows. Only contracts speak of it: no value of it exists at run time.
 pub struct View {
     /// The numbers that it drew.
     pub drawn: LinkedList<u64>,
@@ -19,13 +19,13 @@ pub struct View {
     pub under: LinkedList<u64>,
     /// The jobs that it knows to be settled.
     pub known: LinkedList<u32>,
-    /// Whether it was told that all numbers are drawn.
+    /// Whether a draw has answered that all numbers are drawn.
     pub told: bool,
     /// Its share of the board. A seat whose share is 0 is spent: another took it in.
     pub share: u32,
     /// Where the numbers of its board stop.
     pub limit: u64,
-    /// How many atomic steps it made, itself or by a seat that it took in.
+    /// How many atomic steps it took, itself or by a seat that it took in.
     pub steps: u64,
 }
 

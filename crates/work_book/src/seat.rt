@@ -26,6 +26,7 @@ impl Model for Seat {
 }
 
 impl Seat {
+    /// A seat that drew nothing.
     pub(crate) fn new(alloc: Global) -> Seat
         ensures { result ≡ new_seat }
     {
@@ -36,30 +37,35 @@ impl Seat {
         }
     }
 
+    /// The numbers that it drew, in order.
     pub(crate) fn drawn(&self) -> &[u64]
         ensures { result.now ≡ self.now.drawn }
     {
         &self.drawn
     }
 
+    /// The jobs that it kept, in order.
     pub(crate) fn kept(&self) -> &[u32]
         ensures { result.now ≡ self.now.kept }
     {
         &self.kept
     }
 
+    /// Whether it is lost.
     pub(crate) fn is_lost(&self) -> bool
         ensures { result ≡ self.now.lost }
     {
         self.lost
     }
 
+    /// Whether it drew a number.
     pub(crate) fn has_drawn(&self, number: u64) -> bool
         ensures { result ≡ has_drawn number self.now }
     {
         self.drawn.binary_search(&number).is_ok()
     }
 
+    /// Adds a number, greater than all before, to those that it drew.
     pub(crate) fn draw(&mut self, number: u64) -> Result<(), AllocError>
         requires { All (λ x. x < number) self.old.drawn }
         ensures ok { OnOk result (self.new ≡ with_drawn number self.old) }
@@ -69,6 +75,7 @@ impl Seat {
         Ok(())
     }
 
+    /// Adds a job to those that it kept.
     pub(crate) fn keep(&mut self, job: u32) -> Result<(), AllocError>
         ensures ok { OnOk result (self.new ≡ with_kept job self.old) }
         ensures err { OnErr result (self.new ≡ self.old) }
@@ -77,6 +84,7 @@ impl Seat {
         Ok(())
     }
 
+    /// Marks the seat as lost.
     pub(crate) fn lose(&mut self)
         ensures { self.new ≡ as_lost self.old }
     {

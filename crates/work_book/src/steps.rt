@@ -11,7 +11,7 @@ pub enum Step {
     Look(u32, u32),
     /// The seat settles the job of a number that it drew: seat and number.
     Settle(u32, u64),
-    /// The seat is lost and makes no further step.
+    /// The seat is lost and takes no further step.
     Loss(u32),
 }
 

@@ -44,6 +44,7 @@ module _ (decides : Decides) (was_told : WasTold) where
   any_fault s board workers start v e (inl h) = inl h
   any_fault s board workers start v e (inr h) = inr (record {
     worked = h.worked;
+    few = h.few;
     ended = λ k d below. any_worked board s _ (h.ended k d below);
     view_is = h.view_is;
     why = h.why;

@@ -7,10 +7,10 @@ use Rattle.std.proofs.lemmas.Option.{get_or_from_slice_get, slice_get-get_or, sl
 use Rattle.std.proofs.lemmas.List.FromFn.{get_or-range_with_len, length-map-range_with_len, length-range_with_len}
 use Rattle.timetable.specs.declared.trips.StopNo.{StopNo}
 use Rattle.timetable.specs.Networks.{Net}
-use Rattle.rounds.specs.Table.{Times}
-use Rattle.rounds.proofs.Unique.{durations_unique}
+use Rattle.rounds.specs.Table.{DurationTable}
+use Rattle.rounds.proofs.DurationsUnique.{durations_unique}
 use Rattle.shares.specs.Opportunities.{access_of}
-use Rattle.shares.proofs.Unique.{cells_unique}
+use Rattle.shares.proofs.CellsUnique.{cells_unique}
 use Rattle.collector.specs.Row.{CellsData, RowData}
 use Rattle.collector.proofs.Divide.{scenario_below, origin_below, joined}
 use Rattle.workers.specs.Study.{Query, StudyData}
@@ -37,7 +37,7 @@ at_all_stops n xs long =
     get_or-map (λ (s : StopNo). get_or xs s.0 None) (all_stops n) k (stop_no 0) None (omega (arith, low, count))
     ∙ ap (λ (s : StopNo). get_or xs s.0 None) here)
 
-module _ (n : Net) (times : Times) (stops : times.stops
+module _ (n : Net) (times : DurationTable) (stops : times.stops
     ≡ n.stops) (opportunities limits : List ℕ) (destinations : List StopNo) where
   of_share : (share : ℕ) (whole some : CellsData) → IsOfShare times opportunities limits (all_stops n) share whole
       → IsOfShare times opportunities limits destinations share some → some ≡ with_columns destinations whole
@@ -71,7 +71,8 @@ rows_columns n origin opportunities q destinations whole some all h g =
     in
     of_shares n h.times h.durations.stops opportunities q.limits destinations q.shares whole some
     (subst (λ (d : List StopNo). AllZip (IsOfShare h.times opportunities q.limits d) q.shares whole) all h.shares_are)
-    (subst (λ (t : Times). AllZip (IsOfShare t opportunities q.limits destinations) q.shares some) times g.shares_are)
+    (subst (λ (t : DurationTable). AllZip (IsOfShare t opportunities q.limits destinations) q.shares some) times
+    g.shares_are)
 
 inner : {A : Type 0} (x y : A) → Some x ≡ Some y → x ≡ y
 inner x y e = cc

@@ -1,16 +1,16 @@
 pub mod Shares
-pub mod Wide
-pub mod Seat
-pub mod Knows
+pub mod WholeRows
+pub mod SeatSteps
+pub mod KnowledgeGrows
 mod NextJob
-pub mod Filled
+pub mod FullPlaces
 pub mod Unique
-pub mod Times
-pub mod Holds
-pub mod Joined
-pub mod Fills
-pub mod Ended
+pub mod JobCounts
+pub mod HeldRowsGrow
+pub mod OneMoreOfAll
+pub mod OffersFill
+pub mod RunEnds
 pub mod Wholes
 pub mod Columns
-pub mod Doing
+pub mod DoneAsDecided
 pub mod AnyGate

@@ -17,10 +17,10 @@ use Rattle.collector.specs.Offers.{belongs, has_all_cells, is_open, after_offer}
 use Rattle.collector.proofs.Divide.{scenario_below, origin_below, joined}
 use Rattle.collector.proofs.Placed.{none_at}
 use Rattle.workers.specs.Study.{StudyData, StudyFits}
-use Rattle.workers.specs.Jobs.{jobs_of, IsRowOfJob, DoesJob, HasNoJob, places_without_rows, ArePlaces, AreFilledBelow}
-use Rattle.workers.specs.Jobs.{IsUnderWay, AreFilled}
-use Rattle.workers.proofs.Wide.{is_whole_row}
-use Rattle.workers.proofs.Seat.{drew, leased, none_left, settled, keeps}
+use Rattle.workers.specs.Jobs.{jobs_of, IsRowOfJob, places_without_rows, ArePlaces, AreFilled, AreFilledBelow}
+use Rattle.workers.specs.Plain.{DoesJob, HasNoJob, IsUnderWay}
+use Rattle.workers.proofs.WholeRows.{is_whole_row}
+use Rattle.workers.proofs.SeatSteps.{drew, leased, none_left, settled, keeps}
 
 lt_true : (a b : ℕ) → a < b → nat_lt a b ≡ true
 lt_true a b h = grind (arith, nat_tests)

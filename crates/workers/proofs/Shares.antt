@@ -6,9 +6,9 @@ use Rattle.std.proofs.Math.Seq.{take-suc}
 use Rattle.std.proofs.lemmas.List.{ext_get_or, get_or-map, length-map, map-append}
 use Rattle.std.proofs.lemmas.Option.{slice_get-get_or}
 use Rattle.timetable.specs.declared.trips.StopNo.{StopNo}
-use Rattle.rounds.specs.Table.{Times}
+use Rattle.rounds.specs.Table.{DurationTable}
 use Rattle.shares.specs.Percentiles.{AreCells, AreCellsAt}
-use Rattle.shares.proofs.Unique.{cell_unique}
+use Rattle.shares.proofs.CellsUnique.{cell_unique}
 use Rattle.collector.specs.Row.{CellsData}
 use Rattle.workers.specs.Study.{StudyData}
 use Rattle.workers.specs.Rows.{at_stops, AreDurationsOf, AreOfShares, IsRowOf}
@@ -53,7 +53,7 @@ pushed_at (z ∷ xs) x y (suc j) h = elim (pushed_at xs x y j h) [
 ]
 
 -- the cells of the destinations are those that all stops have there
-pub at_all : (times : Times) (ds : List StopNo) (share : ℕ) (cells all : List (Option ℕ)) →
+pub at_all : (times : DurationTable) (ds : List StopNo) (share : ℕ) (cells all : List (Option ℕ)) →
     All (λ (d : StopNo). d.0 < times.stops) ds → AreCellsAt times ds share cells
     → AreCells times share all → cells ≡ at_stops ds all
 at_all times ds share cells all there are are_all =
@@ -75,7 +75,7 @@ mapped_next f xs k low =
     ∙ map-append f (take k xs) (get_or xs k 0 ∷ [])
 
 -- what each share gives makes the row of a scenario and an origin
-pub row_is : (s : StudyData) (scenario origin : ℕ) (times : Times) (shares : List CellsData) →
+pub row_is : (s : StudyData) (scenario origin : ℕ) (times : DurationTable) (shares : List CellsData) →
     AreDurationsOf s scenario origin times → AreOfShares times s shares
     → IsRowOf s scenario origin (record { study = s.number; scenario = scenario; origin = origin; shares = shares })
 row_is s scenario origin times shares of given = record {

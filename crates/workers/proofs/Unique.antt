@@ -6,16 +6,16 @@ use Rattle.std.proofs.lemmas.List.{same_lists}
 use Rattle.std.proofs.lemmas.Option.{slice_get-get_or}
 use Rattle.timetable.specs.declared.trips.StopNo.{StopNo}
 use Rattle.timetable.specs.Networks.{Net}
-use Rattle.rounds.specs.Table.{Times}
-use Rattle.rounds.proofs.Unique.{durations_unique}
-use Rattle.shares.proofs.Unique.{cells_unique}
+use Rattle.rounds.specs.Table.{DurationTable}
+use Rattle.rounds.proofs.DurationsUnique.{durations_unique}
+use Rattle.shares.proofs.CellsUnique.{cells_unique}
 use Rattle.collector.specs.Row.{CellsData, RowData}
 use Rattle.collector.proofs.Divide.{scenario_below, origin_below, joined}
 use Rattle.workers.specs.Study.{Query, StudyData}
 use Rattle.workers.specs.Rows.{at_stops, sums_of, IsOfShare, IsRow, IsRowOf}
 use Rattle.workers.specs.Laws.{RowsAreUnique, RowsDependOnTheirNetwork, MatricesAreUnique}
 
-module _ (times : Times) (opportunities limits : List ℕ) (destinations : List StopNo) where
+module _ (times : DurationTable) (opportunities limits : List ℕ) (destinations : List StopNo) where
   -- what a share gives is unique
   share_unique : (share : ℕ) (some other : CellsData) → IsOfShare times opportunities limits destinations share some →
       IsOfShare times opportunities limits destinations share other → some ≡ other
@@ -44,7 +44,7 @@ row_unique n origin opportunities q some other h g =
     let times : g.times ≡ h.times = durations_unique n origin q.window q.rides g.times h.times g.durations h.durations
     in
     shares_unique h.times opportunities q.limits q.destinations q.shares some other h.shares_are
-    (subst (λ (t : Times). AllZip (IsOfShare t opportunities q.limits q.destinations) q.shares other) times
+    (subst (λ (t : DurationTable). AllZip (IsOfShare t opportunities q.limits q.destinations) q.shares other) times
     g.shares_are)
 
 inner : {A : Type 0} (x y : A) → Some x ≡ Some y → x ≡ y

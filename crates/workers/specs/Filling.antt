@@ -4,12 +4,12 @@ use Rattle.collector.specs.Row.{RowData}
 use Rattle.collector.specs.Places.{PlacesData, row_at}
 use Rattle.workers.specs.Study.{StudyData}
 use Rattle.workers.specs.Jobs.{jobs_of, IsRowOfJob, ArePlaces}
-use Rattle.workers.specs.Held.{times}
+use Rattle.workers.specs.Held.{count_in}
 
 -- a place has the row of its job, which was kept, or it is empty, and its job wasn't
 abbrev pub IsFilledAs : StudyData → List ℕ → ℕ → Option RowData → Type 0
-IsFilledAs s kept job None = times job kept ≡ 0
-IsFilledAs s kept job (Some row) = IsRowOfJob s job row × (0 < times job kept)
+IsFilledAs s kept job None = count_in job kept ≡ 0
+IsFilledAs s kept job (Some row) = IsRowOfJob s job row × (0 < count_in job kept)
 
 -- the places of a study have the rows of the jobs that were kept, and no others
 pub record AreFilledAs (s : StudyData) (kept : List ℕ) (places : PlacesData) : Type 0 where

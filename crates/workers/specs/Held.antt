@@ -21,13 +21,13 @@ use Rattle.workers.specs.declared.worker.Next.TheVariants as next
 use Rattle.workers.specs.declared.worker.Worked.{Worked}
 
 -- how often a job stands in a list
-abbrev pub times : ℕ → List ℕ → ℕ
-times job jobs = count_by (λ x. x == job) jobs
+abbrev pub count_in : ℕ → List ℕ → ℕ
+count_in job jobs = count_by (λ x. x == job) jobs
 
 -- what stands in one of two lists stands in the other
 abbrev pub HaveSameJobs : List ℕ → List ℕ → Type 0
-HaveSameJobs some other = (job : ℕ) → (0 < times job some → 0 < times job other)
-    × (0 < times job other → 0 < times job some)
+HaveSameJobs some other = (job : ℕ) → (0 < count_in job some → 0 < count_in job other)
+    × (0 < count_in job other → 0 < count_in job some)
 
 -- the job of a row, by its scenario and origin
 abbrev pub job_of_row : StudyData → RowData → ℕ

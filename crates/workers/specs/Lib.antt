@@ -2,6 +2,7 @@ pub mod Study
 pub mod Rows
 pub mod Matrices
 pub mod Jobs
+pub mod Plain
 pub mod Held
 pub mod Threads
 pub mod Filling

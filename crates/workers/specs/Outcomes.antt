@@ -1,5 +1,5 @@
 -- What a run of workers ends with, by what its seat kept and why its workers ended.
-use Rattle.std.specs.Prelude.{◌≡◌, ◌⊎◌, ◌+◌, ◌-◌, ◌*◌, ◌<◌, ℕ, Bool, false, true, List, [], ◌∷◌, length}
+use Rattle.std.specs.Prelude.{◌≡◌, ◌⊎◌, ◌+◌, ◌-◌, ◌*◌, ◌<◌, ◌≤◌, ℕ, Bool, false, true, List, [], ◌∷◌, length, ⊤}
 use Rattle.std.specs.List.{list_any}
 use Rattle.work_book.specs.Board.{seen_by}
 use Rattle.work_book.specs.Laws.{kept_in}
@@ -53,11 +53,23 @@ IsWhy s v worked Spawn = (0 < jobs_of s) × (worked ≡ [])
 IsWhy s v worked (Unfinished scenario origin) =
     (0 < length worked) × (is_some_short worked ≡ false) × IsFirstUnkept s v scenario origin
 
--- so many seats were split off for workers; each of those that were started ended as it promised, the seat took in
--- theirs, and that is why there is no matrix
+-- so many seats were split off, by a step each, and no share is missing but theirs
+pub record HasSplit (workers : ℕ) (start v : View) : Type 0 where
+  pub steps : start.steps + workers ≤ v.steps
+  pub share : start.share ≤ v.share + workers
+
+-- a place that a fault names is the first one whose job the seat didn't keep
+abbrev pub NamesFirst : StudyData → View → RunFault → Type 0
+NamesFirst s v Memory = ⊤
+NamesFirst s v Spawn = ⊤
+NamesFirst s v (Unfinished scenario origin) = IsFirstUnkept s v scenario origin
+
+-- so many seats were split off for workers, no more workers than these were started, each of them ended as it promised,
+-- the seat took in theirs, and that is why there is no matrix
 pub record IsLeft (s : StudyData) (decides : Decides) (was_told : WasTold) (board : Board) (workers : ℕ)
     (start v : View) (fault : RunFault) : Type 0 where
   pub worked : List Worked
+  pub few : length worked ≤ workers
   pub ended : AreWorked board s decides was_told worked
   pub view_is : v ≡ joined (without workers start) worked
   pub why : IsWhy s v worked fault

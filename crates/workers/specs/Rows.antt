@@ -5,7 +5,7 @@ use Rattle.std.specs.Prelude.{◌≡◌, ℕ, List, Option, Some, None, map, sli
 use Rattle.std.specs.List.{AllZip}
 use Rattle.timetable.specs.declared.trips.StopNo.{StopNo}
 use Rattle.timetable.specs.Networks.{Net}
-use Rattle.rounds.specs.Table.{Times}
+use Rattle.rounds.specs.Table.{DurationTable}
 use Rattle.rounds.specs.Window.{AreDurations}
 use Rattle.shares.specs.Percentiles.{AreCells}
 use Rattle.shares.specs.Opportunities.{access_of}
@@ -13,7 +13,7 @@ use Rattle.collector.specs.Row.{CellsData, RowData}
 use Rattle.workers.specs.Study.{Query, StudyData}
 
 -- the durations from a study's origin over the network of its scenario, both by their positions
-pub record AreDurationsOf (s : StudyData) (scenario origin : ℕ) (times : Times) : Type 0 where
+pub record AreDurationsOf (s : StudyData) (scenario origin : ℕ) (times : DurationTable) : Type 0 where
   pub network : Net
   pub stop : StopNo
   pub network_is : slice_get s.networks scenario ≡ Some network
@@ -29,7 +29,7 @@ abbrev pub at_stops : List StopNo → List (Option ℕ) → List (Option ℕ)
 at_stops stops cells = map (λ (stop : StopNo). slice_index_or cells stop.0 None) stops
 
 -- what a share gives, by the cells of all stops: those of the destinations, and the access of all
-pub record IsOfShare (times : Times) (opportunities limits : List ℕ) (destinations : List StopNo) (share : ℕ)
+pub record IsOfShare (times : DurationTable) (opportunities limits : List ℕ) (destinations : List StopNo) (share : ℕ)
     (given : CellsData) : Type 0 where
   pub all : List (Option ℕ)
   pub all_are : AreCells times share all
@@ -37,18 +37,18 @@ pub record IsOfShare (times : Times) (opportunities limits : List ℕ) (destinat
   pub access_is : given.access ≡ sums_of all opportunities limits
 
 -- the access sums of a share, whichever list of all stops' cells they are taken of
-abbrev pub AreSums : Times → ℕ → List ℕ → List ℕ → List ℕ → Type 0
+abbrev pub AreSums : DurationTable → ℕ → List ℕ → List ℕ → List ℕ → Type 0
 AreSums times share opportunities limits sums = (all : List (Option ℕ)) → AreCells times share all →
     sums ≡ sums_of all opportunities limits
 
 -- what a network gives for an origin, share by share: it takes no more than these, and no other scenario
 pub record IsRow (n : Net) (origin : ℕ) (opportunities : List ℕ) (q : Query) (shares : List CellsData) : Type 0 where
-  pub times : Times
+  pub times : DurationTable
   pub durations : AreDurations n origin q.window q.rides times
   pub shares_are : AllZip (IsOfShare times opportunities q.limits q.destinations) q.shares shares
 
 -- what each share gives of a study's durations
-abbrev pub AreOfShares : Times → StudyData → List CellsData → Type 0
+abbrev pub AreOfShares : DurationTable → StudyData → List CellsData → Type 0
 AreOfShares times s given = AllZip (IsOfShare times s.opportunities s.query.limits s.query.destinations) s.query.shares
     given
 

@@ -14,7 +14,7 @@ ghost use Rattle.workers.specs.Laws.{
 
 use crate::faults::RunFault;
 use crate::gates::Gate;
-use crate::jobs::one_thread;
+use crate::plain::one_thread;
 use crate::run::run_workers;
 use crate::study::Study;
 use collector::Matrix;

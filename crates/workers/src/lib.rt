@@ -2,7 +2,7 @@
 //! rows. A study asks for one row per scenario and origin; each row depends on its own scenario's network alone.
 //!
 //! - `study`: [`Study`], what is asked for, and the limits within which it fits.
-//! - `rows`: the row of one scenario and origin.
+//! - `rows`: the row of one scenario and origin; `jobs`: one job for each.
 //! - `run`: [`run_workers`], the matrix, by workers in threads of their own that share a board of jobs.
 //! - `worker`, `task`, `threads`: what one worker does, what it promises of its rows, and how workers start and end.
 //! - `gates`: [`Gate`], which decides what becomes of a worker's lease, and [`Open`], which lets each be worked at.
@@ -10,7 +10,7 @@
 //!
 //! Not on the program's way:
 //!
-//! - `jobs`: [`one_thread`], the matrix, row after row: the plain form of `run`.
+//! - `plain`: [`one_thread`], the matrix, row after row: the plain form of [`run_workers`], with the same matrix.
 //! - [`row_of`], [`Study::fits`], [`shares_fit`] and [`limits_fit`]: doors for other programs.
 //! - `laws`: what follows for rows and matrices, as that a study has one matrix.
 //!
@@ -22,6 +22,7 @@ mod faults;
 mod gates;
 mod jobs;
 mod laws;
+mod plain;
 mod rows;
 mod run;
 mod study;
@@ -31,11 +32,11 @@ mod worker;
 
 pub use faults::RunFault;
 pub use gates::{Gate, Open, Verdict};
-pub use jobs::one_thread;
 pub use laws::{
     matrices_are_unique, rows_are_unique, rows_depend_on_their_network, rows_have_their_columns,
     wholes_have_the_rows_of_their_parts, workers_give_the_matrix_of_one_thread,
 };
+pub use plain::one_thread;
 pub use rows::row_of;
 pub use run::run_workers;
 pub use study::{

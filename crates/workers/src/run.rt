@@ -1,18 +1,19 @@
 //! A run of workers over a board, from the first seat to the matrix.
-ghost use Rattle.std.specs.Prelude.{◌≡◌, ◌<◌, ◌||◌, List, [], true, All, IfOk, IfErr, vec_len, length, nat_lt};
+ghost use Rattle.std.specs.Prelude.{◌≡◌, ◌<◌, ◌||◌, ◌⊎◌, List, [], true, All, IfOk, IfErr, vec_len, length, nat_lt};
 ghost use Rattle.work_book.specs.declared.rule.View.{View};
 ghost use Rattle.workers.specs.declared.worker.Worked.{Worked};
 ghost use Rattle.work_book.specs.Board.{seen_by, IsOf};
 ghost use Rattle.work_book.specs.Moves.{IsOnce};
 ghost use Rattle.collector.specs.Offers.{IsFinished};
-ghost use Rattle.collector.specs.Run.{offered};
+ghost use Rattle.collector.specs.Offers.{offered};
 ghost use Rattle.workers.specs.Study.{StudyData, study_of, StudyFits};
 ghost use Rattle.workers.specs.Matrices.{IsMatrix, HasShape};
 ghost use Rattle.workers.specs.Jobs.{jobs_of};
 ghost use Rattle.workers.specs.Held.{AreTold, HoldsRows};
 ghost use Rattle.workers.specs.Threads.{AreReady};
 ghost use Rattle.workers.specs.Filling.{AreFilledAs};
-ghost use Rattle.workers.specs.Outcomes.{KeptEachJob, IsFaultOf, IsWhy, is_short, is_some_short, joined, without};
+ghost use Rattle.workers.specs.Outcomes.{HasSplit, KeptEachJob, IsFaultOf, IsWhy, NamesFirst};
+ghost use Rattle.workers.specs.Outcomes.{is_short, is_some_short, joined, without};
 
 use crate::faults::RunFault;
 use crate::gates::Gate;
@@ -35,7 +36,7 @@ use work_book::{Board, WorkSeat};
 ///
 /// `Spawn` is told where no worker could be started, and a place is empty; `Memory`, where memory ran out before the
 /// start, or for a worker, and a place is empty; else `Unfinished` names the first empty place. A worker whose start is
-/// refused is left out, and the others go on.
+/// refused is left out, and the others go on; its seat drew nothing, and its share is lost.
 pub fn run_workers<G: Gate + Sync, R: Threads + Wait + Sync>(
     rt: &R,
     alloc: Global,
@@ -55,6 +56,10 @@ pub fn run_workers<G: Gate + Sync, R: Threads + Wait + Sync>(
     ensures shape { IfOk result (λ matrix. HasShape (study_of study.now) matrix) }
     ensures kept { IfOk result (λ _. KeptEachJob (study_of study.now) (seen_by seat.new)) }
     ensures told { AreTold (G.was_told gate.now) (seen_by seat.new).kept }
+    ensures split { IfOk result (λ _. HasSplit workers (seen_by seat.old) (seen_by seat.new)) }
+    ensures split_fault { IfErr result (λ fault. (fault ≡ RunFault.Memory)
+        ⊎ HasSplit workers (seen_by seat.old) (seen_by seat.new)) }
+    ensures place { IfErr result (λ fault. NamesFirst (study_of study.now) (seen_by seat.new) fault) }
     ensures fault { IfErr result (λ fault.
         IsFaultOf (study_of study.now) (G.decides gate.now) (G.was_told gate.now) board.now workers (seen_by seat.old)
         (seen_by seat.new) fault) }

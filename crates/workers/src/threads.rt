@@ -17,14 +17,16 @@ pub(crate) fn do_all<T: Task + Sync, R: Threads + Wait + Sync>(
     seats: Vec<WorkSeat>,
 ) -> Result<Vec<Worked>, AllocError>
     requires { All (λ seat. T.takes task.now seat) seats.items }
-    ensures { IfOk result (λ all. All (λ worked. T.gives task.now worked) all.items) }
+    ensures given { IfOk result (λ all. All (λ worked. T.gives task.now worked) all.items) }
+    ensures few { IfOk result (λ all. vec_len all ≤ vec_len seats) }
 {
     thread::scope(
         thread::scope_env(),
         rt,
         move |scope| -> Result<Vec<Worked>, AllocError>
             requires { All (λ seat. T.takes task.now seat) seats.items }
-            ensures { IfOk result (λ all. All (λ worked. T.gives task.entry.now worked) all.items) }
+            ensures given { IfOk result (λ all. All (λ worked. T.gives task.entry.now worked) all.items) }
+            ensures few { IfOk result (λ all. vec_len all ≤ vec_len seats) }
         {
             let done = Vec::with_capacity(alloc, seats.len())?;
             let handles = start_all(scope, alloc, task, seats)?;

@@ -145,7 +145,10 @@ fn next_of(done: Result<(), AllocError>) -> Next
     }
 }
 
-/// What the gate decides of a lease. It is asked only where the seat doesn't know the job to be settled.
+/// What the gate decides of a lease.
+///
+/// A method of the trait can't name the seat, so the condition that the seat doesn't know the job to be settled is this
+/// call's.
 fn ask<G: Gate>(gate: &G, _seat: &WorkSeat, lease: &Lease) -> Verdict
     requires open { knows (seen_by _seat.now) lease.now.job ≡ false }
     ensures { G.decides gate.now lease.now result }

@@ -30,12 +30,12 @@ class Answer:
     body: bytes  # the matrix at status 0, else the error line
 
 
-def block_of(words: Sequence[str]) -> bytes:
+def block_of(arguments: Sequence[str]) -> bytes:
     """The bytes of a question. A word with a line end, or an empty one, has no place in it."""
-    for word in words:
+    for word in arguments:
         if not word or "\n" in word:
             raise WrongWords(f"a question has no word {word!r}")
-    return b"".join(os.fsencode(word) + b"\n" for word in words) + b"\n"
+    return b"".join(os.fsencode(word) + b"\n" for word in arguments) + b"\n"
 
 
 class Conversation:
@@ -43,11 +43,11 @@ class Conversation:
     then it is of no more use.
     """
 
-    def __init__(self, words: Sequence[str]) -> None:
+    def __init__(self, arguments: Sequence[str]) -> None:
         self.owner = os.getpid()
         pipe = subprocess.PIPE
         # a session of its own, so that Ctrl-C reaches this process alone, which decides what becomes of the question
-        self.process = subprocess.Popen(words, stdin=pipe, stdout=pipe, stderr=pipe, start_new_session=True)
+        self.process = subprocess.Popen(arguments, stdin=pipe, stdout=pipe, stderr=pipe, start_new_session=True)
         self.lines: deque[bytes] = deque(maxlen=LAST_LINES)
         self.listener = threading.Thread(target=listen, args=(self.process.stderr, self.lines), daemon=True)
         self.listener.start()
@@ -57,9 +57,9 @@ class Conversation:
         """Whether this process of Python may ask it: a fork of the one that began it may not."""
         return self.owner == os.getpid() and self.process.returncode is None
 
-    def ask(self, words: Sequence[str]) -> Answer:
+    def ask(self, arguments: Sequence[str]) -> Answer:
         """Asks a question and waits for its answer."""
-        block = block_of(words)
+        block = block_of(arguments)
         try:
             return self.answer(block)
         except BaseException:
@@ -67,11 +67,11 @@ class Conversation:
             raise
 
     def answer(self, block: bytes) -> Answer:
-        asked, answered = self.process.stdin, self.process.stdout
-        assert asked is not None and answered is not None
+        pipe, answered = self.process.stdin, self.process.stdout
+        assert pipe is not None and answered is not None
         try:
-            asked.write(block)
-            asked.flush()
+            pipe.write(block)
+            pipe.flush()
             head = answered.readline(LONGEST_HEAD)
         except (OSError, ValueError):  # the pipe is broken, or closed by another thread
             raise self.fault() from None
@@ -87,11 +87,11 @@ class Conversation:
     def fault(self) -> EngineFault:
         """Why the process ended, by its last lines."""
         status = self.end(SECONDS_TO_END)
-        told = b"\n".join(self.lines)
+        text = b"\n".join(self.lines)
         if status >= 0:
-            return EngineFault("\n".join(refusal_of(told, status)), status)
+            return EngineFault("\n".join(refusal_of(text, status)), status)
         name = signal.Signals(-status).name
-        last = refusal_of(told, status)[0] if told else "it said nothing"
+        last = refusal_of(text, status)[0] if text else "it said nothing"
         return EngineFault(f"ttm: ended by {name}, its last line: {last.removeprefix('ttm: ')}", 128 - status)
 
     def end(self, seconds: float) -> int:

@@ -19,7 +19,7 @@ def day_of(text: str | datetime.date) -> datetime.date:
 def as_ttm_reads(day: str | datetime.date) -> str:
     """A day as `ttm` reads it; a text that names none stays as it is, so that `ttm` refuses it."""
     try:
-        made = day_of(day)
-        return f"{made.year:04}{made.month:02}{made.day:02}"
+        read = day_of(day)
+        return f"{read.year:04}{read.month:02}{read.day:02}"
     except ValueError:
         return str(day)

@@ -7,7 +7,7 @@ import shutil
 import subprocess
 import sysconfig
 import warnings
-from dataclasses import dataclass, field
+from dataclasses import dataclass, field, replace
 from pathlib import Path
 from typing import Any, Iterable, Mapping, Sequence
 
@@ -17,7 +17,7 @@ from .dates import as_ttm_reads
 from .faults import BadInput, Lacking, WrongWords
 from .files import output, scratch
 from .matrices import BASE, TODAY, Matrix, Seconds, Sums, open_matrix
-from .plans.nearness import told_nearer
+from .plans.nearness import sentences_on_nearer
 from .records import Rounded, write_rows
 
 FAULT = re.compile(r"ttm: (?:(?P<file>.+?): )?(?:record (?P<record>[0-9]+): )?(?P<what>[^:]*)")
@@ -26,7 +26,7 @@ INSTALLED = Path(sysconfig.get_path("scripts")) / "ttm"  # where pip puts the wh
 EXPLAINED = re.compile(
     r'ttm: (?:column (?P<column>\S+)|(?P<option>--[a-z]+)) is "(?P<value>.*)"; (?P<allowed>.*)', re.DOTALL
 )
-# what a report tells ahead of a refusal: a fact by its number or its dates, a warning, or a question that is answered
+# what a report says ahead of a refusal: a fact by its number or its dates, a warning, or a question that is answered
 AHEAD = re.compile(
     r"ttm: (?:warning: .*|question(?: [0-9]+)?: .*|(?!scenario name: )[^:\"]+(?:: [^:\"]+)?: [0-9].*"
     r"|[^:]+ calendars: none|nearest date [^:]+: none.*)"
@@ -36,12 +36,12 @@ Pathlike = str | os.PathLike[str]
 
 
 class EngineFault(BadInput):
-    """What `ttm` told where it ended without a matrix: `line` is its refusal, `explanation` the lines behind it,
+    """What `ttm` printed where it ended without a matrix: `line` is its refusal, `explanation` the lines behind it,
     `ended` its exit status; file, record, column or option, value, and what is allowed as far as it says them.
     """
 
-    def __init__(self, told: str, ended: int) -> None:
-        lines = [line for line in told.split("\n") if line] or [told]
+    def __init__(self, message: str, ended: int) -> None:
+        lines = [line for line in message.split("\n") if line] or [message]
         self.line, self.explanation, self.ended = lines[0], lines[1:], ended
         found, more = FAULT.fullmatch(self.line), EXPLAINED.fullmatch(lines[1]) if len(lines) > 1 else None
         record = found["record"] if found else None
@@ -60,9 +60,9 @@ class EngineFault(BadInput):
         return self.column if self.column and self.column.startswith("--") else None
 
 
-def refusal_of(told: bytes, status: int) -> list[str]:
-    """The line that tells why a run ended, and those that explain it, behind those of its report."""
-    lines = [line for line in told.decode("utf-8", "replace").splitlines() if line]
+def refusal_of(errors: bytes, status: int) -> list[str]:
+    """The line that says why a run ended, and those that explain it, behind those of its report."""
+    lines = [line for line in errors.decode("utf-8", "replace").splitlines() if line]
     if not lines:
         return [f"ttm ended with status {status} and said nothing"]
     ahead = max((place for place, line in enumerate(lines, 1) if AHEAD.fullmatch(line)), default=0)
@@ -86,21 +86,22 @@ class Run:
     back: int = 1  # service days before the date, 0 to 6
     ahead: int = 1  # and after it
     files: Mapping[str, Pathlike] = field(default_factory=dict)  # origins, opportunities, destinations, footpaths
+    program: Pathlike | None = None  # without one that of `program_at`
 
-    def words(self) -> list[str]:
+    def command(self) -> list[str]:
+        """The program and its arguments."""
+        return [program_at(self.program), *self.arguments()]
+
+    def arguments(self) -> list[str]:
         """The arguments, without the program."""
         numbers = {"trips": self.trips, "walk": self.walk, "workers": self.workers, "tries": self.tries}
         lists = {"share": ",".join(map(str, self.shares)), "within": ",".join(map(str, self.limits))}
-        named: dict[str, object] = {
-            "feed": self.feed,
-            "date": as_ttm_reads(self.date),
-            "from": self.window[0],
-            "to": self.window[1],
-        }
+        first, last = self.window
+        named: dict[str, object] = {"feed": self.feed, "date": as_ttm_reads(self.date), "from": first, "to": last}
         days = {"back": self.back, "ahead": self.ahead}
         every = {**named, **numbers, **lists, **days, **self.files}
-        words = [word for name, value in every.items() for word in (f"--{name}", str(value))]
-        return words + [str(path) for path in self.scenarios]
+        arguments = [word for name, value in every.items() for word in (f"--{name}", str(value))]
+        return arguments + [str(path) for path in self.scenarios]
 
 
 def program_at(path: Pathlike | None) -> str:
@@ -118,23 +119,23 @@ def program_at(path: Pathlike | None) -> str:
     return str(named)
 
 
-def run(asked: Run, out: Pathlike, program: Pathlike | None = None) -> None:
+def run(task: Run, out: Pathlike, program: Pathlike | None = None) -> None:
     """Runs `ttm`; the matrix gets its name when it is whole, and a fault leaves none. The report is asked for, as it
     explains a refusal. A warning says where walks to a plan's new stops bring old stops nearer.
     """
     with output(str(out)) as file:
-        words = [program_at(program), *asked.words(), "--report"]
-        ran = subprocess.run(words, stdout=file, stderr=subprocess.PIPE)
+        arguments = [*replace(task, program=program or task.program).command(), "--report"]
+        ran = subprocess.run(arguments, stdout=file, stderr=subprocess.PIPE)
         if ran.returncode != 0:
             raise EngineFault("\n".join(refusal_of(ran.stderr, ran.returncode)), ran.returncode)
-    for line in nearer_by_plan(asked):
+    for line in nearer_by_plan(task):
         warnings.warn(line, stacklevel=2)
 
 
-def nearer_by_plan(asked: Run) -> list[str]:
+def nearer_by_plan(task: Run) -> list[str]:
     """A sentence where walks to a plan's new stops bring old stops nearer, so that today isn't the feed as it was."""
-    footpaths = asked.files.get("footpaths")
-    return [] if footpaths is None else list(told_nearer(str(asked.feed), str(footpaths), asked.walk))
+    footpaths = task.files.get("footpaths")
+    return [] if footpaths is None else list(sentences_on_nearer(str(task.feed), str(footpaths), task.walk))
 
 
 @dataclass(frozen=True)
@@ -195,9 +196,8 @@ def result_of(matrix: Matrix, rounded: int) -> Result:
     keys = [(scenario, share) for scenario in matrix.scenarios for share in matrix.shares if share is not None]
     origins = matrix.origins(*keys[0])
     seconds = {key: matrix.rows(*key, 0, len(origins)) for key in keys}
-    shares, limits = [share for share in matrix.shares if share is not None], [
-        limit or 0 for limit in matrix.layout.limits
-    ]
+    shares = [share for share in matrix.shares if share is not None]
+    limits = [limit or 0 for limit in matrix.layout.limits]
     sums = {key: matrix.access(*key) for key in keys}
     return Result(matrix.scenarios, shares, limits, origins, matrix.stops, seconds, sums, rounded)
 
@@ -216,11 +216,6 @@ def stops_file(folder: Path, name: str, stops: Pathlike | Sequence[str]) -> Path
     return written(folder, name, ["stop_id"], [[stop] for stop in stops])
 
 
-def origins_file(folder: Path, origins: Pathlike | Sequence[str]) -> Pathlike:
-    """A file of origins as it is, or one of these stops."""
-    return stops_file(folder, "origins.csv", origins)
-
-
 def opportunities_file(folder: Path, given: Pathlike | Mapping[str, float], rounded: Rounded) -> Pathlike:
     """A file of opportunities as it is, or one of these numbers, each rounded to the nearest whole one."""
     if isinstance(given, (str, os.PathLike)):
@@ -231,6 +226,29 @@ def opportunities_file(folder: Path, given: Pathlike | Mapping[str, float], roun
         for number, (stop, count) in enumerate(given.items(), 2)
     ]
     return written(folder, "opportunities.csv", header, rows)
+
+
+def origins_file(folder: Path, origins: Pathlike | Sequence[str]) -> Pathlike:
+    """A file of origins as it is, or one of these stops."""
+    return stops_file(folder, "origins.csv", origins)
+
+
+def question_files(
+    folder: Path,
+    origins: Pathlike | Sequence[str] | None,
+    opportunities: Pathlike | Mapping[str, float] | None,
+    destinations: Pathlike | Sequence[str] | None,
+    rounded: Rounded,
+) -> dict[str, Pathlike]:
+    """The files of a question by the names of their options."""
+    files = dict[str, Pathlike]()
+    if origins is not None:
+        files["origins"] = origins_file(folder, origins)
+    if opportunities is not None:
+        files["opportunities"] = opportunities_file(folder, opportunities, rounded)
+    if destinations is not None:
+        files["destinations"] = stops_file(folder, "destinations.csv", destinations)
+    return files
 
 
 def footpaths_file(folder: Path, given: Pathlike | Iterable[tuple[str, str, float]], rounded: Rounded) -> Pathlike:
@@ -273,17 +291,10 @@ def matrix(
     raised as `EngineFault`, with file and record.
     """
     rounded = Rounded()
-    files = dict[str, Pathlike]()
     with scratch("matrix") as folder:
-        if origins is not None:
-            files["origins"] = origins_file(folder, origins)
-        if opportunities is not None:
-            files["opportunities"] = opportunities_file(folder, opportunities, rounded)
-        if destinations is not None:
-            files["destinations"] = stops_file(folder, "destinations.csv", destinations)
+        files = question_files(folder, origins, opportunities, destinations, rounded)
         if footpaths is not None:
             files["footpaths"] = footpaths_file(folder, footpaths, rounded)
-        counts = {"trips": trips, "walk": walk, "workers": workers, "tries": tries, "back": back, "ahead": ahead}
-        asked = Run(feed, date, window, shares=shares, limits=limits, scenarios=scenarios, files=files, **counts)
-        run(asked, folder / "matrix.csv", program)
+        task = Run(feed, date, window, trips, walk, shares, limits, scenarios, workers, tries, back, ahead, files)
+        run(task, folder / "matrix.csv", program)
         return result_of(open_matrix(str(folder / "matrix.csv")), rounded.count)

@@ -21,8 +21,8 @@ def as_text(text: str) -> str:
 
 def markdown(text: str) -> str:
     """A text that Markdown shows as it is, whatever it is rendered by."""
-    made = " ".join(printed(text.replace("\n", " ").replace("\t", " ")).split())
-    made = html.escape(made, quote=False)
+    escaped = " ".join(printed(text.replace("\n", " ").replace("\t", " ")).split())
+    escaped = html.escape(escaped, quote=False)
     for sign in SPECIAL:
-        made = made.replace(sign, "\\" + sign)
-    return made
+        escaped = escaped.replace(sign, "\\" + sign)
+    return escaped

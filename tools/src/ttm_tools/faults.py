@@ -1,5 +1,5 @@
-"""Faults, told in one line to the person who gave the input: which file, record and column, what stands there, and what
-is allowed.
+"""Faults, reported in one line to the person who gave the input: file, record, column, the value there, and what is
+allowed.
 """
 
 import importlib.util
@@ -44,14 +44,14 @@ class WrongWords(Exception):
     status = 2
 
 
-def one_line(told: object) -> str:
+def one_line(message: object) -> str:
     """A fault's text as one line that any terminal shows."""
-    return printed(" ".join(str(told).split())).encode("utf-8", "backslashreplace").decode("utf-8")
+    return printed(" ".join(str(message).split())).encode("utf-8", "backslashreplace").decode("utf-8")
 
 
-def as_line(told: object) -> str:
+def as_line(message: object) -> str:
     """The same behind the spaces with which it begins."""
-    line = str(told)
+    line = str(message)
     return line[: len(line) - len(line.lstrip(" "))] + one_line(line)
 
 
@@ -65,7 +65,7 @@ DEBIAN = {"osmium": "pyosmium"}  # where Debian has another name
 
 
 def needs(*packages: str) -> None:
-    """Tells in one line which of these packages this Python lacks, before anything is imported from them."""
+    """Reports in one line which of these packages this Python lacks, before anything is imported from them."""
     lacking = [name for name in packages if importlib.util.find_spec(name) is None]
     if lacking:
         debian = " ".join(f"python3-{DEBIAN.get(name, name)}" for name in lacking)
@@ -76,7 +76,7 @@ def needs(*packages: str) -> None:
 
 
 def needs_program(program: str, package: str) -> None:
-    """Tells in one line which program isn't there, and which package of Debian has it."""
+    """Reports in one line which program isn't there, and which package of Debian has it."""
     if shutil.which(program) is None:
         raise Lacking(f"no program {program}: apt-get install {package}")
 

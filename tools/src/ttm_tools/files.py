@@ -29,7 +29,7 @@ FULL = (errno.ENOSPC, errno.EDQUOT, errno.EFBIG)
 LONGEST_NAME = 200  # bytes of a file's name that its name aside repeats
 _inputs: set[tuple[int, int]] | None = None  # device and inode of the files that a command has read
 Note = Callable[[Sequence[Path]], None]
-_outputs: Note | None = None  # is told of the files of a folder before they get their names
+_outputs: Note | None = None  # called with the files of a folder before they get their names
 
 
 class Interrupted(BaseException):
@@ -110,7 +110,7 @@ def all_in(path: Path) -> list[Path]:
     """A file, or whatever else isn't a folder; of a folder all of that in it."""
     if path.is_symlink() or not path.is_dir():
         return [path] if os.path.lexists(path) else []
-    return sorted(it for it in path.rglob("*") if it.is_symlink() or not it.is_dir())
+    return sorted(path for path in path.rglob("*") if path.is_symlink() or not path.is_dir())
 
 
 def is_full(fault: OSError) -> bool:
@@ -180,15 +180,15 @@ def written_aside(path: str | Path) -> Iterator[Path]:
     whole = Path(path)
     refuse_input(whole)
     remove_leavings(whole)
-    made = aside_name(whole)
+    aside = aside_name(whole)
     try:
         with writing_to(whole):
-            yield made
+            yield aside
         refuse_input(whole)
         with no_signals():
-            os.replace(made, whole)
+            os.replace(aside, whole)
     finally:
-        remove(made)
+        remove(aside)
 
 
 @contextlib.contextmanager
@@ -196,23 +196,23 @@ def many_written_aside(folder: str | Path) -> Iterator[Path]:
     """Gives an empty folder to write to; its files are moved to `folder`, all at once, when the block ends well."""
     whole = Path(folder)
     found = next(parent for parent in (whole, *whole.parents) if parent.exists())
-    made = aside_name(found / (whole.name or "files"))
+    aside = aside_name(found / (whole.name or "files"))
     remove_leavings(found / (whole.name or "files"))
     try:
-        made.mkdir()
+        aside.mkdir()
         with writing_to(whole):
-            yield made
-        files = sorted(made.iterdir())
+            yield aside
+        files = sorted(aside.iterdir())
         for file in files:
             refuse_input(whole / file.name)
         if _outputs is not None:
-            _outputs([whole / it.relative_to(made) for it in all_in(made)])
+            _outputs([whole / path.relative_to(aside) for path in all_in(aside)])
         with no_signals():
             whole.mkdir(parents=True, exist_ok=True)
             for file in files:
                 os.replace(file, whole / file.name)
     finally:
-        remove(made)
+        remove(aside)
 
 
 @contextlib.contextmanager
@@ -224,12 +224,12 @@ def scratch(what: str) -> Iterator[Path]:
         with contextlib.suppress(OSError):
             if found and other.is_dir() and other.stat().st_uid == os.getuid() and not is_running(int(found[1])):
                 remove(other)
-    with tempfile.TemporaryDirectory(prefix=f"ttm-tools-{what}.{os.getpid()}.") as made:
-        yield Path(made)
+    with tempfile.TemporaryDirectory(prefix=f"ttm-tools-{what}.{os.getpid()}.") as folder:
+        yield Path(folder)
 
 
 def is_free(out: Path) -> None:
-    """Tells of a folder that isn't empty, in which files of two runs would lie side by side."""
+    """Refuses a folder that isn't empty, in which files of two runs would lie side by side."""
     if out.exists() and (not out.is_dir() or any(out.iterdir())):
         raise BadInput(out, "is there already, and isn't empty")
 
@@ -241,15 +241,15 @@ def output(path: str | None) -> Iterator[BinaryIO]:
         yield sys.stdout.buffer
         sys.stdout.buffer.flush()
         return
-    with written_aside(path) as made:
-        with open(made, "wb") as file:
+    with written_aside(path) as aside:
+        with open(aside, "wb") as file:
             yield file
 
 
 def sum_of(path: str | Path) -> str:
     """The SHA-256 of a file's bytes."""
-    made = hashlib.sha256()
+    digest = hashlib.sha256()
     with open(path, "rb") as file:
         while block := file.read(1 << 20):
-            made.update(block)
-    return made.hexdigest()
+            digest.update(block)
+    return digest.hexdigest()

@@ -13,10 +13,10 @@ SIGNS_OF_SUM = 8
 
 def file_name(name: str) -> str:
     """A name as a file may be called; a long one is cut, and ends with some signs of its sum."""
-    made = re.sub(r"[^\w.-]", "_", shown(name)).lstrip(".") or "_"
-    written = made.encode("utf-8", "replace")
+    name_in_file = re.sub(r"[^\w.-]", "_", shown(name)).lstrip(".") or "_"
+    written = name_in_file.encode("utf-8", "replace")
     if len(written) <= LONGEST:
-        return made
+        return name_in_file
     return f"{written[:LONGEST].decode('utf-8', 'ignore')}_{sum_of_name(name)}"
 
 
@@ -28,15 +28,17 @@ def file_names(names: Sequence[str], ends: Sequence[str] = ("",), taken: Iterabl
     """The names of files, such that no file of one name, with any of the ends, is called as one of another name is,
     however a disk takes capitals.
     """
-    used, made = {it.casefold() for it in taken}, dict[str, str]()
+    used, called = {name.casefold() for name in taken}, dict[str, str]()
     for name in names:
         plain = file_name(name)
-        tries = itertools.chain([plain, f"{plain}_{sum_of_name(name)}"], (f"{plain}_{it}" for it in itertools.count(2)))
-        made[name] = next(it for it in tries if used.isdisjoint(f"{it}{end}".casefold() for end in ends))
-        used.update(f"{made[name]}{end}".casefold() for end in ends)
-    return made
+        tries = itertools.chain(
+            [plain, f"{plain}_{sum_of_name(name)}"], (f"{plain}_{number}" for number in itertools.count(2))
+        )
+        called[name] = next(one for one in tries if used.isdisjoint(f"{one}{end}".casefold() for end in ends))
+        used.update(f"{called[name]}{end}".casefold() for end in ends)
+    return called
 
 
-def told_names(names: dict[str, str]) -> list[str]:
+def sentences_on_names(names: dict[str, str]) -> list[str]:
     """Which names files don't have as they are."""
     return [f"files of {shown(name)} are called {file}" for name, file in names.items() if shown(name) != file]

@@ -18,12 +18,10 @@ from .engine import (
     Result,
     Run,
     footpaths_file,
-    opportunities_file,
-    origins_file,
     program_at,
+    question_files,
     refusal_of,
     result_of,
-    stops_file,
 )
 from .faults import WrongWords
 from .files import remove
@@ -33,16 +31,16 @@ from .records import Rounded
 MIDNIGHT = ("00:00", "00:00")  # the window of the words that are kept; each question names its own
 
 
-def command_of(program: str, words: Sequence[str]) -> list[str]:
+def command_of(program: str, arguments: Sequence[str]) -> list[str]:
     """The command that keeps the network of these words and answers questions."""
-    return [program, *words, "--report", "--ask"]
+    return [program, *arguments, "--report", "--ask"]
 
 
 class Processes:
     """Some processes with the same network, each asked by one thread at a time; they begin when they are needed."""
 
-    def __init__(self, words: Sequence[str], count: int) -> None:
-        self.words, self.lock, self.closed = list(words), threading.Lock(), False
+    def __init__(self, arguments: Sequence[str], count: int) -> None:
+        self.arguments, self.lock, self.closed = list(arguments), threading.Lock(), False
         self.running: set[Conversation] = set()
         self.free: queue.LifoQueue[Conversation | None] = queue.LifoQueue()
         for _ in range(count - 1):
@@ -54,11 +52,11 @@ class Processes:
         with self.lock:
             if self.closed:
                 raise WrongWords("the network is closed")
-            made = Conversation(self.words)
-            self.running.add(made)
-            return made
+            conversation = Conversation(self.arguments)
+            self.running.add(conversation)
+            return conversation
 
-    def ask(self, words: Sequence[str]) -> Answer:
+    def ask(self, arguments: Sequence[str]) -> Answer:
         """Asks a process that is free, or waits for one; the next question replaces one that has ended."""
         held = self.free.get()
         try:
@@ -66,7 +64,7 @@ class Processes:
                 self.drop(held)
                 held = None  # so that a process that can't begin leaves a free place
                 held = self.begun()
-            return held.ask(words)
+            return held.ask(arguments)
         except EngineFault:
             if self.closed:
                 raise WrongWords("the network was closed while it was asked") from None
@@ -122,7 +120,7 @@ class Network:
                 files["footpaths"] = absolute(footpaths_file(self.folder, footpaths, self.rounded))
             paths = [absolute(path) for path in scenarios]
             kept = Run(absolute(feed), date, MIDNIGHT, 4, walk, scenarios=paths, back=back, ahead=ahead, files=files)
-            self.processes = Processes(command_of(named, kept.words()), workers)
+            self.processes = Processes(command_of(named, kept.arguments()), workers)
         except BaseException:
             remove(self.folder)
             raise
@@ -148,12 +146,8 @@ class Network:
         named: dict[str, object] = {"from": window[0], "to": window[1], **numbers}
         named |= {"share": ",".join(map(str, shares)), "within": ",".join(map(str, limits))}
         with self.room() as folder:
-            if origins is not None:
-                named["origins"] = absolute(origins_file(folder, origins))
-            if opportunities is not None:
-                named["opportunities"] = absolute(opportunities_file(folder, opportunities, rounded))
-            if destinations is not None:
-                named["destinations"] = absolute(stops_file(folder, "destinations.csv", destinations))
+            files = question_files(folder, origins, opportunities, destinations, rounded)
+            named |= {name: absolute(path) for name, path in files.items()}
             answer = self.processes.ask([word for name, value in named.items() for word in (f"--{name}", str(value))])
             if answer.status != 0:
                 raise EngineFault("\n".join(refusal_of(answer.body, answer.status)), answer.status)
@@ -166,11 +160,16 @@ class Network:
         """A folder for the files of one question."""
         if not self.closing.alive:
             raise WrongWords("the network is closed")
-        made = Path(tempfile.mkdtemp(dir=self.folder))
         try:
-            yield made
-        finally:
-            remove(made)
+            folder = Path(tempfile.mkdtemp(dir=self.folder))
+            try:
+                yield folder
+            finally:
+                remove(folder)
+        except OSError:  # the folder goes with the network
+            if self.closing.alive:
+                raise
+            raise WrongWords("the network was closed while it was asked") from None
 
     def close(self) -> None:
         """Ends the processes; what is asked afterwards is refused."""

@@ -54,12 +54,12 @@ def write_parts(origins: Sequence[str], parts: int, folder: str) -> int:
     for other in sorted(Path(folder).glob("part_[0-9]*.csv")):
         if other.name not in own:
             raise BadInput(other, "is of another split: name another folder, or remove it")
-    with many_written_aside(folder) as made:
+    with many_written_aside(folder) as aside:
         for name, stops in [
             ("origins.csv", origins),
             *((f"part_{number:04}.csv", part) for number, part in enumerate(cut, 1)),
         ]:
-            with open(made / name, "wb") as file:
+            with open(aside / name, "wb") as file:
                 write_stops(file, stops)
     return len(cut)
 
@@ -73,7 +73,7 @@ class Scenario:
     origins: list[str] = field(default_factory=list)
 
 
-class Part:
+class PartMatrix:
     """A matrix on the disk: its header, its scenarios in order, and the shares that each origin has."""
 
     def __init__(self, path: str) -> None:
@@ -129,8 +129,8 @@ class Part:
         return next((scenario.origins for scenario in self.scenarios.values()), [])
 
 
-def are_alike(part: Part, first: Part) -> None:
-    """Tells where a part is of another study than the first one, or lacks rows."""
+def are_alike(part: PartMatrix, first: PartMatrix) -> None:
+    """Refuses a part that is of another study than the first one, or lacks rows."""
     if part.header != first.header:
         raise BadInput(part.path, f"its header isn't that of {first.path}")
     if list(part.scenarios) != list(first.scenarios):
@@ -142,7 +142,7 @@ def are_alike(part: Part, first: Part) -> None:
             raise BadInput(part.path, f"{shown(name)} has other origins than the first scenario")
 
 
-def in_order(parts: Sequence[Part], origins: Sequence[str], origins_file: str) -> list[Part]:
+def in_order(parts: Sequence[PartMatrix], origins: Sequence[str], origins_file: str) -> list[PartMatrix]:
     """The parts as their origins stand in the whole, where each origin is in one of them."""
     place = {origin: number for number, origin in enumerate(origins)}
     holder: dict[str, str] = {}
@@ -163,7 +163,7 @@ def in_order(parts: Sequence[Part], origins: Sequence[str], origins_file: str) -
     return ordered
 
 
-def write_whole(parts: Sequence[Part], out: BinaryIO) -> None:
+def write_whole(parts: Sequence[PartMatrix], out: BinaryIO) -> None:
     """The header, and for each scenario the rows of each part."""
     out.write(parts[0].header)
     for name in parts[0].scenarios:

@@ -7,7 +7,7 @@ from typing import Iterable, Iterator, TypeVar
 Item = TypeVar("Item")
 
 
-def told(items: Iterable[Item], total: int, what: str, unit: str) -> Iterator[Item]:
+def shown(items: Iterable[Item], total: int, what: str, unit: str) -> Iterator[Item]:
     """The items as they are, with a bar from the second second on."""
     if not sys.stderr.isatty() or importlib.util.find_spec("tqdm") is None:
         yield from items

@@ -51,7 +51,7 @@ def places_of(header: Sequence[str], path: str | Path, needed: Sequence[str]) ->
 
 def refuse_alike(path: str | Path, header: Sequence[str], names: Iterable[str]) -> None:
     """Refuses a file that has two columns of one of these names: which of them is meant can't be known."""
-    heads = [it.strip(" ") for it in header]
+    heads = [column.strip(" ") for column in header]
     twice = next((name for name in names if heads.count(name) > 1), None)
     if twice is not None:
         raise BadInput(path, f"two columns {shown(twice)}", record=1)
@@ -92,19 +92,19 @@ def shown(text: str) -> str:
     """
     if text.isascii() or not any("\udc80" <= letter <= "\udcff" for letter in text):
         return text
-    made = text.encode("utf-8", "surrogateescape")
+    data = text.encode("utf-8", "surrogateescape")
     try:
-        return made.decode("cp1252")
+        return data.decode("cp1252")
     except UnicodeDecodeError:
-        return made.decode("latin-1")
+        return data.decode("latin-1")
 
 
 def field(text: object) -> bytes:
     """A field as `ttm` writes it: between quotes where it has a comma, a quote or a line end."""
-    made = str(text)
-    if any(letter in made for letter in ',"\r\n'):
-        made = '"' + made.replace('"', '""') + '"'
-    return made.encode("utf-8", "surrogateescape")
+    quoted = str(text)
+    if any(letter in quoted for letter in ',"\r\n'):
+        quoted = '"' + quoted.replace('"', '""') + '"'
+    return quoted.encode("utf-8", "surrogateescape")
 
 
 def fields_as_texts(values: Iterable[object], before: bytes = b"", after: bytes = b"") -> Texts:
@@ -114,10 +114,10 @@ def fields_as_texts(values: Iterable[object], before: bytes = b"", after: bytes 
 
 def joined(pieces: Sequence[bytes | Texts], count: int) -> bytes:
     """The text of so many lines: of each piece in turn the one text that all lines have, or the line's own."""
-    made = np.empty((count, len(pieces)), dtype=object)
+    texts = np.empty((count, len(pieces)), dtype=object)
     for place, piece in enumerate(pieces):
-        made[:, place] = piece
-    return b"".join(made.ravel())
+        texts[:, place] = piece
+    return b"".join(texts.ravel())
 
 
 class Numerals:
@@ -133,9 +133,9 @@ class Numerals:
         """The texts of some whole numbers; that of the gap for NaN."""
         gaps = np.isnan(numbers)
         whole = np.where(gaps, 0, numbers).astype(np.int64)
-        made = self.of_whole(whole)
-        made[gaps] = self.gap
-        return made
+        texts = self.of_whole(whole)
+        texts[gaps] = self.gap
+        return texts
 
     def of_whole(self, numbers: npt.NDArray[np.int64]) -> Texts:
         most = int(numbers.max(initial=0))
@@ -147,10 +147,10 @@ class Numerals:
         return self.texts[numbers]
 
 
-def texts_of(made: Sequence[bytes]) -> Texts:
+def texts_of(encoded: Sequence[bytes]) -> Texts:
     """Texts as an array of references to them."""
-    texts = np.empty(len(made), dtype=object)
-    texts[:] = made
+    texts = np.empty(len(encoded), dtype=object)
+    texts[:] = encoded
     return texts
 
 
@@ -186,6 +186,6 @@ class Rounded:
         if not 0 <= number < 1 << 32:
             allowed = "a number from 0 to 4294967295"
             raise BadInput(path, "is no such number", record=record, column=column, value=text, allowed=allowed)
-        made = math.ceil(number) if up else math.floor(number + 0.5)
-        self.count += made != number
-        return made
+        rounded = math.ceil(number) if up else math.floor(number + 0.5)
+        self.count += rounded != number
+        return rounded

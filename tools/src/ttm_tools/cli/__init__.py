@@ -60,12 +60,12 @@ def parser_of() -> argparse.ArgumentParser:
     return parser
 
 
-def told(words: argparse.Namespace) -> int:
-    """Runs a command; what ends it is told in one line, with a status of its own."""
-    begin = f"ttm-tools {words.command}: "
+def status_of(args: argparse.Namespace) -> int:
+    """Runs a command; what ends it is reported in one line, with a status of its own."""
+    begin = f"ttm-tools {args.command}: "
     try:
-        with contextlib.nullcontext() if words.command == "study" else inputs_noted():  # it owns its folder
-            status = int(words.run(words))
+        with contextlib.nullcontext() if args.command == "study" else inputs_noted():  # it owns its folder
+            status = int(args.run(args))
         sys.stdout.flush()
         return status
     except (BadInput, Lacking, WrongWords) as fault:
@@ -88,26 +88,26 @@ def told(words: argparse.Namespace) -> int:
 
 def of_its_own(fault: Exception) -> str:
     """Writes a log of an error that no input explains, and says where it is."""
-    told = f"an error of its own, {type(fault).__name__}: {one_line(fault)[:200]}"
+    message = f"an error of its own, {type(fault).__name__}: {one_line(fault)[:200]}"
     try:
         handle, path = tempfile.mkstemp(prefix="ttm-tools-", suffix=".log")
         with open(handle, "w", encoding="utf-8", errors="backslashreplace") as file:
             file.write(f"ttm-tools {__version__}, Python {sys.version}\n")
             file.write("".join(traceback.format_exception(fault)))
     except OSError as full:
-        return f"{told}; no log could be written: {full.strerror}"
-    return f"{told}; please report it with the log {path}"
+        return f"{message}; no log could be written: {full.strerror}"
+    return f"{message}; please report it with the log {path}"
 
 
-def main(words: Sequence[str] | None = None) -> int:
+def main(arguments: Sequence[str] | None = None) -> int:
     """The command's exit status: 0 the whole result, 1 bad input, 2 wrong arguments, 3 out of memory, 128 and a
     signal's number where that ended it.
     """
-    asked, unknown = parser_of().parse_known_args(words)
+    args, unknown = parser_of().parse_known_args(arguments)
     if unknown:
-        asked.parser.error(f"unrecognized arguments: {' '.join(unknown)}")
-    if words is None:
+        args.parser.error(f"unrecognized arguments: {' '.join(unknown)}")
+    if arguments is None:
         unwind_on_signals()
-        logging.disable(logging.CRITICAL)  # libraries say in lines of their own what is told in one
+        logging.disable(logging.CRITICAL)  # libraries say in lines of their own what is reported in one
         warnings.simplefilter("ignore")
-    return told(asked)
+    return status_of(args)

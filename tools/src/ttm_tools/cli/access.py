@@ -4,13 +4,16 @@ import argparse
 from dataclasses import replace
 from typing import TYPE_CHECKING, Callable
 
+from ..measures.measure_list import COMPETITIONS, DECAYS
 from .options import (
+    Range,
     add_cutoffs,
     add_matrix,
     add_number,
     add_numbers,
     add_out,
     add_points,
+    add_several,
     add_share,
     add_text,
     opened,
@@ -43,106 +46,107 @@ counts, as it does for ttm: --cutoffs 30 is its --within 1800. Memory: some 300 
 
 
 def describe(parser: argparse.ArgumentParser) -> None:
-    told = "a file with what each stop has; may be given more than once (needed)"
-    parser.add_argument("--opportunities", metavar="FILE", action="append", required=True, help=told)
-    told = "a column that is taken; may be given more than once (without it, all)"
-    parser.add_argument("--column", metavar="NAME", action="append", default=[], help=told)
-    told = "how weights fall with travel time: at the cutoff, on a line round it, with it as half-life, on a sigmoid"
-    names = ("step", "linear", "exponential", "logistic")
-    parser.add_argument("--decay", choices=names, default="step", help=f"{told} (default step)")
-    told = "the limits, between commas; decimals are rounded to whole seconds"
-    add_cutoffs(parser, told, (0, 10000), "30")
-    told = "how wide the linear fall is, or the standard deviation of the logistic one"
-    add_number(parser, "--decay-value", told, "minutes", (0, 10000), without="none, which these two need", whole=False)
-    told = "instead of access, the time within which this many are reached, between commas"
-    add_numbers(parser, "--nearest", told, "", (0, 1e15), without="access is measured")
-    told = "the mean over all limits of whole minutes from one to another, such as 15,45"
-    add_numbers(parser, "--interval", told, "minutes", (0, 1000), without="one number for each of --cutoffs")
-    told = "access where people compete: a floating catchment, a balanced one, or spatial availability; needs --demand"
-    methods = ("floating", "balanced", "availability")
-    parser.add_argument("--competition", choices=methods, help=f"{told} (without it, nobody does)")
+    what = "a file with what each stop has; may be given more than once (needed)"
+    parser.add_argument("--opportunities", metavar="FILE", action="append", required=True, help=what)
+    add_several(parser, "--column", "NAME", "a column that is taken", without="all")
+    what = "how weights fall with travel time: at the cutoff, on a line round it, with it as half-life, on a sigmoid"
+    parser.add_argument("--decay", choices=[*DECAYS], default="step", help=f"{what} (default step)")
+    what = "the limits, between commas; decimals are rounded to whole seconds"
+    add_cutoffs(parser, what, (0, 10000), "30")
+    what = "how wide the linear fall is, or the standard deviation of the logistic one"
+    add_number(
+        parser, "--decay-value", what, Range("minutes", 0, 10000, whole=False), without="none, which these two need"
+    )
+    what = "instead of access, the time within which this many are reached, between commas"
+    add_numbers(parser, "--nearest", what, Range("", 0, 1e15, whole=False), without="access is measured")
+    what = "the mean over all limits of whole minutes from one to another, such as 15,45"
+    add_numbers(
+        parser, "--interval", what, Range("minutes", 0, 1000, whole=False), without="one number for each of --cutoffs"
+    )
+    what = "access where people compete: a floating catchment, a balanced one, or spatial availability; needs --demand"
+    parser.add_argument("--competition", choices=[*COMPETITIONS], help=f"{what} (without it, nobody does)")
     add_text(parser, "--demand", "FILE", "how many people are at each origin, for --competition", without="none")
     add_text(parser, "--demand-column", "NAME", "its column of people", without="the only one")
     add_text(parser, "--scenario", "NAME", "the scenario that is taken", without="all")
     add_points(parser, "all origins and stops")
     add_share(parser, without="all")
-    told = "a line for each number, or a column (default long)"
-    parser.add_argument("--form", choices=("long", "wide"), default="long", help=told)
+    what = "a line for each number, or a column (default long)"
+    parser.add_argument("--form", choices=("long", "wide"), default="long", help=what)
     add_out(parser, "where the table is written")
     add_matrix(parser)
 
 
-def run(words: argparse.Namespace) -> int:
+def run(args: argparse.Namespace) -> int:
     from ..faults import needs
 
-    refuse_words(words)
+    refuse_together(args)
     needs("numpy")
     from ..files import output
     from ..measures.opportunities import read_counts
     from ..points.shown import shown_of
-    from ..views.access import ACCESS, NEAREST, measured, write_access
+    from ..views.access import ACCESS, NEAREST, Form, measured, write_access
 
-    matrix, _ = shown_of(opened(words), None, words.points)
-    scenarios = scenarios_of(matrix, [words.scenario] if words.scenario else None)
-    shares = matrix.shares if words.share is None else [matrix.share(words.share)]
-    counts = read_counts(words.opportunities, matrix.stops, "stop of the matrix", words.column)
-    measure = measure_of(words, matrix, counts)
+    matrix, _ = shown_of(opened(args), None, args.points)
+    scenarios = scenarios_of(matrix, [args.scenario] if args.scenario else None)
+    shares = matrix.shares if args.share is None else [matrix.share(args.share)]
+    counts = read_counts(args.opportunities, matrix.stops, "stop of the matrix", args.column)
+    measure = measure_of(args, matrix, counts)
     found = [measured(matrix, scenario, shares, measure) for scenario in scenarios]
-    if words.competition:  # for each person there may be little
-        found = [replace(it, decimals=12) for it in found]
-    heads, limits = (NEAREST, words.nearest) if words.nearest else (ACCESS, words.cutoffs)
-    if words.interval:
-        limits = ["{:g}-{:g}".format(*words.interval)]
-    with output(words.out) as file:
-        form, named = words.form, words.scenario is None
-        write_access(file, found, counts.names, limits, heads=heads, form=form, with_scenario=named)
+    if args.competition:  # for each person there may be little
+        found = [replace(table, decimals=12) for table in found]
+    heads, limits = (NEAREST, args.nearest) if args.nearest else (ACCESS, args.cutoffs)
+    if args.interval:
+        low, high = args.interval
+        limits = [f"{low:g}-{high:g}"]
+    with output(args.out) as file:
+        write_access(file, found, counts.names, limits, Form(heads, args.form, args.scenario is None))
     return 0
 
 
-def refuse_words(words: argparse.Namespace) -> None:
-    """Tells options that don't go together."""
+def refuse_together(args: argparse.Namespace) -> None:
+    """Refuses options that don't go together."""
     from ..faults import WrongWords
 
-    if words.decay == "exponential" and min(words.cutoffs) < 0.01:
+    if args.decay == "exponential" and min(args.cutoffs) < 0.01:
         raise WrongWords("--decay exponential needs --cutoffs above 0: they are half-lives")
-    if words.nearest and min(words.nearest) <= 0:
+    if args.nearest and min(args.nearest) <= 0:
         raise WrongWords("--nearest needs numbers above 0")
-    others = [name for name in ("nearest", "competition", "interval") if getattr(words, name)]
+    others = [name for name in ("nearest", "competition", "interval") if getattr(args, name)]
     if len(others) > 1:
         raise WrongWords(f"--{others[0]} and --{others[1]} are two measures: take one")
-    if bool(words.competition) != bool(words.demand) or words.demand_column and not words.demand:
+    if bool(args.competition) != bool(args.demand) or args.demand_column and not args.demand:
         raise WrongWords("--competition and --demand go together")
-    if words.interval and (len(words.interval) != 2 or not all(it.is_integer() for it in words.interval)):
+    if args.interval and (len(args.interval) != 2 or not all(minutes.is_integer() for minutes in args.interval)):
         raise WrongWords("--interval is two whole numbers of minutes, such as 15,45")
-    if words.interval and words.decay != "step":
+    if args.interval and args.decay != "step":
         raise WrongWords("--interval goes with --decay step")
 
 
-def measure_of(words: argparse.Namespace, matrix: "Matrix", counts: "Counts") -> "Callable[[str, Share], Floats]":
+def measure_of(args: argparse.Namespace, matrix: "Matrix", counts: "Counts") -> "Callable[[str, Share], Floats]":
     """What is measured of a scenario and a share."""
     from ..measures.access import Decay, Interval, access, nearest
     from ..measures.competition import Market, competition
 
-    decay = Decay(words.decay, words.decay_value)
-    if words.nearest:
-        return lambda scenario, share: nearest(matrix, scenario, share, counts.numbers, words.nearest)
-    if words.competition:
-        demand = demand_of(words, matrix)
-        market = Market(words.competition, counts.numbers, demand, decay, words.cutoffs)
+    decay = Decay(args.decay, args.decay_value)
+    if args.nearest:
+        return lambda scenario, share: nearest(matrix, scenario, share, counts.numbers, args.nearest)
+    if args.competition:
+        demand = demand_of(args, matrix)
+        market = Market(args.competition, counts.numbers, demand, decay, args.cutoffs)
         return lambda scenario, share: competition(matrix, scenario, share, market)
-    if words.interval:
-        interval = Interval(*map(int, words.interval))
+    if args.interval:
+        interval = Interval(*map(int, args.interval))
         return lambda scenario, share: access(matrix, scenario, share, counts.numbers, interval, [0])
-    return lambda scenario, share: access(matrix, scenario, share, counts.numbers, decay, words.cutoffs)
+    return lambda scenario, share: access(matrix, scenario, share, counts.numbers, decay, args.cutoffs)
 
 
-def demand_of(words: argparse.Namespace, matrix: "Matrix") -> dict[str, float]:
+def demand_of(args: argparse.Namespace, matrix: "Matrix") -> dict[str, float]:
     """The people by origin who compete."""
     from ..faults import BadInput, some
     from ..measures.opportunities import read_counts
 
-    known, asked = matrix.stops_and_origins(), [words.demand_column] if words.demand_column else []
-    found = read_counts([words.demand], known, "stop of the matrix", asked)
+    known, columns = matrix.stops_and_origins(), [args.demand_column] if args.demand_column else []
+    found = read_counts([args.demand], known, "stop of the matrix", columns)
     if len(found.names) > 1:
-        raise BadInput(words.demand, f"it has the columns {some(found.names)}: name one by --demand-column")
+        raise BadInput(args.demand, f"it has the columns {some(found.names)}: name one by --demand-column")
     return dict(zip(known, found.numbers[:, 0].tolist()))

@@ -3,6 +3,7 @@
 import argparse
 
 from .options import (
+    Range,
     add_base,
     add_feed,
     add_matrix,
@@ -39,53 +40,53 @@ each pair that differs."""
 
 
 def describe(parser: argparse.ArgumentParser) -> None:
-    told = "what a line of the table is (default pair)"
-    parser.add_argument("--by", choices=("pair", "origin"), default="pair", help=told)
-    told = "travel times that differ by more than this count as slower or faster"
-    add_number(parser, "--limit", told, "seconds", (0, 604800), default=60)
-    told = "access that differs by so much or more counts as lost or gained"
-    add_number(parser, "--least", told, "opportunities", (1, 4294967295), default=1)
-    told = "why an origin is listed: a pair that differs, its access, or either (default both)"
-    parser.add_argument("--listed", choices=("both", "times", "access"), default="both", help=told)
-    told = "how lines are sorted: the greatest loss or gain first, or by percent (without it, losers, then winners)"
-    parser.add_argument("--sort", choices=("loss", "gain", "relative"), help=told)
-    add_number(parser, "--top", "how many lines the table has at most", "lines", (1, 1000000000), without="all")
+    what = "what a line of the table is (default pair)"
+    parser.add_argument("--by", choices=("pair", "origin"), default="pair", help=what)
+    what = "travel times that differ by more than this count as slower or faster"
+    add_number(parser, "--limit", what, Range("seconds", 0, 604800), default=60)
+    what = "access that differs by so much or more counts as lost or gained"
+    add_number(parser, "--least", what, Range("opportunities", 1, 4294967295), default=1)
+    what = "why an origin is listed: a pair that differs, its access, or either (default both)"
+    parser.add_argument("--listed", choices=("both", "times", "access"), default="both", help=what)
+    what = "how lines are sorted: the greatest loss or gain first, or by percent (without it, losers, then winners)"
+    parser.add_argument("--sort", choices=("loss", "gain", "relative"), help=what)
+    add_number(parser, "--top", "how many lines the table has at most", Range("lines", 1, 1000000000), without="all")
     add_base(parser)
     add_text(parser, "--scenario", "NAME", "the scenario that is compared with the base", without="the only other one")
     add_share(parser)
     add_within(parser)
     add_feed(parser, "an unpacked feed, for the names of stops", "there are no names")
     add_points(parser)
-    told = "if one scenario lacks origins, compare the others (without it, that is an error)"
-    parser.add_argument("--partial", action="store_true", help=told)
+    what = "if one scenario lacks origins, compare the others (without it, that is an error)"
+    parser.add_argument("--partial", action="store_true", help=what)
     add_out(parser, "where the table is written")
     add_matrix(parser)
 
 
-def run(words: argparse.Namespace) -> int:
+def run(args: argparse.Namespace) -> int:
     from ..faults import BadInput, WrongWords, needs, say
 
-    if words.by == "pair" and (words.least > 1 or words.listed != "both"):
+    if args.by == "pair" and (args.least > 1 or args.listed != "both"):
         raise WrongWords("--least and --listed go with --by origin")
     needs("numpy")
     from ..files import output
     from ..matrices import pair_of
     from ..measures.comparison import compare
     from ..points.shown import shown_of
-    from ..views.differences import Choice, summary, write_origins, write_pairs
+    from ..views.differences import OriginChoice, summary, write_origins, write_pairs
 
-    (matrix, stops), by_pair = shown_of(opened(words), words.feed, words.points), words.by == "pair"
-    place = None if by_pair else matrix.limit(words.within)[0]
-    pair = pair_of(matrix, words.base, words.scenario, words.share)
-    if pair.lacking and not words.partial:
-        raise BadInput(words.matrix, f"{pair.lacking} (--partial compares the others)")
-    choice = Choice(words.sort, words.top, words.listed, words.least)
-    made = compare(pair, words.limit, with_pairs=by_pair)
-    with output(words.out) as file:
+    (matrix, stops), by_pair = shown_of(opened(args), args.feed, args.points), args.by == "pair"
+    place = None if by_pair else matrix.limit(args.within)[0]
+    pair = pair_of(matrix, args.base, args.scenario, args.share)
+    if pair.lacking and not args.partial:
+        raise BadInput(args.matrix, f"{pair.lacking} (--partial compares the others)")
+    choice = OriginChoice(args.sort, args.top, args.listed, args.least)
+    comparison = compare(pair, args.limit, with_pairs=by_pair)
+    with output(args.out) as file:
         if place is None:
-            write_pairs(file, pair, made.changes, stops, choice)
+            write_pairs(file, pair, comparison.changes, stops, choice)
         else:
-            write_origins(file, pair, place, made, stops, choice)
-    told = summary(pair, made, words.limit, place, words.least)
-    say(*([f"{pair.lacking}: left out"] if pair.lacking else []), *told)
+            write_origins(file, pair, place, comparison, stops, choice)
+    sentences = summary(pair, comparison, args.limit, place, args.least)
+    say(*([f"{pair.lacking}: left out"] if pair.lacking else []), *sentences)
     return 0

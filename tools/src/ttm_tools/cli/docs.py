@@ -14,8 +14,8 @@ INDEX = "docs/README.html"
 
 
 def describe(parser: argparse.ArgumentParser) -> None:
-    told = "print where the documentation is, and open nothing (without it, a browser opens)"
-    parser.add_argument("--path", action="store_true", help=told)
+    what = "print where the documentation is, and open nothing (without it, a browser opens)"
+    parser.add_argument("--path", action="store_true", help=what)
 
 
 def places() -> Iterator[Path]:
@@ -26,13 +26,13 @@ def places() -> Iterator[Path]:
     yield from (above / "packaging" / "out" / "html" for above in package.parents[2:3])
 
 
-def run(words: argparse.Namespace) -> int:
+def run(args: argparse.Namespace) -> int:
     from ..faults import Lacking
 
-    index = next((it / INDEX for it in places() if (it / INDEX).is_file()), None)
+    index = next((place / INDEX for place in places() if (place / INDEX).is_file()), None)
     if index is None:
         raise Lacking("the documentation isn't installed: packaging/build.sh writes it where Sphinx and MyST are")
     print(index)
-    if not words.path:
+    if not args.path:
         webbrowser.open(index.as_uri())
     return 0

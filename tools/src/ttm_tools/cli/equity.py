@@ -3,27 +3,28 @@
 import argparse
 from typing import TYPE_CHECKING, Sequence
 
-from .options import add_base, add_number, add_out, add_people, add_text, is_file_of_base
+from ..measures.measure_list import FAIRNESS
+from .options import Range, add_base, add_number, add_out, add_people, add_text, is_file_of_base
 
 if TYPE_CHECKING:
-    from ..measures.access_table import AccessTable, Kind
+    from ..measures.access_table import AccessTable, AccessKind
     from ..measures.opportunities import Counts
 
 TOLD = "how access is spread over people, by group and scenario"
 HELP = """\
-Tells how access is spread over people: from a table of `ttm-tools access` in its long form, and the people at each of
-its origins. A line for each opportunity, percentile, cutoff, group of people and scenario: people, mean and median
+Measures how access is spread over people: from a table of `ttm-tools access` in its long form, and the people at each
+of its origins. A line for each opportunity, percentile, cutoff, group of people and scenario: people, mean and median
 access by people, losers_percent (of the people, who lose --lose percent of the base's access or more), gini, palma (the
 mean of the tenth with the most access, as a multiple of that of the two fifths with the least), least_tenth (the mean
 of the tenth with the least access) and least_tenth_change (the mean change of those who are that tenth in the base).
 Gini and Palma also fall if the well served lose: read them together with mean and losers. docs/reference/measures.md
 has each formula, its source, and what can mislead.
 
-Of a table of `ttm-tools access --nearest` the line has people, reached_percent (who reach so many at all), the mean
+Of a table of `ttm-tools access --nearest` the line has people, reached_percent (who reach that number), the mean
 time of these, median_minutes and nine_tenths_minutes (the least time that is enough for half of all people, for nine of
 ten), and losers_percent (who need --lose percent longer or more, or don't reach them any more); --cutoff says how many.
 
---measure theil tells Theil's T of each group and of all together, with its parts within groups and between them;
+--measure theil prints Theil's T of each group and of all together, with its parts within groups and between them;
 concentration the concentration index by --rank, such as the mean income of an origin; poverty the measures of Foster,
 Greer and Thorbecke (fgt0, fgt1, fgt2) of those below --line.
 
@@ -36,61 +37,61 @@ def describe(parser: argparse.ArgumentParser) -> None:
     parser.add_argument("access", metavar="ACCESS", help="a table of ttm-tools access in its long form")
     add_people(parser)
     add_text(parser, "--opportunity", "NAME", "the opportunity that is taken", without="all")
-    add_number(parser, "--percentile", "the percentile that is taken", "percent", (1, 100), without="all")
-    add_number(parser, "--cutoff", "the cutoff that is taken", "minutes", (0, 1e15), without="all", whole=False)
+    add_number(parser, "--percentile", "the percentile that is taken", Range("percent", 1, 100), without="all")
+    add_number(parser, "--cutoff", "the cutoff that is taken", Range("minutes", 0, 1e15, whole=False), without="all")
     add_base(parser)
-    told = "of the base's access, from which on somebody counts as a loser"
-    add_number(parser, "--lose", told, "percent", (0, 100), default=10, whole=False)
-    told = "in place of all this Theil's T, the concentration index, or poverty of access"
-    parser.add_argument("--measure", choices=("theil", "concentration", "poverty"), help=f"{told} (without it, none)")
-    told = "a file with a column such as income, by which concentration ranks the origins; it needs one"
-    add_text(parser, "--rank", "FILE", told, without="none")
-    told = "the access below which people are poor; poverty needs it"
-    add_number(parser, "--line", told, "", (1e-9, 1e15), without="none", whole=False)
+    what = "of the base's access, from which on somebody counts as a loser"
+    add_number(parser, "--lose", what, Range("percent", 0, 100, whole=False), default=10)
+    what = "in place of all this Theil's T, the concentration index, or poverty of access"
+    parser.add_argument("--measure", choices=[*FAIRNESS], help=f"{what} (without it, none)")
+    what = "a file with a column such as income, by which concentration ranks the origins; it needs one"
+    add_text(parser, "--rank", "FILE", what, without="none")
+    what = "the access below which people are poor; poverty needs it"
+    add_number(parser, "--line", what, Range("", 1e-9, 1e15, whole=False), without="none")
     parser.add_argument("--form", choices=("csv", "markdown"), default="csv", help="how it is written (default csv)")
     add_text(parser, "--picture", "FILE", "where a picture is written", without="none is drawn")
     add_out(parser, "where the table is written")
 
 
-def run(words: argparse.Namespace) -> int:
+def run(args: argparse.Namespace) -> int:
     from ..faults import WrongWords, needs, say
 
-    needed = {"concentration": words.rank, "poverty": words.line}
-    if any((words.measure == name) != (value is not None) for name, value in needed.items()):
+    needed = {"concentration": args.rank, "poverty": args.line}
+    if any((args.measure == name) != (value is not None) for name, value in needed.items()):
         raise WrongWords("--measure concentration needs --rank, and poverty --line; no other measure takes them")
-    if words.measure and words.picture:
+    if args.measure and args.picture:
         raise WrongWords("--picture goes without --measure")
-    needs("numpy", *(["matplotlib"] if words.picture else []))
+    needs("numpy", *(["matplotlib"] if args.picture else []))
     from ..files import output
     from ..matrices.beside import labels_of
-    from ..measures.access_table import beside, read_access, told_lost
+    from ..measures.access_table import beside, read_access, sentences_on_lost
     from ..measures.opportunities import read_counts
-    from ..views.equity import Asked, chosen_kinds, figure_of, measured, write_equity
+    from ..views.equity import EquityOptions, chosen_kinds, figure_of, measured, write_equity
 
-    table = read_access(words.access)
-    if words.base is not None and is_file_of_base(words.base, table.scenarios):
-        other = read_access(words.base)
-        say(*told_lost(table, other))
-        table = beside(table, other, labels_of(words.access, words.base), words.base_scenario)
-        words.base = None
-    elif words.base_scenario is not None:
+    table = read_access(args.access)
+    if args.base is not None and is_file_of_base(args.base, table.scenarios):
+        other = read_access(args.base)
+        say(*sentences_on_lost(table, other))
+        table = beside(table, other, labels_of(args.access, args.base), args.base_scenario)
+        args.base = None
+    elif args.base_scenario is not None:
         raise WrongWords("--base-scenario goes with a file as --base")
-    people = read_counts(words.people, table.origins, f"origin of {words.access}", words.column)
-    asked = Asked(
-        words.base or table.base, words.lose, chosen_kinds(table, words.opportunity, words.percentile, words.cutoff)
+    people = read_counts(args.people, table.origins, f"origin of {args.access}", args.column)
+    options = EquityOptions(
+        args.base or table.base, args.lose, chosen_kinds(table, args.opportunity, args.percentile, args.cutoff)
     )
-    if words.measure:
-        return further(words, table, people, asked.kinds)
-    figure = figure_of(table, people, asked) if words.picture else None
-    with output(words.out) as file:
-        write_equity(file, measured(table, people, asked), words.form)
+    if args.measure:
+        return further(args, table, people, options.kinds)
+    figure = figure_of(table, people, options) if args.picture else None
+    with output(args.out) as file:
+        write_equity(file, measured(table, people, options), args.form)
     if figure is not None:
-        with output(words.picture) as file:
+        with output(args.picture) as file:
             figure.savefig(file, format="png", dpi="figure")
     return 0
 
 
-def further(words: argparse.Namespace, table: "AccessTable", people: "Counts", kinds: "Sequence[Kind]") -> int:
+def further(args: argparse.Namespace, table: "AccessTable", people: "Counts", kinds: "Sequence[AccessKind]") -> int:
     """Writes one of the further measures."""
     from ..faults import BadInput, some
     from ..files import output
@@ -99,20 +100,20 @@ def further(words: argparse.Namespace, table: "AccessTable", people: "Counts", k
     from ..views.fairness import FairnessOptions, lines_of, write_fairness
 
     rank = None
-    if words.rank:
-        found = read_counts([words.rank], table.origins, f"origin of {words.access}")
+    if args.rank:
+        found = read_counts([args.rank], table.origins, f"origin of {args.access}")
         if len(found.names) > 1:
-            raise BadInput(words.rank, f"it has the columns {some(found.names)}: a rank is one")
+            raise BadInput(args.rank, f"it has the columns {some(found.names)}: a rank is one")
         rank = found.numbers[:, 0]
-        named = {name for _, (name,) in rows(words.rank, [identifier_of(words.rank)])}
+        named = {name for _, (name,) in rows(args.rank, [identifier_of(args.rank)])}
         lost = [shown(name) for name in table.origins if name not in named]
         if lost:
-            raise BadInput(words.rank, f"has no rank of {len(lost):,} origins of {words.access}: {some(lost)}")
-    with output(words.out) as file:
+            raise BadInput(args.rank, f"has no rank of {len(lost):,} origins of {args.access}: {some(lost)}")
+    with output(args.out) as file:
         write_fairness(
             file,
-            lines_of(table, people, FairnessOptions(words.measure, kinds, rank, words.line)),
-            words.measure,
-            words.form,
+            lines_of(table, people, FairnessOptions(args.measure, kinds, rank, args.line)),
+            args.measure,
+            args.form,
         )
     return 0

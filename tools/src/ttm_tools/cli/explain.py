@@ -4,7 +4,7 @@ import argparse
 import re
 from typing import TYPE_CHECKING
 
-from .options import add_number, add_out, add_text, day
+from .options import Range, add_number, add_out, add_text, day
 
 if TYPE_CHECKING:
     from ..engine import Run
@@ -33,76 +33,76 @@ def clock(text: str) -> str:
 
 def describe(parser: argparse.ArgumentParser) -> None:
     parser.add_argument("feed", metavar="FEED", help="the folder of an unpacked feed")
-    told = "scenario files, each compared with the feed as it is"
-    parser.add_argument("scenarios", metavar="SCENARIO", nargs="*", help=told)
-    for name, told in (("--origin", "where the journey begins"), ("--destination", "and where it ends")):
-        parser.add_argument(name, metavar="STOP", help=f"the stop {told} (without it, --pairs is needed)")
-    told = "many of these, a file with the columns origin and destination: a table of their journeys as CSV"
-    add_text(parser, "--pairs", "FILE", told, without="one is told leg by leg")
-    told = "the day of the departures, YYYYMMDD or YYYY-MM-DD, of the years 1 to 9999 (needed)"
-    parser.add_argument("--date", metavar="DATE", type=day, required=True, help=told)
-    for name, told in (("--from", "first"), ("--to", "last")):
-        help = f"the {told} departure, one each minute, 00:00 to 23:59 (needed)"
-        parser.add_argument(name, dest=told, metavar="HH:MM", type=clock, required=True, help=help)
-    add_number(parser, "--trips", "the maximum number of vehicles of a journey", "", (1, 8), default=4)
-    add_number(parser, "--walk", "the longest walk", "seconds", (0, 7200), default=600)
-    add_number(parser, "--share", "the percentile of the departures, one", "percent", (1, 100), default=50)
-    add_number(parser, "--back", "service days before the date that count", "days", (0, 6), default=1)
-    add_number(parser, "--ahead", "service days after the date that count", "days", (0, 6), default=1)
+    what = "scenario files, each compared with the feed as it is"
+    parser.add_argument("scenarios", metavar="SCENARIO", nargs="*", help=what)
+    for name, what in (("--origin", "where the journey begins"), ("--destination", "and where it ends")):
+        parser.add_argument(name, metavar="STOP", help=f"the stop {what} (without it, --pairs is needed)")
+    what = "many of these, a file with the columns origin and destination: a table of their journeys as CSV"
+    add_text(parser, "--pairs", "FILE", what, without="one is told leg by leg")
+    what = "the day of the departures, YYYYMMDD or YYYY-MM-DD, of the years 1 to 9999 (needed)"
+    parser.add_argument("--date", metavar="DATE", type=day, required=True, help=what)
+    for name, what in (("--from", "first"), ("--to", "last")):
+        help = f"the {what} departure, one each minute, 00:00 to 23:59 (needed)"
+        parser.add_argument(name, dest=what, metavar="HH:MM", type=clock, required=True, help=help)
+    add_number(parser, "--trips", "the maximum number of vehicles of a journey", Range("", 1, 8), default=4)
+    add_number(parser, "--walk", "the longest walk", Range("seconds", 0, 7200), default=600)
+    add_number(parser, "--share", "the percentile of the departures, one", Range("percent", 1, 100), default=50)
+    add_number(parser, "--back", "service days before the date that count", Range("days", 0, 6), default=1)
+    add_number(parser, "--ahead", "service days after the date that count", Range("days", 0, 6), default=1)
     add_text(parser, "--footpaths", "FILE", "walks in addition to those of the feed", without="there are none")
-    told = "a matrix that has the cell, instead of a run of ttm"
-    add_text(parser, "--matrix", "FILE", told, without="ttm is run")
-    told = "the program ttm"
-    add_text(parser, "--program", "PATH", told, without="TTM_PROGRAM, or that on the path, or the one built here")
-    told = "a picture of the durations by departure, as PNG; needs matplotlib"
-    add_text(parser, "--picture", "FILE", told, without="none is drawn")
+    what = "a matrix that has the cell, instead of a run of ttm"
+    add_text(parser, "--matrix", "FILE", what, without="ttm is run")
+    what = "the program ttm"
+    add_text(parser, "--program", "PATH", what, without="TTM_PROGRAM, or that on the path, or the one built here")
+    what = "a picture of the durations by departure, as PNG; needs matplotlib"
+    add_text(parser, "--picture", "FILE", what, without="none is drawn")
     add_out(parser, "the file of the text")
     for name in UNUSED:
-        told = "an option of ttm that changes no journey (without it, nothing changes)"
-        parser.add_argument(f"--{name}", metavar="VALUE", help=told)
+        what = "an option of ttm that changes no journey (without it, nothing changes)"
+        parser.add_argument(f"--{name}", metavar="VALUE", help=what)
 
 
-def asked_of(words: argparse.Namespace) -> "Run":
+def run_of(args: argparse.Namespace) -> "Run":
     """The run of `ttm` that these arguments ask for."""
     from ..engine import Run
     from ..faults import WrongWords
 
-    if words.last < words.first:
+    if args.last < args.first:
         raise WrongWords("--to is before --from")
-    files = {} if words.footpaths is None else {"footpaths": words.footpaths}
-    how = {"trips": words.trips, "walk": words.walk, "back": words.back, "ahead": words.ahead}
-    window = (words.first, words.last)
-    return Run(words.feed, words.date, window, shares=[words.share], scenarios=words.scenarios, files=files, **how)
+    files = {} if args.footpaths is None else {"footpaths": args.footpaths}
+    how = {"trips": args.trips, "walk": args.walk, "back": args.back, "ahead": args.ahead}
+    window = (args.first, args.last)
+    return Run(args.feed, args.date, window, shares=[args.share], scenarios=args.scenarios, files=files, **how)
 
 
-def run(words: argparse.Namespace) -> int:
+def run(args: argparse.Namespace) -> int:
     from ..faults import WrongWords, needs
 
-    one = [words.origin, words.destination, words.picture]
-    if any(it is not None for it in one) if words.pairs else None in one[:2]:
+    one = [args.origin, args.destination, args.picture]
+    if any(value is not None for value in one) if args.pairs else None in one[:2]:
         raise WrongWords("--origin and --destination are needed, or --pairs alone, without --picture")
-    needs("numpy", "pandas", *(["matplotlib"] if words.picture else []))
+    needs("numpy", "pandas", *(["matplotlib"] if args.picture else []))
     from ..explanation import found_of
     from ..files import output
     from ..views.departures import figure_of
     from ..views.journeys import text_of
 
-    run, ends = asked_of(words), (words.origin, words.destination)
-    if words.pairs:
-        return table_of(words, run)
-    asked, found = found_of(run, words.date, *ends, program=words.program, matrix=words.matrix)
-    lines = list(text_of(asked, found))
-    figure = figure_of(asked, found) if words.picture else None
-    with output(words.out) as file:
+    run, ends = run_of(args), (args.origin, args.destination)
+    if args.pairs:
+        return table_of(args, run)
+    question, found = found_of(run, args.date, *ends, program=args.program, matrix=args.matrix)
+    lines = list(text_of(question, found))
+    figure = figure_of(question, found) if args.picture else None
+    with output(args.out) as file:
         for line in lines:
             file.write(line.encode("utf-8", "backslashreplace") + b"\n")
     if figure is not None:
-        with output(words.picture) as file:
+        with output(args.picture) as file:
             figure.savefig(file, format="png", dpi="figure")
     return 0
 
 
-def table_of(words: argparse.Namespace, run: "Run") -> int:
+def table_of(args: argparse.Namespace, run: "Run") -> int:
     """Writes the table of the journeys of many pairs."""
     from ..explanation import all_found
     from ..faults import BadInput
@@ -110,10 +110,10 @@ def table_of(words: argparse.Namespace, run: "Run") -> int:
     from ..records import rows, write_rows
     from ..views.itineraries import HEADS, MORE, lines_of
 
-    pairs = list(dict.fromkeys((one, other) for _, (one, other) in rows(words.pairs, ["origin", "destination"])))
+    pairs = list(dict.fromkeys((one, other) for _, (one, other) in rows(args.pairs, ["origin", "destination"])))
     if not pairs:
-        raise BadInput(words.pairs, "no pairs")
-    found = all_found(run, words.date, pairs, program=words.program, matrix=words.matrix)
-    with output(words.out) as file:
-        write_rows(file, [*HEADS, *MORE], (line for asked, of in found for line in lines_of(asked, of)))
+        raise BadInput(args.pairs, "no pairs")
+    found = all_found(run, args.date, pairs, program=args.program, matrix=args.matrix)
+    with output(args.out) as file:
+        write_rows(file, [*HEADS, *MORE], (line for question, of in found for line in lines_of(question, of)))
     return 0

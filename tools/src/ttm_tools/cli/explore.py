@@ -4,10 +4,10 @@ import argparse
 from typing import TYPE_CHECKING
 
 from .explain import clock
-from .options import add_number, add_text, day
+from .options import Range, add_number, add_text, day
 
 if TYPE_CHECKING:
-    from ..explore.wish import Wish
+    from ..explore.options import ExploreOptions
 
 TOLD = "a page on this machine: click, see travel times, change the network, see again"
 HELP = """\
@@ -24,85 +24,91 @@ saved has copies of them.
 
 `ttm` keeps the network and answers the page. The page asks nobody else, and only this machine can ask: the address has
 a token that changes with each start. Ctrl-C ends it. Files are written into --out alone. Needs flask, jinja2, pandas
-and Leaflet from Debian's libjs-leaflet. Memory: that of a run of ttm, and 400 bytes for each stop time."""
+and Leaflet from Debian's libjs-leaflet. Memory: that of a run of ttm, 120 MB, and 30 bytes for each stop time; a
+journey takes 30 bytes more for each, and 55 bytes in a network with changes. While a changed network begins, there are
+two of them."""
 
 
 def describe(parser: argparse.ArgumentParser) -> None:
-    told = (
+    meaning = (
         "the folder of an unpacked feed that ttm takes; or a study's file, whose feed, day, window and plan are taken"
     )
-    parser.add_argument("feed", metavar="FEED", help=told)
-    told = "the day of the departures, YYYYMMDD or YYYY-MM-DD, of the years 1 to 9999 (without it, that of the study)"
-    parser.add_argument("--date", metavar="DATE", type=day, help=told)
-    for name, told, at in (("--from", "first", "07:30"), ("--to", "last", "08:29")):
-        help = f"the {told} departure at first, one each minute, 00:00 to 23:59 (default {at})"
-        parser.add_argument(name, dest=told, metavar="HH:MM", type=clock, default=at, help=help)
-    add_number(parser, "--trips", "the most vehicles of a journey at first", "", (1, 8), default=4)
-    add_number(parser, "--walk", "the longest walk at first", "seconds", (0, 7200), default=600)
-    add_number(parser, "--back", "service days before the date that count", "days", (0, 6), default=1)
-    add_number(parser, "--ahead", "service days after the date that count", "days", (0, 6), default=1)
-    add_text(parser, "--footpaths", "FILE", "walks beside those of the feed", without="there are none")
-    told = "make walks along the streets of a file of OpenStreetMap (.osm.pbf, .osm); needs pyosmium and scipy"
-    add_text(parser, "--streets", "FILE", told, without="--footpaths, or straight lines to cells")
-    told = "square cells wherever a stop is within a walk, each of them a place to click on; their side"
-    add_number(parser, "--grid", told, "metres", (10, 100000), without="stops alone", whole=False)
+    parser.add_argument("feed", metavar="FEED", help=meaning)
+    meaning = (
+        "the day of the departures, YYYYMMDD or YYYY-MM-DD, of the years 1 to 9999 (without it, that of the study)"
+    )
+    parser.add_argument("--date", metavar="DATE", type=day, help=meaning)
+    for name, meaning, at in (("--from", "first", "07:30"), ("--to", "last", "08:29")):
+        help = f"the {meaning} departure at first, one each minute, 00:00 to 23:59 (default {at})"
+        parser.add_argument(name, dest=meaning, metavar="HH:MM", type=clock, default=at, help=help)
+    add_number(parser, "--trips", "the most vehicles of a journey at first", Range("", 1, 8), default=4)
+    add_number(parser, "--walk", "the longest walk at first", Range("seconds", 0, 7200), default=600)
+    add_number(parser, "--back", "service days before the date that count", Range("days", 0, 6), default=1)
+    add_number(parser, "--ahead", "service days after the date that count", Range("days", 0, 6), default=1)
+    add_text(parser, "--footpaths", "FILE", "walks in addition to those of the feed", without="there are none")
+    meaning = "make walks along the streets of a file of OpenStreetMap (.osm.pbf, .osm); needs pyosmium and scipy"
+    add_text(parser, "--streets", "FILE", meaning, without="--footpaths, or straight lines to cells")
+    meaning = "square cells wherever a stop is within a walk, each of them a place to click on; their side"
+    add_number(parser, "--grid", meaning, Range("metres", 10, 100000, whole=False), without="stops alone")
     add_text(parser, "--plan", "FILE", "a plan whose scenarios are compared with today", without="there is none")
-    told = "a file with what each stop has, whose columns are counted; may be given more than once (without it, stops)"
-    parser.add_argument("--opportunities", metavar="FILE", action="append", default=[], help=told)
+    meaning = (
+        "a file with what each stop has, whose columns are counted; may be given more than once (without it, stops)"
+    )
+    parser.add_argument("--opportunities", metavar="FILE", action="append", default=[], help=meaning)
     add_text(parser, "--title", "TEXT", "what stands above the page", without="the feed's name")
     add_text(parser, "--out", "FOLDER", "where studies are saved", default="explored")
-    add_number(parser, "--port", "where the page is served; 0 takes a free one", "", (0, 65535), default=0)
-    told = "print the address alone (without it, a browser opens it)"
-    parser.add_argument("--no-browser", action="store_true", help=told)
-    told = "the program ttm"
-    add_text(parser, "--program", "PATH", told, without="TTM_PROGRAM, or that on the path, or the one built here")
+    add_number(parser, "--port", "where the page is served; 0 takes a free one", Range("", 0, 65535), default=0)
+    meaning = "print the address alone (without it, a browser opens it)"
+    parser.add_argument("--no-browser", action="store_true", help=meaning)
+    meaning = "the program ttm"
+    add_text(parser, "--program", "PATH", meaning, without="TTM_PROGRAM, or that on the path, or the one built here")
     add_text(parser, "--leaflet", "FOLDER", "where Leaflet lies", default="/usr/share/javascript/leaflet")
 
 
-def wish_of(words: argparse.Namespace) -> "Wish":
+def options_of(args: argparse.Namespace) -> "ExploreOptions":
     """What these arguments ask for."""
     from datetime import date
 
-    from ..explore.of_study import wish_of_study
-    from ..explore.wish import OF_NO_OPTION, Wish
+    from ..explore.of_study import options_of_study
+    from ..explore.options import OF_NO_OPTION, ExploreOptions
     from ..faults import WrongWords
 
-    if words.last < words.first:
+    if args.last < args.first:
         raise WrongWords("--to is before --from")
-    is_study = words.feed.endswith(".toml")
-    if words.date is None and not is_study:
+    is_study = args.feed.endswith(".toml")
+    if args.date is None and not is_study:
         raise WrongWords("--date is needed where no study is named")
-    names = [name for name in Wish.__dataclass_fields__ if name not in OF_NO_OPTION]
-    known = {name: getattr(words, name) for name in names}
-    made = Wish(window=(words.first, words.last), date=words.date or date.min, **known)
-    return wish_of_study(words.feed, made) if is_study else made
+    names = [name for name in ExploreOptions.__dataclass_fields__ if name not in OF_NO_OPTION]
+    known = {name: getattr(args, name) for name in names}
+    options = ExploreOptions(window=(args.first, args.last), date=args.date or date.min, **known)
+    return options_of_study(args.feed, options) if is_study else options
 
 
-def run(words: argparse.Namespace) -> int:
+def run(args: argparse.Namespace) -> int:
     from ..faults import needs, say
 
     needs("numpy", "pandas", "jinja2", "flask")
-    wish = wish_of(words)
+    options = options_of(args)
     from ..explore.application import application
     from ..explore.exploration import Exploration
     from ..explore.guard import Guard
-    from ..explore.making import made
+    from ..explore.making import with_generated
     from ..explore.serving import bound, serve
     from ..files import scratch
     from ..views.page.document import leaflet_files
 
-    leaflet_files(wish.leaflet)
-    own = bound(words.port)
+    leaflet_files(options.leaflet)
+    own = bound(args.port)
     guard = Guard(int(own.getsockname()[1]))
     with own, scratch("explore") as room:
-        wish, sentences = made(wish, room)
+        options, sentences = with_generated(options, room)
         say(*sentences)
-        exploration = Exploration(wish, room)
+        exploration = Exploration(options, room)
         try:
             say("The page is at the address below, for this machine alone, until Ctrl-C ends it.")
             print(guard.address, flush=True)
             exploration.read_ahead()
-            serve(application(exploration, guard), own, None if words.no_browser else guard.address)
+            serve(application(exploration, guard), own, None if args.no_browser else guard.address)
         finally:
             exploration.close()
     return 0

@@ -2,7 +2,18 @@
 
 import argparse
 
-from .options import add_matrix, add_numbers, add_points, add_share, add_text, opened, scenarios_of
+from .options import (
+    Range,
+    add_matrix,
+    add_numbers,
+    add_points,
+    add_several,
+    add_share,
+    add_text,
+    gis_kind,
+    opened,
+    scenarios_of,
+)
 
 TOLD = "stops with access and travel times, for a geographic information system"
 HELP = """\
@@ -19,25 +30,22 @@ def describe(parser: argparse.ArgumentParser) -> None:
     parser.add_argument("--feed", metavar="FOLDER", required=True, help="the unpacked feed of the matrix (needed)")
     add_points(parser)
     add_text(parser, "--origin", "STOP", "the stop whose travel times are written", without="access alone")
-    told = "a file with what each stop has, for --nearest; may be given more than once (without it, none)"
-    parser.add_argument("--opportunities", metavar="FILE", action="append", default=[], help=told)
-    told = "how many of them are to be reached, between commas; needs --opportunities"
-    add_numbers(parser, "--nearest", told, "", (1e-9, 1e15), without="no such columns")
-    told = "a scenario that is taken; may be given several times (without it, all are)"
-    parser.add_argument("--scenario", metavar="NAME", action="append", help=told)
+    add_several(parser, "--opportunities", "FILE", "a file with what each stop has, for --nearest", without="none")
+    what = "how many of them are to be reached, between commas; needs --opportunities"
+    add_numbers(parser, "--nearest", what, Range("", 1e-9, 1e15, whole=False), without="no such columns")
+    what = "a scenario that is taken; may be given several times (without it, all are)"
+    parser.add_argument("--scenario", metavar="NAME", action="append", help=what)
     add_share(parser, without="all")
-    told = "where the points are written: .geojson, .json or .gpkg; the file gets its name when it is whole (needed)"
-    parser.add_argument("--out", metavar="FILE", required=True, help=told)
+    what = "where the points are written: .geojson, .json or .gpkg; the file gets its name when it is whole (needed)"
+    parser.add_argument("--out", metavar="FILE", required=True, help=what)
     add_matrix(parser)
 
 
-def run(words: argparse.Namespace) -> int:
+def run(args: argparse.Namespace) -> int:
     from ..faults import WrongWords, needs, say
 
-    kind = words.out.rsplit(".", 1)[-1].lower()
-    if kind not in ("geojson", "json", "gpkg"):
-        raise WrongWords("--out ends in .geojson, .json or .gpkg")
-    if bool(words.opportunities) != bool(words.nearest):
+    kind = gis_kind(args.out)
+    if bool(args.opportunities) != bool(args.nearest):
         raise WrongWords("--opportunities and --nearest go together")
     needs("numpy", *(["geopandas"] if kind == "gpkg" else []))
     from ..files import output
@@ -45,19 +53,19 @@ def run(words: argparse.Namespace) -> int:
     from ..measures.opportunities import read_counts
     from ..views.gis import features_of, with_nearest, write_geojson, write_geopackage
 
-    matrix, stops = shown_of(opened(words), words.feed, words.points)
+    matrix, stops = shown_of(opened(args), args.feed, args.points)
     assert stops is not None
-    scenarios = scenarios_of(matrix, words.scenario)
-    shares = matrix.shares if words.share is None else [matrix.share(words.share)]
-    counts = read_counts(words.opportunities, matrix.stops, "stop of the matrix") if words.nearest else None
-    features = features_of(matrix, stops, scenarios, shares, words.origin)
+    scenarios = scenarios_of(matrix, args.scenario)
+    shares = matrix.shares if args.share is None else [matrix.share(args.share)]
+    counts = read_counts(args.opportunities, matrix.stops, "stop of the matrix") if args.nearest else None
+    features = features_of(matrix, stops, scenarios, shares, args.origin)
     if counts is not None:
-        features = with_nearest(features, matrix, (scenarios, shares), counts, words.nearest)
+        features = with_nearest(features, matrix, (scenarios, shares), counts, args.nearest)
     if kind == "gpkg":
-        write_geopackage(words.out, features)
+        write_geopackage(args.out, features)
     else:
-        with output(words.out) as file:
+        with output(args.out) as file:
             write_geojson(file, features)
     lost = len(matrix.stops_and_origins()) - len(features.stops.identifiers)
-    say(f"{words.out}: {len(features.stops.identifiers)} stops; {lost} have no coordinates")
+    say(f"{args.out}: {len(features.stops.identifiers)} stops; {lost} have no coordinates")
     return 0

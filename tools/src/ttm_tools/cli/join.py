@@ -13,21 +13,21 @@ repeated, or the origins that are in no part. Memory: the names of the origins."
 
 
 def describe(parser: argparse.ArgumentParser) -> None:
-    told = "the origins of the whole study in their order, a file with the column stop_id, as split writes it (needed)"
-    parser.add_argument("--origins", metavar="FILE", required=True, help=told)
+    what = "the origins of the whole study in their order, a file with the column stop_id, as split writes it (needed)"
+    parser.add_argument("--origins", metavar="FILE", required=True, help=what)
     add_out(parser, "the file of the whole matrix")
     parser.add_argument("matrix", metavar="MATRIX", nargs="+", help="the matrix of a part, as ttm prints it")
 
 
-def run(words: argparse.Namespace) -> int:
+def run(args: argparse.Namespace) -> int:
     from ..faults import needs
 
     needs("numpy")
     from ..files import output
-    from ..parts import Part, in_order, origins_in, write_whole
+    from ..parts import PartMatrix, in_order, origins_in, write_whole
 
-    origins = origins_in(words.origins)
-    parts = in_order([Part(path) for path in words.matrix], origins, words.origins)
-    with output(words.out) as file:
+    origins = origins_in(args.origins)
+    parts = in_order([PartMatrix(path) for path in args.matrix], origins, args.origins)
+    with output(args.out) as file:
         write_whole(parts, file)
     return 0

@@ -9,7 +9,7 @@ from .options import add_feed, add_matrix, add_out, add_points, add_share, add_t
 
 if TYPE_CHECKING:
     from ..matrices import Matrix
-    from ..views.long import Choice
+    from ..views.long import TableChoice
 
 TOLD = "a line for each pair, with names and coordinates"
 HELP = """\
@@ -39,78 +39,78 @@ def describe(parser: argparse.ArgumentParser) -> None:
         "the destinations that are taken, a file with the column stop_id",
         without="all",
     )
-    told = "a scenario that is taken; may be given several times (without it, all are)"
-    parser.add_argument("--scenario", metavar="NAME", action="append", help=told)
+    what = "a scenario that is taken; may be given several times (without it, all are)"
+    parser.add_argument("--scenario", metavar="NAME", action="append", help=what)
     add_share(parser, without="all")
     add_within(parser, without="all; goes with --access")
-    told = "leave out the pairs without a travel time (without it, their seconds are empty)"
-    parser.add_argument("--reached", action="store_true", help=told)
-    told = "access of the origins in place of travel times (without it, travel times)"
-    parser.add_argument("--access", action="store_true", help=told)
-    told = "whose names the columns bear (default ttm); r5py's have one scenario and minutes"
-    parser.add_argument("--names", choices=("ttm", "r5py"), default="ttm", help=told)
-    told = "also write the types of the columns, to a file that ends in .csvt, for QGIS (without it, none)"
-    parser.add_argument("--csvt", action="store_true", help=told)
-    told = "write an apostrophe before names that a spreadsheet takes for formulas (without it, as they are)"
-    parser.add_argument("--safe", action="store_true", help=told)
+    what = "leave out the pairs without a travel time (without it, their seconds are empty)"
+    parser.add_argument("--reached", action="store_true", help=what)
+    what = "access of the origins in place of travel times (without it, travel times)"
+    parser.add_argument("--access", action="store_true", help=what)
+    what = "which names the columns have (default ttm); r5py's have one scenario and minutes"
+    parser.add_argument("--names", choices=("ttm", "r5py"), default="ttm", help=what)
+    what = "also write the types of the columns, to a file that ends in .csvt, for QGIS (without it, none)"
+    parser.add_argument("--csvt", action="store_true", help=what)
+    what = "write an apostrophe before names that a spreadsheet takes for formulas (without it, as they are)"
+    parser.add_argument("--safe", action="store_true", help=what)
     add_out(parser, "where the lines are written, as CSV or, where it ends in .parquet, as Parquet")
     add_matrix(parser)
 
 
-def run(words: argparse.Namespace) -> int:
+def run(args: argparse.Namespace) -> int:
     from ..faults import WrongWords, needs
 
-    if words.within is not None and not words.access:
+    if args.within is not None and not args.access:
         raise WrongWords("--within goes with --access")
-    if words.names == "r5py" and words.access:
+    if args.names == "r5py" and args.access:
         raise WrongWords("--names r5py goes with travel times, not with --access")
-    parquet = words.out is not None and words.out.endswith(".parquet")
-    if parquet and words.access:
+    parquet = args.out is not None and args.out.endswith(".parquet")
+    if parquet and args.access:
         raise WrongWords("--access is written as CSV")
-    if words.csvt and (parquet or words.out is None):
+    if args.csvt and (parquet or args.out is None):
         raise WrongWords("--csvt needs --out, the name of a CSV")
     needs("numpy", *(["pandas"] if parquet else []))
     from ..files import output
     from ..points.shown import shown_of
     from ..views import long
 
-    matrix, stops = shown_of(opened(words), words.feed, words.points)
-    if words.safe and stops is not None:
+    matrix, stops = shown_of(opened(args), args.feed, args.points)
+    if args.safe and stops is not None:
         stops = replace(stops, names=list(map(long.safe, stops.names)))
-    choice = choice_of(words, matrix)
+    choice = choice_of(args, matrix)
     if parquet:
-        long.write_parquet(words.out, long.frames_of(matrix, choice, stops))
+        long.write_parquet(args.out, long.frames_of(matrix, choice, stops))
         return 0
     count = 0
-    with output(words.out) as file:
-        if words.access:
-            long.write_access(file, matrix, choice, words.within, stops)
+    with output(args.out) as file:
+        if args.access:
+            long.write_access(file, matrix, choice, args.within, stops)
         else:
             count = long.write_times(file, matrix, choice, stops)
-    if words.csvt:
-        header = long.access_header(matrix, stops) if words.access else long.header_of(matrix, choice, stops)
-        with output(f"{words.out}t") as file:
+    if args.csvt:
+        header = long.access_header(matrix, stops) if args.access else long.header_of(matrix, choice, stops)
+        with output(f"{args.out}t") as file:
             file.write((",".join(f'"{long.type_of(name)}"' for name in header) + "\n").encode("ascii"))
     if count > long.MOST_LINES:
-        told = f"{count:,} lines, of which a spreadsheet shows {long.MOST_LINES:,}: take some by --origins"
-        print(f"{words.out or 'standard output'}: {told}", file=sys.stderr)
+        sentence = f"{count:,} lines, of which a spreadsheet shows {long.MOST_LINES:,}: take some by --origins"
+        print(f"{args.out or 'standard output'}: {sentence}", file=sys.stderr)
     return 0
 
 
-def choice_of(words: argparse.Namespace, matrix: "Matrix") -> "Choice":
+def choice_of(args: argparse.Namespace, matrix: "Matrix") -> "TableChoice":
     """What is taken of the matrix."""
     from ..faults import BadInput
     from ..gtfs.stops import read_list
-    from ..views.long import Choice
+    from ..views.long import TableChoice
 
-    named = scenarios_of(matrix, words.scenario)
+    named = scenarios_of(matrix, args.scenario)
     scenarios = [name for name in matrix.scenarios if name in named]
-    if words.names == "r5py" and len(scenarios) > 1:
+    if args.names == "r5py" and len(scenarios) > 1:
         raise BadInput(
-            words.matrix, f"r5py's columns name no scenario, and it has {', '.join(scenarios)}: name one by --scenario"
+            args.matrix, f"r5py's columns name no scenario, and it has {', '.join(scenarios)}: name one by --scenario"
         )
-    shares = matrix.shares if words.share is None else [matrix.share(words.share)]
+    shares = matrix.shares if args.share is None else [matrix.share(args.share)]
     known = [name for scenario in matrix.scenarios for name in matrix.origins(scenario, shares[0])]
-    origins = read_list(words.origins, known, "origin") if words.origins else None
-    destinations = read_list(words.destinations, matrix.stops, "stop") if words.destinations else matrix.stops
-    return Choice(scenarios, shares, origins, destinations, words.reached, words.names == "r5py")
+    origins = read_list(args.origins, known, "origin") if args.origins else None
+    destinations = read_list(args.destinations, matrix.stops, "stop") if args.destinations else matrix.stops
+    return TableChoice(scenarios, shares, origins, destinations, args.reached, args.names == "r5py")

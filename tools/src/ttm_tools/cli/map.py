@@ -4,14 +4,26 @@ import argparse
 import math
 from typing import TYPE_CHECKING
 
-from .options import add_base, add_matrix, add_number, add_points, add_share, add_text, add_within, opened
+from .options import (
+    Range,
+    add_base,
+    add_matrix,
+    add_number,
+    add_points,
+    add_several,
+    add_share,
+    add_text,
+    add_walking,
+    add_within,
+    opened,
+)
 
 if TYPE_CHECKING:
     from ..gtfs.stops import Stops
     from ..matrices import Matrix
     from ..views.maps import Areas
     from ..views.nearest import Nearest
-    from ..views.pictures import Wish
+    from ..views.pictures import PictureOptions
 
 TOLD = "a picture of travel times, of access, or of a difference"
 HELP = """\
@@ -56,105 +68,92 @@ def describe(parser: argparse.ArgumentParser) -> None:
     missing = "the base, in a difference the only other one"
     add_text(parser, "--scenario", "NAME", "the scenario that is drawn", without=missing)
     add_base(parser)
-    told = "a file with what each stop has, for nearest: a column stop_id (or id), and columns of numbers"
-    add_text(parser, "--opportunities", "FILE", told, without="nearest isn't drawn")
+    what = "a file with what each stop has, for nearest: a column stop_id (or id), and columns of numbers"
+    add_text(parser, "--opportunities", "FILE", what, without="nearest isn't drawn")
     add_text(parser, "--column", "NAME", "the column of it that is looked for", without="the only one")
-    told = "how many of these are to be reached"
-    add_number(parser, "--nearest", told, "", (1e-9, 1e15), without="1, and in a difference access", whole=False)
+    what = "how many of these are to be reached"
+    add_number(parser, "--nearest", what, Range("", 1e-9, 1e15, whole=False), without="1, and in a difference access")
     add_share(parser)
     add_within(parser)
-    told = (
-        "a scenario file, named as its scenario, whose trips are drawn; may be given more than once (without it, none)"
-    )
-    parser.add_argument("--edits", metavar="FILE", action="append", default=[], help=told)
-    add_walking(parser)
+    what = "a scenario file, named as its scenario, whose trips are drawn"
+    add_several(parser, "--edits", "FILE", what, without="none")
+    add_walking(parser, ", in isochrones", " there")
     add_text(parser, "--unit", "WORD", "what is counted as access, such as jobs", default="opportunities")
-    told = "where classes begin, ascending numbers above 0 between commas: of minutes, of access, or of percent"
+    what = "where classes begin, ascending numbers above 0 between commas: of minutes, of access, or of percent"
     missing = (
         "default 10,20,30,45,60,90 minutes, of isochrones 15,30,45,60; in a difference 1,5,15 minutes or 1,5,10,25 %%; "
         "of access round numbers"
     )
-    parser.add_argument("--breaks", metavar="N,N..", type=breaks_of, help=f"{told} ({missing})")
+    parser.add_argument("--breaks", metavar="N,N..", type=breaks_of, help=f"{what} ({missing})")
     add_text(parser, "--title", "TEXT", "what stands above the map", without="what is drawn")
     add_text(parser, "--note", "TEXT", "what else a reader needs to know", without="nothing")
-    add_number(parser, "--width", "how wide the picture is", "pixels", (300, 10000), default=1350)
+    add_number(parser, "--width", "how wide the picture is", Range("pixels", 300, 10000), default=1350)
     add_text(
         parser, "--out", "FILE", "where the picture is written; it gets its name when it is whole", default="map.png"
     )
 
 
-def add_walking(parser: argparse.ArgumentParser) -> None:
-    """How isochrones go on from a stop."""
-    add_number(parser, "--walk", "how long you walk on from a stop at most, in isochrones", "seconds", (0, 7200), 600)
-    add_number(parser, "--speed", "how fast you walk there", "m/s", (0.01, 100), default=1.33, whole=False)
-    told = "metres of way for a metre of straight line"
-    add_number(parser, "--detour", told, "", (1, 100), default=1.3, whole=False)
-    add_text(parser, "--streets", "FILE", "a file of OpenStreetMap, along whose ways you walk on", without="circles")
-    told = "the greatest distance of a stop from a way"
-    add_number(parser, "--near", told, "metres", (0, 10000), default=100, whole=False)
-
-
-def run(words: argparse.Namespace) -> int:
+def run(args: argparse.Namespace) -> int:
     from ..faults import WrongWords, needs
 
-    if words.picture in ("times", "isochrones") and words.origin is None:
-        raise WrongWords(f"{words.picture} needs --origin")
-    of_nearest = words.picture == "nearest" or words.nearest is not None
+    if args.picture in ("times", "isochrones") and args.origin is None:
+        raise WrongWords(f"{args.picture} needs --origin")
+    of_nearest = args.picture == "nearest" or args.nearest is not None
     if of_nearest and (
-        words.picture in ("times", "access", "isochrones") or words.opportunities is None or words.origin is not None
+        args.picture in ("times", "access", "isochrones") or args.opportunities is None or args.origin is not None
     ):
         raise WrongWords("--nearest goes with nearest or difference, needs --opportunities, and takes no --origin")
-    shapes = ["shapely", *(["osmium", "scipy"] if words.streets else [])] if words.picture == "isochrones" else []
+    shapes = ["shapely", *(["osmium", "scipy"] if args.streets else [])] if args.picture == "isochrones" else []
     needs("numpy", "pandas", "matplotlib", *shapes)
     from ..files import output
     from ..points.shown import shown_of
     from ..views.lines import planned_of
     from ..views.maps import Sheet, figure_of, figure_of_isochrones, picture_of
-    from ..views.pictures import Wish
+    from ..views.pictures import PictureOptions
 
-    whole = opened(words)
-    matrix, stops = shown_of(whole, words.feed, words.points)
+    whole = opened(args)
+    matrix, stops = shown_of(whole, args.feed, args.points)
     assert stops is not None
     stops.of(matrix.stops)
     what = "stops" if matrix is whole else "points"
-    base, loses = words.base or matrix.base, words.picture == "difference"
-    wish = Wish(words.scenario, base, words.share, words.within, words.breaks, words.unit, what)
-    scenario = words.scenario or (matrix.other(base, None) if loses else base)
-    planned = planned_of(words.feed, words.edits, base, scenario, loses)
-    sheet = Sheet(words.title, words.note or "", words.width, words.edits, planned)
-    if words.picture == "isochrones":
-        figure = figure_of_isochrones(matrix, stops, words.feed, sheet, areas_of(words, matrix, stops, wish))
+    base, loses = args.base or matrix.base, args.picture == "difference"
+    options = PictureOptions(args.scenario, base, args.share, args.within, args.breaks, args.unit, what)
+    scenario = args.scenario or (matrix.other(base, None) if loses else base)
+    planned = planned_of(args.feed, args.edits, base, scenario, loses)
+    sheet = Sheet(args.title, args.note or "", args.width, args.edits, planned)
+    if args.picture == "isochrones":
+        figure = figure_of_isochrones(matrix, stops, args.feed, sheet, areas_of(args, matrix, stops, options))
     else:
-        sought = sought_of(words, matrix) if of_nearest else None
-        picture = picture_of(words.picture, matrix, stops, words.origin, wish, sought)
-        figure = figure_of(picture, matrix, stops, words.feed, sheet, base if loses else None)
-    with output(words.out) as file:
+        sought = sought_of(args, matrix) if of_nearest else None
+        picture = picture_of(args.picture, matrix, stops, args.origin, options, sought)
+        figure = figure_of(picture, matrix, stops, args.feed, sheet, base if loses else None)
+    with output(args.out) as file:
         figure.savefig(file, format="png", dpi="figure")
     return 0
 
 
-def areas_of(words: argparse.Namespace, matrix: "Matrix", stops: "Stops", wish: "Wish") -> "Areas":
+def areas_of(args: argparse.Namespace, matrix: "Matrix", stops: "Stops", options: "PictureOptions") -> "Areas":
     """The isochrones that are drawn."""
     from ..points.shown import points_in
     from ..views import isochrones
     from ..views.maps import Areas
 
     there = stops.of(matrix.stops)
-    ground = isochrones.ground_of(there, isochrones.polygons_of(words.points or points_in(words.feed)))
-    walking = isochrones.Walking(words.speed, words.detour, words.walk)
-    if words.streets:
-        ground = isochrones.along_streets(ground, there, words.streets, walking, words.near)
-    return Areas(words.origin, wish, ground, walking)
+    ground = isochrones.ground_of(there, isochrones.polygons_of(args.points or points_in(args.feed)))
+    walking = isochrones.Walking(args.speed, args.detour, args.walk)
+    if args.streets:
+        ground = isochrones.along_streets(ground, there, args.streets, walking, args.near)
+    return Areas(args.origin, options, ground, walking)
 
 
-def sought_of(words: argparse.Namespace, matrix: "Matrix") -> "Nearest":
+def sought_of(args: argparse.Namespace, matrix: "Matrix") -> "Nearest":
     """The opportunities of which the nearest are looked for."""
     from ..faults import BadInput, some
     from ..measures.opportunities import read_counts
     from ..views.nearest import Nearest
 
-    asked = [words.column] if words.column else []
-    counts = read_counts([words.opportunities], matrix.stops, "stop of the matrix", asked)
+    columns = [args.column] if args.column else []
+    counts = read_counts([args.opportunities], matrix.stops, "stop of the matrix", columns)
     if len(counts.names) > 1:
-        raise BadInput(words.opportunities, f"it has the columns {some(counts.names)}: name one by --column")
-    return Nearest(counts.names[0], counts.numbers[:, 0], words.nearest or 1.0)
+        raise BadInput(args.opportunities, f"it has the columns {some(counts.names)}: name one by --column")
+    return Nearest(counts.names[0], counts.numbers[:, 0], args.nearest or 1.0)

@@ -14,15 +14,15 @@ read once. Needs h5py. Memory: some 100 MB."""
 
 
 def describe(parser: argparse.ArgumentParser) -> None:
-    told = "the study's list of origins, a file with the column stop_id: the matrix must have all, in order"
-    add_text(parser, "--origins", "FILE", told, without="a truncation of all scenarios is not detected")
+    what = "the study's list of origins, a file with the column stop_id: the matrix must have all, in order"
+    add_text(parser, "--origins", "FILE", what, without="a truncation of all scenarios is not detected")
     add_points(parser, "all stops")
-    told = "the Open Matrix file, which appears only when it is complete (needed)"
-    parser.add_argument("--out", metavar="FILE", required=True, help=told)
+    what = "the Open Matrix file, which appears only when it is complete (needed)"
+    parser.add_argument("--out", metavar="FILE", required=True, help=what)
     parser.add_argument("matrix", metavar="MATRIX", help="a matrix as ttm prints it")
 
 
-def run(words: argparse.Namespace) -> int:
+def run(args: argparse.Namespace) -> int:
     from ..faults import needs
 
     needs("numpy", "h5py")
@@ -30,9 +30,9 @@ def run(words: argparse.Namespace) -> int:
     from ..parts import origins_in
     from ..points.shown import shown_of
 
-    matrix = open_matrix(words.matrix)
+    matrix = open_matrix(args.matrix)
     scenarios_of(matrix, None)
-    if words.origins:
-        has_all(matrix, origins_in(words.origins), words.origins)
-    write_open_matrix(shown_of(matrix, None, words.points)[0], words.out)
+    if args.origins:
+        has_all(matrix, origins_in(args.origins), args.origins)
+    write_open_matrix(shown_of(matrix, None, args.points)[0], args.out)
     return 0

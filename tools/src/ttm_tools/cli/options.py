@@ -3,7 +3,8 @@
 import argparse
 import math
 import os
-from typing import TYPE_CHECKING, Callable, Sequence
+from dataclasses import dataclass
+from typing import TYPE_CHECKING, Sequence
 
 from ..faults import WrongWords, say
 
@@ -16,19 +17,39 @@ if TYPE_CHECKING:
 MOST_LIMIT = 4_294_967_295  # seconds
 
 
-def number(unit: str, least: float, most: float, whole: bool = True) -> Callable[[str], float]:
-    """A reader of numbers of a range, whole ones or any."""
+@dataclass(frozen=True)
+class Range:
+    """The numbers that an option takes."""
 
-    def read(text: str) -> float:
+    unit: str
+    least: float
+    most: float
+    whole: bool = True
+
+    def __str__(self) -> str:
+        return f"{self.least:g} to {self.most:,.10g}{' ' + self.unit if self.unit else ''}"
+
+    @property
+    def metavar(self) -> str:
+        is_word = self.unit.isascii() and self.unit.replace(" ", "").isalpha()
+        return self.unit.upper().replace(" ", "_") if is_word else "N"
+
+    def read(self, text: str) -> float:
+        """One number."""
         try:
-            made = int(text) if whole else float(text)
+            value = int(text) if self.whole else float(text)
         except ValueError:
-            made = math.nan
-        if not least <= made <= most:
-            raise argparse.ArgumentTypeError(f"{text!r} is not {range_told(unit, least, most)}")
-        return made
+            value = math.nan
+        if not self.least <= value <= self.most:
+            raise argparse.ArgumentTypeError(f"{text!r} is not {self}")
+        return value
 
-    return read
+    def read_several(self, text: str) -> list[float]:
+        """Numbers between commas, each greater than the one before it."""
+        values = [self.read(part) for part in text.split(",")]
+        if any(low >= high for low, high in zip(values, values[1:])):
+            raise argparse.ArgumentTypeError(f"{text!r} is not ascending")
+        return values
 
 
 def day(text: str) -> "datetime.date":
@@ -41,90 +62,61 @@ def day(text: str) -> "datetime.date":
         raise argparse.ArgumentTypeError(f"{text!r} is no day, {ALLOWED}") from None
 
 
-def range_told(unit: str, least: float, most: float) -> str:
-    return f"{least:g} to {most:,.10g}{' ' + unit if unit else ''}"
-
-
 def add_number(
     parser: argparse.ArgumentParser,
     name: str,
-    told: str,
-    unit: str,
-    bounds: tuple[float, float],
+    what: str,
+    allowed: Range,
     default: float | None = None,
     without: str = "",
-    whole: bool = True,
 ) -> None:
-    """An option with a number of a unit and a range; without a default it says what happens without it."""
+    """An option with a number; without a default it says what happens without it."""
     missing = f"default {default:g}" if default is not None else f"without it, {without}"
-    parser.add_argument(
-        name,
-        type=number(unit, *bounds, whole),
-        default=default,
-        metavar=unit.upper().replace(" ", "_") if unit.isascii() and unit.replace(" ", "").isalpha() else "N",
-        help=f"{told}: {range_told(unit, *bounds).replace('%', '%%')} ({missing.replace('%', '%%')})",
-    )
-
-
-def numbers(unit: str, least: float, most: float) -> Callable[[str], list[float]]:
-    """A reader of numbers of a range between commas, each greater than the one before it."""
-    one = number(unit, least, most, whole=False)
-
-    def read(text: str) -> list[float]:
-        made = [one(part) for part in text.split(",")]
-        if any(low >= high for low, high in zip(made, made[1:])):
-            raise argparse.ArgumentTypeError(f"{text!r} is not ascending")
-        return made
-
-    return read
+    text = f"{what}: {str(allowed).replace('%', '%%')} ({missing.replace('%', '%%')})"
+    parser.add_argument(name, type=allowed.read, default=default, metavar=allowed.metavar, help=text)
 
 
 def add_numbers(
-    parser: argparse.ArgumentParser,
-    name: str,
-    told: str,
-    unit: str,
-    bounds: tuple[float, float],
-    default: str | None = None,
-    without: str = "",
+    parser: argparse.ArgumentParser, name: str, what: str, allowed: Range, default: str | None = None, without: str = ""
 ) -> None:
-    """An option with one or more numbers of a unit and a range; without a default it says what happens without it."""
+    """An option with one or more numbers; without a default it says what happens without it."""
     missing = f"default {default}" if default is not None else f"without it, {without}"
-    told = f"{told}: {range_told(unit, *bounds)} ({missing})"
-    parser.add_argument(name, type=numbers(unit, *bounds), default=default, metavar="N,N..", help=told)
+    parser.add_argument(
+        name, type=allowed.read_several, default=default, metavar="N,N..", help=f"{what}: {allowed} ({missing})"
+    )
 
 
 def add_text(
-    parser: argparse.ArgumentParser, name: str, metavar: str, told: str, default: str | None = None, without: str = ""
+    parser: argparse.ArgumentParser, name: str, metavar: str, what: str, default: str | None = None, without: str = ""
 ) -> None:
     """An option with a text, such as a path or a name."""
     missing = f"default {default}" if default is not None else f"without it, {without}"
-    parser.add_argument(name, metavar=metavar, default=default, help=f"{told} ({missing})")
+    parser.add_argument(name, metavar=metavar, default=default, help=f"{what} ({missing})")
 
 
 def add_matrix(parser: argparse.ArgumentParser) -> None:
     parser.add_argument(
         "matrix", metavar="MATRIX", help="a matrix as ttm prints it, or an Open Matrix file of ttm-tools omx"
     )
-    told = "the greatest travel time: a pair that takes longer counts as not reached"
-    add_number(parser, "--max-minutes", told, "minutes", (0, 10000), without="each counts", whole=False)
+    what = "the greatest travel time: a pair that takes longer counts as not reached"
+    add_number(parser, "--max-minutes", what, Range("minutes", 0, 10000, whole=False), without="each counts")
 
 
-def opened(words: argparse.Namespace) -> "Matrix":
+def opened(args: argparse.Namespace) -> "Matrix":
     """The matrix that a command names, with the greatest travel time that it names, and beside the base of another file
     where --base names one.
     """
     from ..matrices import Beside, capped, open_matrix
 
-    own, base = capped(open_matrix(words.matrix), words.max_minutes), getattr(words, "base", None)
+    own, base = capped(open_matrix(args.matrix), args.max_minutes), getattr(args, "base", None)
     if base is None or not is_file_of_base(base, own.scenarios):
-        if getattr(words, "base_scenario", None) is not None:
+        if getattr(args, "base_scenario", None) is not None:
             raise WrongWords("--base-scenario goes with a file as --base")
         return own
-    made = Beside(own, capped(open_matrix(base), words.max_minutes), words.base_scenario)
-    words.base = None  # what is compared with is the base of the whole
-    say(*made.told())
-    return made
+    matrix = Beside(own, capped(open_matrix(base), args.max_minutes), args.base_scenario)
+    args.base = None  # what is compared with is the base of the whole
+    say(*matrix.sentences())
+    return matrix
 
 
 def is_file_of_base(base: str, scenarios: Sequence[str]) -> bool:
@@ -133,31 +125,46 @@ def is_file_of_base(base: str, scenarios: Sequence[str]) -> bool:
 
 
 def add_share(parser: argparse.ArgumentParser, without: str = "the only one") -> None:
-    told = "the percentile: a travel time that at least this percentage of departures achieves"
-    add_number(parser, "--share", told, "percent", (1, 100), without=without)
+    what = "the percentile: a travel time that at least this percentage of departures achieves"
+    add_number(parser, "--share", what, Range("percent", 1, 100), without=without)
 
 
 def add_within(parser: argparse.ArgumentParser, without: str = "the only one") -> None:
     """The limit of access, in minutes as all tools have it, or in seconds as `ttm` has it."""
-    told = f"the limit of access: 0 to 71,582,788 minutes (without it, {without})"
-    read = number("minutes", 0, MOST_LIMIT // 60, whole=False)
+    what = f"the limit of access: 0 to 71,582,788 minutes (without it, {without})"
+    minutes = Range("minutes", 0, MOST_LIMIT // 60, whole=False)
     parser.add_argument(
-        "--cutoff", "--cutoffs", dest="within", type=lambda it: round(60 * read(it)), metavar="MINUTES", help=told
+        "--cutoff",
+        "--cutoffs",
+        dest="within",
+        type=lambda text: round(60 * minutes.read(text)),
+        metavar="MINUTES",
+        help=what,
     )
-    add_number(parser, "--within", "the same in seconds, as ttm has it", "seconds", (0, MOST_LIMIT), without=without)
+    add_number(
+        parser, "--within", "the same in seconds, as ttm has it", Range("seconds", 0, MOST_LIMIT), without=without
+    )
 
 
-def add_cutoffs(parser: argparse.ArgumentParser, told: str, bounds: tuple[float, float], default: str) -> None:
+def add_cutoffs(parser: argparse.ArgumentParser, what: str, bounds: tuple[float, float], default: str) -> None:
     """Limits of access, in minutes as all tools have them, or in seconds as `ttm` has them."""
-    text = f"{told}: {range_told('minutes', *bounds)} (default {default})"
-    read = numbers("minutes", *bounds)
-    parser.add_argument("--cutoffs", "--cutoff", type=read, default=default, metavar="N,N..", help=text)
-    seconds = numbers("seconds", 60 * bounds[0], 60 * bounds[1])
-    text = f"the same in seconds, as ttm has them: {range_told('seconds', 60 * bounds[0], 60 * bounds[1])}"
+    minutes, seconds = (
+        Range(unit, factor * bounds[0], factor * bounds[1], whole=False)
+        for unit, factor in (("minutes", 1), ("seconds", 60))
+    )
+    parser.add_argument(
+        "--cutoffs",
+        "--cutoff",
+        type=minutes.read_several,
+        default=default,
+        metavar="N,N..",
+        help=f"{what}: {minutes} (default {default})",
+    )
+    text = f"the same in seconds, as ttm has them: {seconds}"
     parser.add_argument(
         "--within",
         dest="cutoffs",
-        type=lambda it: [second / 60 for second in seconds(it)],
+        type=lambda text: [second / 60 for second in seconds.read_several(text)],
         default=argparse.SUPPRESS,
         metavar="N,N..",
         help=f"{text} (without it, --cutoffs)",
@@ -165,40 +172,68 @@ def add_cutoffs(parser: argparse.ArgumentParser, told: str, bounds: tuple[float,
 
 
 def add_base(parser: argparse.ArgumentParser) -> None:
-    told = "base, or today of a plan"
+    what = "base, or today of a plan"
     about = "the scenario to compare others with, or a file of the same kind with whose base they are compared"
-    add_text(parser, "--base", "NAME|FILE", about, without=told)
+    add_text(parser, "--base", "NAME|FILE", about, without=what)
     add_base_scenario(parser)
 
 
 def add_base_scenario(parser: argparse.ArgumentParser) -> None:
-    told = "the scenario of a file that --base names"
-    add_text(parser, "--base-scenario", "NAME", told, without="its base, or today")
+    what = "the scenario of a file that --base names"
+    add_text(parser, "--base-scenario", "NAME", what, without="its base, or today")
 
 
-def add_feed(parser: argparse.ArgumentParser, told: str, without: str) -> None:
-    add_text(parser, "--feed", "FOLDER", told, without=without)
+def add_feed(parser: argparse.ArgumentParser, what: str, without: str) -> None:
+    add_text(parser, "--feed", "FOLDER", what, without=without)
 
 
-def add_out(parser: argparse.ArgumentParser, told: str, without: str = "standard output") -> None:
-    add_text(parser, "--out", "FILE", f"{told}, which appears only when it is complete", without=without)
+def add_out(parser: argparse.ArgumentParser, what: str, without: str = "standard output") -> None:
+    add_text(parser, "--out", "FILE", f"{what}, which appears only when it is complete", without=without)
 
 
 def add_points(parser: argparse.ArgumentParser, without: str = "") -> None:
-    told = "a file of points (id, lat, lon, name, width): the command shows only those of the matrix"
+    what = "a file of points (id, lat, lon, name, width): the command shows only those of the matrix"
     feed = "points.csv in the feed's folder, as ttm-tools points writes it, else all stops"
-    add_text(parser, "--points", "FILE", told, without=without or feed)
+    add_text(parser, "--points", "FILE", what, without=without or feed)
 
 
 def add_pace(parser: argparse.ArgumentParser) -> None:
     """The options of walks: speed, detour, streets."""
-    add_number(parser, "--speed", "the walking speed", "m/s", (0.01, 100), default=1.33, whole=False)
-    told = "length of a walk, as a multiple of the straight line"
-    add_number(parser, "--detour", told, "", (1, 100), default=1.3, whole=False)
-    told = "walk along the streets of a file of OpenStreetMap (.osm.pbf, .osm); needs pyosmium and scipy"
-    add_text(parser, "--streets", "FILE", told, without="straight lines")
-    told = "with --streets, the greatest distance of a street that counts as near"
-    add_number(parser, "--near", told, "metres", (0, 100000), default=100, whole=False)
+    add_number(parser, "--speed", "the walking speed", Range("m/s", 0.01, 100, whole=False), default=1.33)
+    what = "length of a walk, as a multiple of the straight line"
+    add_number(parser, "--detour", what, Range("", 1, 100, whole=False), default=1.3)
+    what = "walk along the streets of a file of OpenStreetMap (.osm.pbf, .osm); needs pyosmium and scipy"
+    add_text(parser, "--streets", "FILE", what, without="straight lines")
+    what = "with --streets, the greatest distance of a street that counts as near"
+    add_number(parser, "--near", what, Range("metres", 0, 100000, whole=False), default=100)
+
+
+def add_walking(parser: argparse.ArgumentParser, of: str = "", there: str = "", along: str = "") -> None:
+    """How areas go on from a stop; the texts say of what picture."""
+    add_number(
+        parser, "--walk", f"how long you walk on from a stop at most{of}", Range("seconds", 0, 7200), default=600
+    )
+    add_number(parser, "--speed", f"how fast you walk{there}", Range("m/s", 0.01, 100, whole=False), default=1.33)
+    what = "metres of way for a metre of straight line"
+    add_number(parser, "--detour", what, Range("", 1, 100, whole=False), default=1.3)
+    what = f"a file of OpenStreetMap, along whose ways you walk on{along}"
+    add_text(parser, "--streets", "FILE", what, without="circles")
+    what = "the greatest distance of a stop from a way"
+    add_number(parser, "--near", what, Range("metres", 0, 10000, whole=False), default=100)
+
+
+def add_several(parser: argparse.ArgumentParser, name: str, metavar: str, what: str, without: str) -> None:
+    """An option that may be given more than once."""
+    text = f"{what}; may be given more than once (without it, {without})"
+    parser.add_argument(name, metavar=metavar, action="append", default=[], help=text)
+
+
+def gis_kind(path: str) -> str:
+    """The kind of a file for a GIS, by the end of its name."""
+    kind = path.rsplit(".", 1)[-1].lower()
+    if kind not in ("geojson", "json", "gpkg"):
+        raise WrongWords("--out ends in .geojson, .json or .gpkg")
+    return kind
 
 
 def scenarios_of(matrix: "Matrix", named: Sequence[str] | None) -> list[str]:
@@ -210,7 +245,6 @@ def scenarios_of(matrix: "Matrix", named: Sequence[str] | None) -> list[str]:
 
 def add_people(parser: argparse.ArgumentParser) -> None:
     """The files with how many people are at each origin, and which of their columns count."""
-    told = "a file with how many people are at each origin; may be given more than once (needed)"
-    parser.add_argument("--people", metavar="FILE", action="append", required=True, help=told)
-    told = "a group of people, a column of these files; may be given more than once (without it, all)"
-    parser.add_argument("--column", metavar="NAME", action="append", default=[], help=told)
+    what = "a file with how many people are at each origin; may be given more than once (needed)"
+    parser.add_argument("--people", metavar="FILE", action="append", required=True, help=what)
+    add_several(parser, "--column", "NAME", "a group of people, a column of these files", without="all")

@@ -3,7 +3,7 @@
 import argparse
 from typing import TYPE_CHECKING
 
-from .options import add_number, add_pace, add_text
+from .options import Range, add_number, add_pace, add_several, add_text
 
 if TYPE_CHECKING:
     from ..points import Points
@@ -36,79 +36,78 @@ already, or a point's of a file before, those of its file begin with the file's 
 
 Walks are those of ttm-tools walks, straight lines or along streets; a point has no entrances. A point without any stop
 in reach is told, and so is where walks by way of a plan's new stops bring old stops nearer. ttm takes 65,535 stops,
-stations and points, and 4,000,000 walks: more are told before anything is written. Memory: some 150 MB, 150 bytes for
-each walk, and with --streets 800 for each node of the ways."""
+stations and points, and 4,000,000 walks: more are refused before anything is written. Memory: some 150 MB, 150 bytes
+for each walk, and with --streets 800 for each node of the ways."""
 
 
 def describe(parser: argparse.ArgumentParser) -> None:
     parser.add_argument("feed", metavar="FEED", help="an unpacked feed")
     parser.add_argument("points", metavar="POINTS", nargs="*", help="points at which journeys begin and end")
-    for name, told in (("--origins", "begin"), ("--destinations", "end")):
-        help = f"points at which journeys only {told}; may be given more than once (without it, POINTS alone)"
-        parser.add_argument(name, metavar="POINTS", action="append", default=[], help=help)
+    for name, what in (("--origins", "begin"), ("--destinations", "end")):
+        add_several(parser, name, "POINTS", f"points at which journeys only {what}", without="POINTS alone")
     parser.add_argument("--out", metavar="FOLDER", required=True, help="the folder, which is new or empty (needed)")
-    for name, told in (("id", "which point it is"), ("lat", "its latitude"), ("lon", "its longitude")):
-        add_text(parser, f"--{name}", "COLUMN", f"the column that says {told}", default=name)
+    for name, what in (("id", "which point it is"), ("lat", "its latitude"), ("lon", "its longitude")):
+        add_text(parser, f"--{name}", "COLUMN", f"the column that says {what}", default=name)
     add_number(
-        parser, "--grid", "how wide the cells of a grid are", "metres", (10, 100000), without="none", whole=False
+        parser, "--grid", "how wide the cells of a grid are", Range("metres", 10, 100000, whole=False), without="none"
     )
-    told = "polygons over which the grid lies (GeoPackage, GeoJSON)"
-    add_text(parser, "--area", "FILE", told, without="wherever a stop is within a walk")
-    told = "points or polygons whose numbers are summed into the cells; may be given more than once (without it, none)"
-    parser.add_argument("--people", metavar="FILE", action="append", default=[], help=told)
-    add_number(parser, "--limit", "the longest walk, which is the --walk of a run too", "seconds", (1, 7200), 600)
+    what = "polygons over which the grid lies (GeoPackage, GeoJSON)"
+    add_text(parser, "--area", "FILE", what, without="wherever a stop is within a walk")
+    what = "points or polygons whose numbers are summed into the cells"
+    add_several(parser, "--people", "FILE", what, without="none")
+    add_number(parser, "--limit", "the longest walk, which is the --walk of a run too", Range("seconds", 1, 7200), 600)
     add_pace(parser)
-    told = "leave out the points without a stop in reach (without it, they are reported)"
-    parser.add_argument("--leave-out", action="store_true", help=told)
+    what = "leave out the points without a stop in reach (without it, they are reported)"
+    parser.add_argument("--leave-out", action="store_true", help=what)
 
 
-def run(words: argparse.Namespace) -> int:
+def run(args: argparse.Namespace) -> int:
     from ..faults import WrongWords, needs, say
 
     needs("numpy")
-    from ..plans.nearness import told_nearer
+    from ..plans.nearness import sentences_on_nearer
     from ..points import read_points
     from ..points.table import Columns
-    from ..points.study import FEED, FOOTPATHS, Asked, make
+    from ..points.study import FEED, FOOTPATHS, PointsOptions, make
     from ..walks import Pace, walks_of
 
-    files, begins, ends = files_of(words)
-    if words.grid is None and (words.area or words.people):
+    files, begins, ends = files_of(args)
+    if args.grid is None and (args.area or args.people):
         raise WrongWords("--area and --people need --grid")
-    pace = Pace(words.limit, words.speed, words.detour)
-    if words.grid is not None:
-        if words.origins and words.destinations:
+    pace = Pace(args.limit, args.speed, args.detour)
+    if args.grid is not None:
+        if args.origins and args.destinations:
             raise WrongWords("--grid goes with --origins or with --destinations: cells are the other end")
-        begins.append(not words.origins)
-        ends.append(not words.destinations)
+        begins.append(not args.origins)
+        ends.append(not args.destinations)
     if not any(begins) or not any(ends):
         raise WrongWords("points are needed at which journeys begin, and at which they end")
-    called = Columns(words.id, words.lat, words.lon)
+    called = Columns(args.id, args.lat, args.lon)
     points = [read_points(path, called) for path in files]
-    if words.grid is not None:
-        cells, told = grid_of(words, pace)
+    if args.grid is not None:
+        cells, sentences = grid_of(args, pace)
         points.append(cells)
-        say(*told)
-    asked = Asked(words.feed, words.out, points, begins, ends, words.limit, words.leave_out, words.near)
-    say(*make(asked, lambda stops, first: walks_of(stops, pace, words.streets, words.near, first)))
-    say(*told_nearer(f"{words.out}/{FEED}", f"{words.out}/{FOOTPATHS}", words.limit))
+        say(*sentences)
+    options = PointsOptions(args.feed, args.out, points, begins, ends, args.limit, args.leave_out, args.near)
+    say(*make(options, lambda stops, first: walks_of(stops, pace, args.streets, args.near, first)))
+    say(*sentences_on_nearer(f"{args.out}/{FEED}", f"{args.out}/{FOOTPATHS}", args.limit))
     return 0
 
 
-def files_of(words: argparse.Namespace) -> tuple[list[str], list[bool], list[bool]]:
+def files_of(args: argparse.Namespace) -> tuple[list[str], list[bool], list[bool]]:
     """The files of points, each once, and whether journeys begin and end at their points."""
-    files = list(dict.fromkeys([*words.points, *words.origins, *words.destinations]))
-    begins = [path in words.points or path in words.origins for path in files]
-    ends = [path in words.points or path in words.destinations for path in files]
+    files = list(dict.fromkeys([*args.points, *args.origins, *args.destinations]))
+    begins = [path in args.points or path in args.origins for path in files]
+    ends = [path in args.points or path in args.destinations for path in files]
     return files, begins, ends
 
 
-def grid_of(words: argparse.Namespace, pace: "Pace") -> "tuple[Points, list[str]]":
-    """The cells of a grid, and what is told of them."""
+def grid_of(args: argparse.Namespace, pace: "Pace") -> "tuple[Points, list[str]]":
+    """The cells of a grid, and what is reported of them."""
     from ..gtfs.stops import read_stops
     from ..points import grid
 
-    stops = read_stops(words.feed)
-    cells = grid.grid_over(words.area, words.grid) if words.area else grid.grid_near(stops, words.grid, pace.metres)
-    made, told = grid.filled(cells, words.people)
-    return made, [f"{len(made.identifiers):,} cells of {words.grid:g} metres", *told]
+    stops = read_stops(args.feed)
+    cells = grid.grid_over(args.area, args.grid) if args.area else grid.grid_near(stops, args.grid, pace.metres)
+    points, sentences = grid.filled(cells, args.people)
+    return points, [f"{len(points.identifiers):,} cells of {args.grid:g} metres", *sentences]

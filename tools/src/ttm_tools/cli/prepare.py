@@ -4,7 +4,7 @@ import argparse
 import datetime
 
 from ..prepare.rules import help_table
-from .options import add_number, add_text, day
+from .options import Range, add_number, add_several, add_text, day
 
 TOLD = "a folder that ttm reads, from published feeds: checked, repaired, clipped, merged"
 HELP = """\
@@ -49,23 +49,22 @@ def describe(parser: argparse.ArgumentParser) -> None:
     add_text(parser, "--faults", "FILE", "with --check, a line for each single error, as CSV", without="none")
     add_text(parser, "--out", "FOLDER", "the folder to write; it must be new or empty", without="--check is needed")
     parser.add_argument("--repair", action="store_true", help="repair errors (without it, they are refused)")
-    told = "write what a repair leaves even if it removes much of a file, or if no trip runs (without it, refused)"
-    parser.add_argument("--allow-loss", action="store_true", help=told)
-    told = "merge feeds of several time zones, and treat their times as those of one (without it, refused)"
-    parser.add_argument("--same-clock", action="store_true", help=told)
-    told = "west, south, east, north in degrees, -180 to 180 and -90 to 90: keep the stops inside (without it, all)"
-    parser.add_argument("--box", type=box, metavar="W,S,E,N", help=told)
+    what = "write what a repair leaves even if it removes much of a file, or if no trip runs (without it, refused)"
+    parser.add_argument("--allow-loss", action="store_true", help=what)
+    what = "merge feeds of several time zones, and treat their times as those of one (without it, refused)"
+    parser.add_argument("--same-clock", action="store_true", help=what)
+    what = "west, south, east, north in degrees, -180 to 180 and -90 to 90: keep the stops inside (without it, all)"
+    parser.add_argument("--box", type=box, metavar="W,S,E,N", help=what)
     add_text(parser, "--area", "FILE", "GeoJSON polygons: keep the stops inside; needs shapely", without="all")
-    told = "a route to keep; may be given more than once (without it, all)"
-    parser.add_argument("--routes", action="append", default=[], metavar="ROUTE_ID", help=told)
-    told = "an agency whose routes are kept; several by several times --agency (without it, all)"
-    parser.add_argument("--agency", action="append", default=[], metavar="AGENCY_ID", help=told)
-    told = (
+    add_several(parser, "--routes", "ROUTE_ID", "a route to keep", without="all")
+    what = "an agency whose routes are kept; several by several times --agency (without it, all)"
+    parser.add_argument("--agency", action="append", default=[], metavar="AGENCY_ID", help=what)
+    what = (
         "YYYYMMDD or YYYY-MM-DD: services that run --back days before it to --ahead after it are kept (without it, all)"
     )
-    parser.add_argument("--date", type=day, metavar="DATE", help=told)
-    add_number(parser, "--back", "days before the date, as for ttm", "days", (0, 6), default=1)
-    add_number(parser, "--ahead", "days after the date, as for ttm", "days", (0, 6), default=1)
+    parser.add_argument("--date", type=day, metavar="DATE", help=what)
+    add_number(parser, "--back", "days before the date, as for ttm", Range("days", 0, 6), default=1)
+    add_number(parser, "--ahead", "days after the date, as for ttm", Range("days", 0, 6), default=1)
     parser.add_argument("feeds", metavar="FEED", nargs="+", help="a zip file or folder")
 
 
@@ -80,53 +79,53 @@ def box(text: str) -> tuple[float, float, float, float]:
     return west, south, east, north
 
 
-def run(words: argparse.Namespace) -> int:
+def run(args: argparse.Namespace) -> int:
     from ..faults import WrongWords, needs, say
 
     needs("numpy", "pandas")
-    if words.check == (words.out is not None):
+    if args.check == (args.out is not None):
         raise WrongWords("one of --check and --out is needed")
-    if words.faults and not words.check:
+    if args.faults and not args.check:
         raise WrongWords("--faults goes with --check")
-    if words.check:
-        return check_feeds(words)
+    if args.check:
+        return check_feeds(args)
     from ..files import scratch
     from ..prepare.clip import Clip
-    from ..prepare.make import Asked, make
+    from ..prepare.make import PrepareOptions, make
 
-    span = range(-words.back, words.ahead + 1) if words.date else range(0)
+    span = range(-args.back, args.ahead + 1) if args.date else range(0)
     try:
-        days = [words.date + datetime.timedelta(number) for number in span]
+        days = [args.date + datetime.timedelta(number) for number in span]
     except OverflowError:
         raise WrongWords("--date with --back and --ahead is no date") from None
-    clip = Clip(words.box, words.area, words.routes, words.agency, days)
+    clip = Clip(args.box, args.area, args.routes, args.agency, days)
     with scratch("feed") as room:
-        day = words.date if words.repair else None
-        asked = Asked(words.feeds, words.out, words.repair, clip, words.allow_loss, day, words.same_clock)
-        lines = make(asked, room)
+        day = args.date if args.repair else None
+        options = PrepareOptions(args.feeds, args.out, args.repair, clip, args.allow_loss, day, args.same_clock)
+        lines = make(options, room)
     say(*lines)
     return 0
 
 
-def check_feeds(words: argparse.Namespace) -> int:
-    """Tells the faults of each feed."""
+def check_feeds(args: argparse.Namespace) -> int:
+    """Reports the faults of each feed."""
     from ..faults import as_line
     from ..files import output, scratch
     from ..prepare import report
     from ..prepare.check import check
-    from ..prepare.losses import told
+    from ..prepare.losses import sentences
     from ..gtfs.feeds import read_feed
     from ..records import write_rows
 
     rows: list[list[object]] = []
-    for path in words.feeds:
+    for path in args.feeds:
         with scratch("feed") as room:
             feed = read_feed(path, room)
             faults = check(feed)
             rows.extend(report.fault_rows(faults))
-            lines = [*(report.fault_lines(faults) if faults else ["no faults"]), *told(feed, bool(faults))]
-            print("\n".join(map(as_line, [f"{path}:"] * (len(words.feeds) > 1) + lines)))
-    if words.faults:
-        with output(words.faults) as file:
+            lines = [*(report.fault_lines(faults) if faults else ["no faults"]), *sentences(feed, bool(faults))]
+            print("\n".join(map(as_line, [f"{path}:"] * (len(args.feeds) > 1) + lines)))
+    if args.faults:
+        with output(args.faults) as file:
             write_rows(file, report.FAULT_COLUMNS, rows)
     return 1 if rows else 0

@@ -32,20 +32,20 @@ def describe(parser: argparse.ArgumentParser) -> None:
     parser.description = HELP.replace("{actions}", help_table())
     parser.add_argument("feed", metavar="FEED", help="the folder of a feed")
     parser.add_argument("plan", metavar="PLAN", help="the plan, a TOML file")
-    told = "the folder to write; it must be new or empty (needed)"
-    parser.add_argument("--out", metavar="FOLDER", required=True, help=told)
-    told = "the only scenario to carry out: the feed with its trips and no others, and no scenario files"
-    add_text(parser, "--only", "NAME", told, without="all are in the feed")
+    what = "the folder to write; it must be new or empty (needed)"
+    parser.add_argument("--out", metavar="FOLDER", required=True, help=what)
+    what = "the only scenario to carry out: the feed with its trips and no others, and no scenario files"
+    add_text(parser, "--only", "NAME", what, without="all are in the feed")
 
 
-def run(words: argparse.Namespace) -> int:
+def run(args: argparse.Namespace) -> int:
     from ..faults import needs, say
 
     needs("numpy", "pandas")
     from ..plans.make import make
 
-    made = make(words.feed, words.plan, words.out, words.only)
-    say(*made.lines)
-    if made.words is not None:
-        sys.stdout.buffer.write(os.fsencode(made.words) + b"\n")
+    written = make(args.feed, args.plan, args.out, args.only)
+    say(*written.lines)
+    if written.arguments is not None:
+        sys.stdout.buffer.write(os.fsencode(written.arguments) + b"\n")
     return 0

@@ -2,7 +2,7 @@
 
 import argparse
 
-from .options import add_number, add_text
+from .options import Range, add_number, add_text
 
 TOLD = "the origins of a study in parts"
 HELP = """\
@@ -19,17 +19,17 @@ def describe(parser: argparse.ArgumentParser) -> None:
     whole.add_argument(
         "--feed", metavar="FOLDER", help="an unpacked feed, whose stops are the origins (this or --origins is needed)"
     )
-    add_number(parser, "--parts", "the number of parts", "parts", (1, 9999), without="1 part")
+    add_number(parser, "--parts", "the number of parts", Range("parts", 1, 9999), without="1 part")
     add_text(parser, "--out", "FOLDER", "the folder of the parts", default=".")
 
 
-def run(words: argparse.Namespace) -> int:
+def run(args: argparse.Namespace) -> int:
     from ..faults import needs, say
 
     needs("numpy")
     from ..parts import origins_in, origins_of_feed, write_parts
 
-    origins = origins_in(words.origins) if words.origins else origins_of_feed(words.feed)
-    made = write_parts(origins, words.parts or 1, words.out)
-    say(f"{len(origins)} origins in {made} parts")
+    origins = origins_in(args.origins) if args.origins else origins_of_feed(args.feed)
+    parts = write_parts(origins, args.parts or 1, args.out)
+    say(f"{len(origins)} origins in {parts} parts")
     return 0

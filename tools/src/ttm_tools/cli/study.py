@@ -3,7 +3,7 @@
 import argparse
 import sys
 
-from .options import add_number, add_text
+from .options import Range, add_number, add_several, add_text
 
 TOLD = "a whole study from one file: feed, runs in parts, matrix, tables, maps, report"
 HELP = """\
@@ -27,46 +27,46 @@ bytes. Memory: what ttm takes for all parts that run at once, and then what map,
 
 def describe(parser: argparse.ArgumentParser) -> None:
     parser.add_argument("study", metavar="STUDY", nargs="?", help="the study's file, or with --part its folder")
-    told = "print a new file with a comment for each field (without it, a study runs)"
-    parser.add_argument("--new", action="store_true", help=told)
+    what = "print a new file with a comment for each field (without it, a study runs)"
+    parser.add_argument("--new", action="store_true", help=what)
     add_text(parser, "--out", "FOLDER", "the study's folder", without="the file's name without .toml")
-    told = "the number of parts that run at once on this machine"
-    add_number(parser, "--workers", told, "processes", (1, 1024), without="one on each processor")
+    what = "the number of parts that run at once on this machine"
+    add_number(parser, "--workers", what, Range("processes", 1, 1024), without="one on each processor")
     parser.add_argument("--slurm", action="store_true", help="run the parts as an array under Slurm (without it, here)")
     add_text(parser, "--hosts", "HOSTS", "run the parts by GNU parallel, such as 8/one,8/two", without="here")
-    told = "an option of sbatch or parallel, such as partition=long; may be given more than once (without it, none)"
-    parser.add_argument("--option", metavar="NAME=VALUE", action="append", default=[], help=told)
+    what = "an option of sbatch or parallel, such as partition=long"
+    add_several(parser, "--option", "NAME=VALUE", what, without="none")
     add_number(
-        parser, "--part", "compute one part, as the tasks of --slurm and --hosts do", "", (1, 9999), without="all"
+        parser, "--part", "compute one part, as the tasks of --slurm and --hosts do", Range("", 1, 9999), without="all"
     )
     add_text(parser, "--verify", "FOLDER", "recompute a tenth of a study's rows", without="the study runs")
-    add_number(parser, "--seed", "chooses the rows of --verify", "", (0, 4294967295), without="drawn, and printed")
+    add_number(parser, "--seed", "chooses the rows of --verify", Range("", 0, 4294967295), without="drawn, and printed")
 
 
-def refuse_others(words: argparse.Namespace) -> None:
+def refuse_others(args: argparse.Namespace) -> None:
     """Refuses options that don't go together."""
     from ..faults import WrongWords
 
-    if sum([words.new, words.verify is not None, words.study is not None]) != 1:
+    if sum([args.new, args.verify is not None, args.study is not None]) != 1:
         raise WrongWords("one of STUDY, --new and --verify is needed")
-    if words.part is not None and words.study is None:
+    if args.part is not None and args.study is None:
         raise WrongWords("--part goes with the folder of a study")
-    if words.seed is not None and words.verify is None:
+    if args.seed is not None and args.verify is None:
         raise WrongWords("--seed goes with --verify")
-    if words.slurm and words.hosts:
+    if args.slurm and args.hosts:
         raise WrongWords("--slurm and --hosts are two ways: one of them")
-    if words.option and not (words.slurm or words.hosts):
+    if args.option and not (args.slurm or args.hosts):
         raise WrongWords("--option goes with --slurm and --hosts")
 
 
-def run(words: argparse.Namespace) -> int:
+def run(args: argparse.Namespace) -> int:
     from pathlib import Path
 
     from ..faults import needs
 
-    refuse_others(words)
+    refuse_others(args)
     needs("numpy", "pandas")
-    if words.new:
+    if args.new:
         from ..study.template import template
 
         sys.stdout.write(template())
@@ -77,21 +77,21 @@ def run(words: argparse.Namespace) -> int:
     from ..study.work import make_study
     from ..threads import processors
 
-    if words.part is not None:
-        one_part(Path(words.study), words.part)
+    if args.part is not None:
+        one_part(Path(args.study), args.part)
         return 0
     needs("h5py")
     from ..files import Interrupted
 
-    if words.verify is not None:
+    if args.verify is not None:
         from ..study.verify import verify
 
-        verify(Path(words.verify), words.seed, words.workers or processors())
+        verify(Path(args.verify), args.seed, args.workers or processors())
         return 0
-    study = read_study(words.study)
-    out = Path(words.out) if words.out else study.path.with_suffix("")
+    study = read_study(args.study)
+    out = Path(args.out) if args.out else study.path.with_suffix("")
     try:
-        make_study(study, out, Means(words.workers, words.slurm, words.hosts, words.option))
+        make_study(study, out, Means(args.workers, args.slurm, args.hosts, args.option))
     except (Interrupted, KeyboardInterrupt):
         print("what is done is kept: the same command goes on with what is missing", file=sys.stderr)
         raise

@@ -3,7 +3,7 @@
 import argparse
 import os
 
-from .options import add_number, add_out, add_pace, add_text
+from .options import Range, add_number, add_out, add_pace, add_text
 
 TOLD = "footpaths of a feed from the coordinates of its stops"
 HELP = """\
@@ -29,36 +29,36 @@ footpath, and with --streets 800 for each node of the ways."""
 
 
 def describe(parser: argparse.ArgumentParser) -> None:
-    add_number(parser, "--limit", "the longest walk", "seconds", (1, 86400), default=600, whole=False)
+    add_number(parser, "--limit", "the longest walk", Range("seconds", 1, 86400, whole=False), default=600)
     add_pace(parser)
-    told = "your own walks, a table with from_stop_id, to_stop_id and seconds; decimals are rounded up, and counted"
-    add_text(parser, "--table", "FILE", told, without="straight lines")
+    what = "your own walks, a table with from_stop_id, to_stop_id and seconds; decimals are rounded up, and counted"
+    add_text(parser, "--table", "FILE", what, without="straight lines")
     add_out(parser, "the file of footpaths", without="footpaths.csv in FOLDER")
     parser.add_argument("folder", metavar="FOLDER", help="an unpacked feed")
 
 
-def run(words: argparse.Namespace) -> int:
+def run(args: argparse.Namespace) -> int:
     from ..faults import WrongWords, needs, say
 
-    if words.table and words.streets:
+    if args.table and args.streets:
         raise WrongWords("--table and --streets are two sources of walks: one of them")
     needs("numpy")
     from ..gtfs.stops import read_stops
     from ..files import output
-    from ..plans.nearness import told_nearer
+    from ..plans.nearness import sentences_on_nearer
     from ..records import Rounded, write_rows
-    from ..walks import Pace, read_walks, told as what_is_told, walks_of
+    from ..walks import Pace, read_walks, summary as walks_summary, walks_of
 
-    stops, rounded = read_stops(words.folder), Rounded()
-    out = words.out or os.path.join(words.folder, "footpaths.csv")
-    if words.table:
-        rows = read_walks(words.table, stops, rounded)
-        told = f"{rounded.count} seconds with decimals were rounded up"
+    stops, rounded = read_stops(args.folder), Rounded()
+    out = args.out or os.path.join(args.folder, "footpaths.csv")
+    if args.table:
+        rows = read_walks(args.table, stops, rounded)
+        sentence = f"{rounded.count} seconds with decimals were rounded up"
     else:
-        pace = Pace(words.limit, words.speed, words.detour)
-        found = walks_of(stops, pace, words.streets, words.near)
-        rows, told = found.rows(), what_is_told(found, "stops", words.near)
+        pace = Pace(args.limit, args.speed, args.detour)
+        found = walks_of(stops, pace, args.streets, args.near)
+        rows, sentence = found.rows(), walks_summary(found, "stops", args.near)
     with output(out) as file:
         write_rows(file, ["from_stop_id", "to_stop_id", "seconds"], rows)
-    say(f"{out}: {len(rows)} footpaths; {told}", *told_nearer(words.folder, out))
+    say(f"{out}: {len(rows)} footpaths; {sentence}", *sentences_on_nearer(args.folder, out))
     return 0

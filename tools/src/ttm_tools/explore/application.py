@@ -22,9 +22,9 @@ Answer = Response | tuple[dict[str, Any], int]
 
 def application(exploration: Exploration, guard: Guard) -> Flask:
     """The application that answers the page of an exploration."""
-    made = Flask(__name__, static_folder=None, template_folder=None)
-    made.before_request(lambda: refusal(guard))
-    made.after_request(with_headers)
+    server = Flask(__name__, static_folder=None, template_folder=None)
+    server.before_request(lambda: refusal(guard))
+    server.after_request(with_headers)
     answers: dict[str, tuple[str, Callable[[Exploration], Answer]]] = {
         "": ("GET", page),
         "times": ("GET", times),
@@ -35,8 +35,8 @@ def application(exploration: Exploration, guard: Guard) -> Flask:
     }
     for name, (method, answer) in answers.items():
         view = functools.partial(answered, answer, exploration)
-        made.add_url_rule(f"/<token>/{name}", name or "page", view, methods=[method], provide_automatic_options=False)
-    return made
+        server.add_url_rule(f"/<token>/{name}", name or "page", view, methods=[method], provide_automatic_options=False)
+    return server
 
 
 def refusal(guard: Guard) -> Response | None:
@@ -64,9 +64,9 @@ def answered(answer: Callable[[Exploration], Answer], exploration: Exploration, 
     except MemoryError:
         return {"fault": "out of memory"}, REFUSED
     except Exception as fault:  # an error of its own ends no other answer
-        told = one_line(f"an error of its own, {type(fault).__name__}: {fault}")[:LONGEST]
-        say(f"ttm-tools explore: {told}")
-        return {"fault": told}, OF_ITS_OWN
+        message = one_line(f"an error of its own, {type(fault).__name__}: {fault}")[:LONGEST]
+        say(f"ttm-tools explore: {message}")
+        return {"fault": message}, OF_ITS_OWN
 
 
 def page(exploration: Exploration) -> Answer:
@@ -84,21 +84,21 @@ def times(exploration: Exploration) -> Answer:
 
 
 def journey(exploration: Exploration) -> Answer:
-    words, most = request.args, exploration.count - 1
-    origin, end = whole(words, "origin", 0, most), whole(words, "end", 0, most)
-    scenario = whole(words, "scenario", 0, len(exploration.standing.scenarios) - 1)
-    window, trips, share = window_of(words), whole(words, "trips", 1, 8), whole(words, "share", 1, 100)
+    args, most = request.args, exploration.count - 1
+    origin, end = whole(args, "origin", 0, most), whole(args, "end", 0, most)
+    scenario = whole(args, "scenario", 0, len(exploration.standing.scenarios) - 1)
+    window, trips, share = window_of(args), whole(args, "trips", 1, 8), whole(args, "share", 1, 100)
     return exploration.journey((origin, end), scenario, window, trips, share), 200
 
 
 def routes(exploration: Exploration) -> Answer:
-    return exploration.routes(), 200
+    return Response(exploration.routes, mimetype="application/json")
 
 
 def changes(exploration: Exploration) -> Answer:
     """Begins a network with other changes, or another longest walk; the one before answers until it is there."""
-    asked = request.get_json(silent=True)
-    return exploration.change(actions_of(asked), walk_of(asked)), 200
+    body = request.get_json(silent=True)
+    return exploration.change(actions_of(body), walk_of(body)), 200
 
 
 def study(exploration: Exploration) -> Answer:

@@ -26,9 +26,9 @@ KINDS = {
 NAME = "changed"
 
 
-def actions_of(asked: Any) -> list[Values]:
+def actions_of(body: Any) -> list[Values]:
     """The actions that the page sends, each of a kind with its values, which the plan looks at further."""
-    found = asked.get("actions") if isinstance(asked, dict) else None
+    found = body.get("actions") if isinstance(body, dict) else None
     if not isinstance(found, list) or len(found) > MOST_ACTIONS:
         raise WrongWords(f"actions are no list of at most {MOST_ACTIONS}")
     for action in found:
@@ -40,9 +40,9 @@ def actions_of(asked: Any) -> list[Values]:
     return found
 
 
-def walk_of(asked: Any) -> int:
+def walk_of(body: Any) -> int:
     """The longest walk that the page sends, in seconds."""
-    return number(asked["walk"] if isinstance(asked, dict) and "walk" in asked else None, "walk", 0, 7200)
+    return number(body["walk"] if isinstance(body, dict) and "walk" in body else None, "walk", 0, 7200)
 
 
 def number(value: Any, name: str, least: int, most: int) -> int:
@@ -54,12 +54,12 @@ def number(value: Any, name: str, least: int, most: int) -> int:
 def decimal(value: Any, name: str) -> Decimal:
     """A number as the page writes it, with at most six decimals."""
     try:
-        made = Decimal(str(value)) if isinstance(value, (str, int, float)) else Decimal("NaN")
+        number = Decimal(str(value)) if isinstance(value, (str, int, float)) else Decimal("NaN")
     except InvalidOperation:
-        made = Decimal("NaN")
-    if not made.is_finite() or abs(made) > MOST or made != round(made, 6):
+        number = Decimal("NaN")
+    if not number.is_finite() or abs(number) > MOST or number != round(number, 6):
         raise WrongWords(f"{name} is {str(value)[:60]!r}, no number of at most six decimals")
-    return made
+    return number
 
 
 @dataclass(frozen=True)
@@ -75,40 +75,40 @@ class Namer:
     def several(self, value: Any) -> list[str]:
         if not isinstance(value, list) or not 0 < len(value) <= MOST_STOPS:
             raise WrongWords(f"stops are no list of 1 to {MOST_STOPS}")
-        return [self.stop(it) for it in value]
+        return [self.stop(place) for place in value]
 
-    def action(self, asked: Values) -> Values:
+    def action(self, change: Values) -> Values:
         """An action of a plan."""
-        if asked["do"] == "add_line":
-            return self.new_line(asked)
-        place = number(asked["route"], "route", 0, len(self.routes.identifiers) - 1)
-        made: Values = {"do": asked["do"], "route": self.routes.identifiers[place]}
-        if asked["do"] in ("cut", "extend"):
+        if change["do"] == "add_line":
+            return self.new_line(change)
+        place = number(change["route"], "route", 0, len(self.routes.identifiers) - 1)
+        action: Values = {"do": change["do"], "route": self.routes.identifiers[place]}
+        if change["do"] in ("cut", "extend"):
             ways = self.routes.ways[place]
-            way = ways[number(asked["way"], "way", 0, len(ways) - 1)]
+            way = ways[number(change["way"], "way", 0, len(ways) - 1)]
             key, value = ("pattern", way.trip) if way.direction is None else ("direction", way.direction)
-            made[key] = value
-            made["after"] = self.stop(asked["after"] if asked["do"] == "cut" else way.stops[-1], "after")
-        if asked["do"] == "extend":
-            made |= {"stops": self.several(asked["stops"]), **pace(asked)}
-        if asked["do"] == "headway":
-            made |= {"every": number(asked["every"], "every", 1, 86_400), "from": asked["from"], "to": asked["to"]}
-        if asked["do"] == "speed":
-            made["factor"] = decimal(asked["factor"], "factor")
-        return made
+            action[key] = value
+            action["after"] = self.stop(change["after"] if change["do"] == "cut" else way.stops[-1], "after")
+        if change["do"] == "extend":
+            action |= {"stops": self.several(change["stops"]), **pace(change)}
+        if change["do"] == "headway":
+            action |= {"every": number(change["every"], "every", 1, 86_400), "from": change["from"], "to": change["to"]}
+        if change["do"] == "speed":
+            action["factor"] = decimal(change["factor"], "factor")
+        return action
 
-    def new_line(self, asked: Values) -> Values:
-        name = asked["name"]
+    def new_line(self, change: Values) -> Values:
+        name = change["name"]
         if not isinstance(name, str) or not 0 < len(name) <= LONGEST or not name.isprintable():
             raise WrongWords(f"name is no text of 1 to {LONGEST} printed letters")
-        departures: Values = {"first": asked["first"], "last": asked["last"]}
-        departures["every"] = number(asked["every"], "every", 1, 86_400)
-        ends = {"stops": self.several(asked["stops"]), **pace(asked), "both": asked["both"] is True}
+        departures: Values = {"first": change["first"], "last": change["last"]}
+        departures["every"] = number(change["every"], "every", 1, 86_400)
+        ends = {"stops": self.several(change["stops"]), **pace(change), "both": change["both"] is True}
         return {"do": "add_line", "route": name, **ends, "departures": [departures], "days": "daily"}
 
 
-def pace(asked: Values) -> Values:
-    return {"speed": decimal(asked["speed"], "speed"), "dwell": number(asked["dwell"], "dwell", 0, 3_600)}
+def pace(change: Values) -> Values:
+    return {"speed": decimal(change["speed"], "speed"), "dwell": number(change["dwell"], "dwell", 0, 3_600)}
 
 
 def in_toml(value: Any) -> str:
@@ -120,9 +120,9 @@ def in_toml(value: Any) -> str:
     if isinstance(value, str):
         return json.dumps(value, ensure_ascii=False).replace("\x7f", "\\u007f")
     if isinstance(value, dict):
-        return "{ " + ", ".join(f"{key} = {in_toml(it)}" for key, it in value.items()) + " }"
+        return "{ " + ", ".join(f"{key} = {in_toml(item)}" for key, item in value.items()) + " }"
     if isinstance(value, list):
-        return "[" + ", ".join(in_toml(it) for it in value) + "]"
+        return "[" + ", ".join(in_toml(item) for item in value) + "]"
     raise WrongWords(f"{str(value)[:60]!r} is no text and no number")
 
 
@@ -136,8 +136,8 @@ def scenario_text(name: str, actions: Sequence[Values]) -> str:
 
 def name_among(names: Sequence[str]) -> str:
     """What the scenario of a person's changes is called beside those of a plan."""
-    number, made = 1, NAME
-    while made in names:
+    number, name = 1, NAME
+    while name in names:
         number += 1
-        made = f"{NAME} {number}"
-    return made
+        name = f"{NAME} {number}"
+    return name

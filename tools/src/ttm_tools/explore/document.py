@@ -23,47 +23,47 @@ LIVE = (
 MINUTES = 30  # at which the slider stands first
 
 
-def kind_of(exploration: Exploration) -> page.Kind:
+def kind_of(exploration: Exploration) -> page.PageKind:
     """The files of the page, with those that ask the server."""
     scripts = [name for name in page.SCRIPTS if name not in ("cells.js", "bands.js")]
     scripts[1:1] = [LIVE[0]]
     scripts[-1:-1] = LIVE[1:]
-    known = {"asked": page.as_json(asked_of(exploration))}
+    known = {"asked": page.as_json(beginning_of(exploration))}
     folders, styles = (ASSETS, page.ASSETS), (*page.STYLES, "explore.css")
-    return page.Kind("explore.html", folders, tuple(scripts), styles, True, known)
+    return page.PageKind("explore.html", folders, tuple(scripts), styles, True, known)
 
 
-def asked_of(exploration: Exploration) -> dict[str, Any]:
+def beginning_of(exploration: Exploration) -> dict[str, Any]:
     """With what the page begins."""
-    wish, standing = exploration.wish, exploration.standing
+    options, standing = exploration.options, exploration.standing
     return {
         "version": standing.version,
-        "first": wish.window[0],
-        "last": wish.window[1],
-        "trips": wish.trips,
+        "first": options.window[0],
+        "last": options.window[1],
+        "trips": options.trips,
         "walk": standing.plan.walk,
-        "most_walk": wish.most_walk,
+        "most_walk": options.most_walk,
         "actions": standing.plan.actions,
-        "told": standing.plan.told,
-        "date": wish.date.isoformat(),
+        "told": standing.plan.sentences,
+        "date": options.date.isoformat(),
     }
 
 
 def frame_of(exploration: Exploration) -> page.Frame:
     """What stands around the numbers."""
-    wish, standing = exploration.wish, exploration.standing
-    words = sources.Words(f"--date {wish.date:%Y%m%d}")
-    name = shown(wish.name or os.path.basename(os.path.abspath(wish.feed)))
+    options, standing = exploration.options, exploration.standing
+    arguments = sources.RunArguments(f"--date {options.date:%Y%m%d}")
+    name = shown(options.name or os.path.basename(os.path.abspath(options.feed)))
     return page.Frame(
-        wish.title or f"Explore: {name}",
+        options.title or f"Explore: {name}",
         "",
         standing.scenarios,
-        list(wish.shares),
-        [sources.meaning(share, words) for share in wish.shares],
-        [("Feed", name), ("Date", wish.date.isoformat()), ("Made by", "ttm-tools explore")],
+        list(options.shares),
+        [sources.meaning(share, arguments) for share in options.shares],
+        [("Feed", name), ("Date", options.date.isoformat()), ("Made by", "ttm-tools explore")],
         [],
         MINUTES,
-        leaflet=wish.leaflet,
+        leaflet=options.leaflet,
     )
 
 

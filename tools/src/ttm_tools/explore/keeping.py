@@ -9,11 +9,11 @@ from ..faults import WrongWords
 from ..files import many_written_aside
 from ..parts import write_stops
 from .changes import in_toml, number
-from .making import copy_made, copy_with_point
+from .making import copy_generated, copy_with_point
 from .point import FEED, WALKS, Point, Walk
 from .question import origin_of, window_of
 from .standing import Plan
-from .wish import Wish
+from .options import ExploreOptions
 
 STUDY, PLAN, ORIGINS = "study.toml", "plan.toml", "origins.csv"
 
@@ -29,30 +29,30 @@ def next_folder(out: Path) -> Path:
 Walker = Callable[[Point], list[Walk]]
 
 
-def save(wish: Wish, plan: Plan, columns: Sequence[str], asked: Any, walker: Walker) -> dict[str, Any]:
+def save(options: ExploreOptions, plan: Plan, columns: Sequence[str], body: Any, walker: Walker) -> dict[str, Any]:
     """Writes a study of the network that answers, for a window, trips, and an origin or all; of a point that is no stop
     with a copy of the feed that has it as one more stop.
     """
-    if not isinstance(asked, dict) or not {"first", "last", "trips", "origin"} <= asked.keys():
+    if not isinstance(body, dict) or not {"first", "last", "trips", "origin"} <= body.keys():
         raise WrongWords("a study needs first, last, trips and origin")
-    window = window_of({key: str(asked[key]) for key in ("first", "last")})
-    trips, point = number(asked["trips"], "trips", 1, 8), point_in(asked["origin"])
-    origin = -1 if point else number(asked["origin"], "origin", -1, len(columns) - 1)
-    folder = next_folder(Path(wish.out))
-    with many_written_aside(folder) as made:
+    window = window_of({key: str(body[key]) for key in ("first", "last")})
+    trips, point = number(body["trips"], "trips", 1, 8), point_in(body["origin"])
+    origin = -1 if point else number(body["origin"], "origin", -1, len(columns) - 1)
+    folder = next_folder(Path(options.out))
+    with many_written_aside(folder) as aside:
         named = columns[origin] if origin >= 0 else None
         if point is not None:
-            named = copy_with_point(wish, made, point, walker(point))
-        elif wish.made:
-            copy_made(wish, made)
-        tables = tables_of(wish, plan, folder, made, (window, trips))
+            named = copy_with_point(options, aside, point, walker(point))
+        elif options.generated:
+            copy_generated(options, aside)
+        tables = tables_of(options, plan, folder, aside, (window, trips))
         if named is not None:
             tables["run"]["origins"] = ORIGINS
-            with open(made / ORIGINS, "wb") as file:
+            with open(aside / ORIGINS, "wb") as file:
                 write_stops(file, [named])
-        (made / STUDY).write_text(text_of(wish, tables), encoding="utf-8")
+        (aside / STUDY).write_text(text_of(options, tables), encoding="utf-8")
         if plan.text:
-            (made / PLAN).write_text(plan.text, encoding="utf-8")
+            (aside / PLAN).write_text(plan.text, encoding="utf-8")
     path = folder / STUDY
     return {"path": str(path), "command": f"ttm-tools study {shlex.quote(str(path))}"}
 
@@ -67,7 +67,7 @@ def point_in(origin: Any) -> Point | None:
 
 
 def tables_of(
-    wish: Wish, plan: Plan, folder: Path, made: Path, times: tuple[tuple[str, str], int]
+    options: ExploreOptions, plan: Plan, folder: Path, generated: Path, times: tuple[tuple[str, str], int]
 ) -> dict[str, dict[str, Any]]:
     """The tables of the study's file; paths are from its folder on, where some files may have been made already."""
 
@@ -76,24 +76,24 @@ def tables_of(
 
     window, trips = times
     run: dict[str, Any] = {"from": window[0], "to": window[1], "trips": trips, "walk": plan.walk}
-    run |= {"shares": list(wish.shares), "back": wish.back, "ahead": wish.ahead}
-    feed = FEED if (made / FEED).exists() else path(wish.feed)
-    table = WALKS if (made / WALKS).exists() else wish.footpaths and path(wish.footpaths)
+    run |= {"shares": list(options.shares), "back": options.back, "ahead": options.ahead}
+    feed = FEED if (generated / FEED).exists() else path(options.feed)
+    table = WALKS if (generated / WALKS).exists() else options.footpaths and path(options.footpaths)
     walks: dict[str, Any] = {"none": True} if table is None else {"table": table}
     tables = {"feed": {"files": [feed], "ready": True}, "run": run, "walks": walks}
-    if wish.opportunities:
-        tables["opportunities"] = {"files": [path(it) for it in wish.opportunities]}
+    if options.opportunities:
+        tables["opportunities"] = {"files": [path(opportunity) for opportunity in options.opportunities]}
     if plan.text:
         tables["scenarios"] = {"plan": PLAN}
     tables["results"] = {"maps": False}
     return tables
 
 
-def text_of(wish: Wish, tables: dict[str, dict[str, Any]]) -> str:
+def text_of(options: ExploreOptions, tables: dict[str, dict[str, Any]]) -> str:
     """The study's file; a date of TOML has no quotes."""
-    lines = [f"title = {in_toml(wish.title or 'An exploration')}"]
+    lines = [f"title = {in_toml(options.title or 'An exploration')}"]
     for name, values in tables.items():
         lines += ["", f"[{name}]"]
-        lines += [f"date = {wish.date.isoformat()}"] if name == "run" else []
+        lines += [f"date = {options.date.isoformat()}"] if name == "run" else []
         lines += [f"{key} = {in_toml(value)}" for key, value in values.items()]
     return "\n".join(lines) + "\n"

@@ -5,22 +5,22 @@ from dataclasses import replace
 from ..dates import day_of
 from ..faults import BadInput
 from ..study.study_file import read_study
-from .wish import Wish
+from .options import ExploreOptions
 
 
-def wish_of_study(path: str, wish: Wish) -> Wish:
+def options_of_study(path: str, options: ExploreOptions) -> ExploreOptions:
     """What a study's file says, in place of the words of the command; a feed that has to be made first is refused."""
     study = read_study(path)
     run, walks = study.run, study.walks
     if not study.feed.ready or study.points.are_any:
-        told = "its feed has to be prepared first: explore the folder of a feed, as the study's own folder has it"
-        raise BadInput(path, told, column="ready", allowed="true, and no [points]")
+        message = "its feed has to be prepared first: explore the folder of a feed, as the study's own folder has it"
+        raise BadInput(path, message, column="ready", allowed="true, and no [points]")
     if walks.table is None and not walks.none:
-        told = "its walks have to be made first: ttm-tools walks, then table of [walks]"
-        raise BadInput(path, told, column="walks", allowed="table, or none = true")
-    table, plan = (None if it is None else study.at(it) for it in (walks.table, study.scenarios.plan))
+        message = "its walks have to be made first: ttm-tools walks, then table of [walks]"
+        raise BadInput(path, message, column="walks", allowed="table, or none = true")
+    table, plan = (None if path is None else study.at(path) for path in (walks.table, study.scenarios.plan))
     return replace(
-        wish,
+        options,
         feed=study.at(study.feed.files[0]),
         date=day_of(run.date),
         window=(run.first, run.last),
@@ -28,7 +28,7 @@ def wish_of_study(path: str, wish: Wish) -> Wish:
         walk=run.walk,
         shares=run.shares,
         plan=plan,
-        opportunities=[study.at(it) for it in study.opportunities.files],
+        opportunities=[study.at(file) for file in study.opportunities.files],
         footpaths=table,
         back=run.back,
         ahead=run.ahead,

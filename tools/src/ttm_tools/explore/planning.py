@@ -7,6 +7,7 @@ from typing import Sequence
 
 from ..faults import BadInput
 from ..files import remove
+from ..matrices import TODAY
 from ..plans.base import Base
 from ..plans.carrying_out import carried_out
 from ..plans.limits import refuse_limits
@@ -15,6 +16,7 @@ from ..plans.report import sentences
 from ..plans.scenario_files import write_scenarios
 from ..plans.writing import write_all, written_of
 from .changes import Values, name_among, scenario_text
+from .lines import FeedLines
 from .standing import Plan
 
 PLAN, FEED, SCENARIOS = "plan.toml", "feed", "scenarios"
@@ -26,35 +28,40 @@ def text_of(plan: str, actions: Sequence[Values]) -> str:
         return plan
     import tomllib
 
-    names = [it["name"] for it in tomllib.loads(plan).get("scenario", [])]
+    names = [scenario["name"] for scenario in tomllib.loads(plan).get("scenario", [])]
     return (f"{plan.rstrip()}\n\n" if plan else "") + scenario_text(name_among(names), actions)
 
 
-def written(base: Base, text: str, room: Path, walk: int, actions: list[Values]) -> Plan:
-    """Writes the feed of all scenarios of a plan, with their files, into a new folder of a room; none stays where that
-    fails.
+def written(base: Base, lines: FeedLines, text: str, room: Path, walk: int, actions: list[Values]) -> Plan:
+    """Writes the feed of all scenarios of a plan, where they have trips of their own, and their files into a new folder
+    of a room; none stays where that fails.
     """
     own = Path(tempfile.mkdtemp(prefix="plan.", dir=room))
     try:
-        return carried(base, text, own, walk, actions)
+        return carried(base, lines, text, own, walk, actions)
     except BaseException:
         remove(own)
         raise
 
 
-def carried(base: Base, text: str, room: Path, walk: int, actions: list[Values]) -> Plan:
+def carried(base: Base, lines: FeedLines, text: str, room: Path, walk: int, actions: list[Values]) -> Plan:
     path = room / PLAN
     try:
         path.write_text(text, encoding="utf-8")
     except UnicodeEncodeError:
         raise BadInput("the plan", "a name in it is no text of UTF-8") from None
     plan = read_plan(str(path))
-    finished = [carried_out(base, it) for it in plan.scenarios]
-    refuse_limits(str(path), base, [it.state for it in finished])
-    made = written_of(base, finished, alone=False)
-    feed = room / FEED
-    feed.mkdir()
-    write_all(made, feed)
-    names = write_scenarios(made, feed / SCENARIOS)
-    files = [os.fspath(feed / SCENARIOS / name) for name in names]
-    return Plan(os.fspath(feed), files, walk, actions, text, list(sentences(finished)), room)
+    finished = [carried_out(base, scenario) for scenario in plan.scenarios]
+    refuse_limits(str(path), base, [scenario.state for scenario in finished])
+    written = written_of(base, finished, alone=False)
+    feed = base.folder
+    if written.own:
+        feed = room / FEED
+        feed.mkdir()
+        write_all(written, feed)
+    names = write_scenarios(written, room / SCENARIOS)
+    if not written.own:  # of the feed as it is scenarios take out and shift alone, so that today's is the feed itself
+        names.remove(f"{TODAY}.csv")
+    files = [os.fspath(room / SCENARIOS / name) for name in names]
+    lines_said, changes = list(sentences(finished)), lines.changes(written)
+    return Plan(os.fspath(feed), files, walk, actions, text, lines_said, room, changes)

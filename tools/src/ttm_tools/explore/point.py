@@ -65,9 +65,9 @@ def stops_near(point: Point, stops: Stops, metres: float) -> Stops:
     placed = np.flatnonzero(stops.placed)
     away = distances(np.repeat(here, len(placed), axis=0), points_of(stops.latitudes[placed], stops.longitudes[placed]))
     near = placed[(away <= metres) & (stops.kinds[placed] == 0)].tolist()
-    stations = {stops.stations[it] for it in near} - {""}
-    entrances = [it for it in placed.tolist() if stops.kinds[it] == 2 and stops.stations[it] in stations]
-    return stops.of([stops.identifiers[it] for it in near + entrances])
+    stations = {stops.stations[stop] for stop in near} - {""}
+    entrances = [stop for stop in placed.tolist() if stops.kinds[stop] == 2 and stops.stations[stop] in stations]
+    return stops.of([stops.identifiers[stop] for stop in near + entrances])
 
 
 def with_point(stops: Stops, point: Point) -> Stops:
@@ -127,7 +127,7 @@ def write_walks(path: Path, footpaths: str | None, name: str, walks: list[Walk])
     lines = iter([(1, HEADER)]) if footpaths is None else records(footpaths)
     _, header = next(lines, (1, HEADER))
     places = places_of(header, footpaths or path, HEADER)
-    chosen = [places[it] for it in HEADER]
+    chosen = [places[column] for column in HEADER]
     own = (spread([name, stop, str(seconds)], chosen, len(header)) for stop, seconds in walks)
     with open(path, "wb") as out:
         write_rows(out, header, itertools.chain((fields for _, fields in lines), own))

@@ -24,49 +24,49 @@ class Question:
     turn: int  # the number of the question in this tab
 
 
-def whole(words: Mapping[str, str], name: str, least: int, most: int) -> int:
+def whole(args: Mapping[str, str], name: str, least: int, most: int) -> int:
     """A whole number of a range."""
-    text = words.get(name, "")
+    text = args.get(name, "")
     if not WHOLE.fullmatch(text) or not least <= int(text) <= most:
         raise WrongWords(f"{name} is {text[:60]!r}; allowed: {least} to {most}")
     return int(text)
 
 
-def clock(words: Mapping[str, str], name: str) -> str:
+def clock(args: Mapping[str, str], name: str) -> str:
     """A time of the day."""
-    text = words.get(name, "")
+    text = args.get(name, "")
     if not CLOCK.fullmatch(text):
         raise WrongWords(f"{name} is {text[:60]!r}; allowed: 00:00 to 23:59")
     return text
 
 
-def window_of(words: Mapping[str, str]) -> tuple[str, str]:
+def window_of(args: Mapping[str, str]) -> tuple[str, str]:
     """The first and the last departure."""
-    first, last = clock(words, "first"), clock(words, "last")
+    first, last = clock(args, "first"), clock(args, "last")
     if last < first:
         raise WrongWords(f"the last departure, {last}, is before the first, {first}")
     return first, last
 
 
-def degrees(words: Mapping[str, str], name: str, most: int) -> float:
+def degrees(args: Mapping[str, str], name: str, most: int) -> float:
     """A latitude or a longitude."""
-    text = words.get(name, "")
+    text = args.get(name, "")
     if not DEGREES.fullmatch(text) or abs(float(text)) > most:
         raise WrongWords(f"{name} is {text[:60]!r}; allowed: -{most} to {most}")
     return float(text)
 
 
-def origin_of(words: Mapping[str, str], places: int) -> int | Point:
+def origin_of(args: Mapping[str, str], places: int) -> int | Point:
     """One of so many places, or a point."""
-    if "lat" in words or "lon" in words:
-        return Point(degrees(words, "lat", 90), degrees(words, "lon", 180))
-    return whole(words, "origin", 0, places - 1)
+    if "lat" in args or "lon" in args:
+        return Point(degrees(args, "lat", 90), degrees(args, "lon", 180))
+    return whole(args, "origin", 0, places - 1)
 
 
-def question_of(words: Mapping[str, str], places: int) -> Question:
+def question_of(args: Mapping[str, str], places: int) -> Question:
     """A question about one of so many places, or about any point."""
-    tab = words.get("tab", "")
+    tab = args.get("tab", "")
     if not TAB.fullmatch(tab):
         raise WrongWords("tab is no name of a tab")
-    origin, trips = origin_of(words, places), whole(words, "trips", 1, 8)
-    return Question(origin, window_of(words), trips, tab, whole(words, "turn", 0, 1 << 53))
+    origin, trips = origin_of(args, places), whole(args, "trips", 1, 8)
+    return Question(origin, window_of(args), trips, tab, whole(args, "turn", 0, 1 << 53))

@@ -47,23 +47,23 @@ class Routes:
 def routes_of(base: Base, date: datetime.date, numbers: Mapping[str, int]) -> Routes:
     """The routes of a feed, with places of the page by the stops' identifiers."""
     running = services_on(base.feed, date)
-    place = np.array([numbers[name] for name in base.places.identifiers], dtype=np.int64)[base.stop]
+    place = np.array([numbers.get(name, -1) for name in base.places.identifiers], dtype=np.int64)  # -1: of no trip
     found = {own: trips for own, trips in base.by_route.items() if base.lengths[trips].sum() > 0}
     names = names_of(base)
     ways = [ways_of(base, trips[base.lengths[trips] > 1], place, running) for trips in found.values()]
     shown_ways, hours = [some[:MOST_WAYS] for some in ways], [hours_of(some) for some in ways]
-    return Routes(list(found), [names[own] for own in found], shown_ways, hours, pairs_of(base, list(found), place))
+    return Routes(list(found), [names[own] for own in found], shown_ways, hours, [pairs_of(some) for some in ways])
 
 
 def names_of(base: Base) -> dict[str, str]:
     """What people call each route: its short name, or its long one, and its identifier where it is another."""
     table = base.feed.tables["routes.txt"]
     columns = (table.texts(name) for name in ("route_id", "route_short_name", "route_long_name"))
-    made = {}
+    names = {}
     for own, short, long in zip(*columns):
-        name, told = shown(short.strip() or long.strip() or own), shown(own)
-        made[own] = name if name == told else f"{name} ({told})"
-    return made
+        name, identifier = shown(short.strip() or long.strip() or own), shown(own)
+        names[own] = name if name == identifier else f"{name} ({identifier})"
+    return names
 
 
 def ways_of(base: Base, trips: Whole, place: Whole, running: set[str]) -> list[Way]:
@@ -71,18 +71,18 @@ def ways_of(base: Base, trips: Whole, place: Whole, running: set[str]) -> list[W
     states = all(base.directions[trip].strip() in ("0", "1") for trip in trips.tolist())
     groups: dict[bytes, list[int]] = {}
     for trip in trips.tolist():
-        groups.setdefault(place[base.begins[trip] : base.begins[trip + 1]].tobytes(), []).append(trip)
-    made = [way_of(base, some, place, running, states) for some in groups.values()]
-    return sorted(made, key=lambda way: -way.count)
+        groups.setdefault(base.stop[base.begins[trip] : base.begins[trip + 1]].tobytes(), []).append(trip)
+    ways = [way_of(base, some, place, running, states) for some in groups.values()]
+    return sorted(ways, key=lambda way: -way.count)
 
 
 def hours_of(ways: list[Way]) -> list[int]:
     """The departures in each hour of all ways that run along the one with the most of them."""
-    made = [0] * HOURS
+    hours = [0] * HOURS
     for way in ways:
         if way.direction == ways[0].direction and (way.direction is not None or runs_along(way.stops, ways[0].stops)):
-            made = [one + other for one, other in zip(made, way.hours)]
-    return made
+            hours = [one + other for one, other in zip(hours, way.hours)]
+    return hours
 
 
 def way_of(base: Base, trips: list[int], place: Whole, running: set[str], states: bool) -> Way:
@@ -91,7 +91,7 @@ def way_of(base: Base, trips: list[int], place: Whole, running: set[str], states
         if base.services[trip] in running:
             for time in departures_of(base, trip):
                 hours[time // 3600 % HOURS] += 1
-    stops = place[base.begins[first] : base.begins[first + 1]].tolist()
+    stops = place[base.stop[base.begins[first] : base.begins[first + 1]]].tolist()
     direction = int(base.directions[first]) if states else None
     return Way(stops, sum(hours), hours, base.trips[first], direction)
 
@@ -103,18 +103,7 @@ def departures_of(base: Base, trip: int) -> list[int]:
     return [int(base.depart[base.begins[trip]])]
 
 
-def pairs_of(base: Base, routes: list[str], place: Whole) -> list[list[int]]:
-    """The pieces between stops that follow one another, by route, each once whichever way it is run."""
-    codes = {own: code for code, own in enumerate(routes)}
-    route = np.repeat([codes.get(own, -1) for own in base.routes], base.lengths)
-    follows = np.ones(len(place), dtype=np.bool_)
-    follows[base.begins[1:][base.lengths > 0] - 1] = False
-    at = np.flatnonzero(follows & (route >= 0))
-    ends = np.sort(np.stack([place[at], place[at + 1]], axis=1), axis=1)
-    count = int(place.max(initial=0)) + 1
-    keys = np.unique((route[at] * count + ends[:, 0]) * count + ends[:, 1])
-    made: list[list[int]] = [[] for _ in routes]
-    for key in keys.tolist():
-        rest, last = divmod(key, count)
-        made[rest // count] += [rest % count, last]
-    return made
+def pairs_of(ways: list[Way]) -> list[int]:
+    """The pieces between stops that follow one another, each once whichever way it is run."""
+    pairs = {(min(pair), max(pair)) for way in ways for pair in zip(way.stops, way.stops[1:])}
+    return [place for pair in sorted(pairs) for place in pair]

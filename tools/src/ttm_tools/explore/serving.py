@@ -26,16 +26,16 @@ class Quiet(WSGIRequestHandler):
 
 def bound(port: int) -> socket.socket:
     """A socket of this machine at a port, or at a free one where the port is 0."""
-    made = socket.socket(socket.AF_INET, socket.SOCK_STREAM)
+    listening = socket.socket(socket.AF_INET, socket.SOCK_STREAM)
     try:
-        made.setsockopt(socket.SOL_SOCKET, socket.SO_REUSEADDR, 1)
-        made.bind((HOST, port))
-        made.listen(128)
+        listening.setsockopt(socket.SOL_SOCKET, socket.SO_REUSEADDR, 1)
+        listening.bind((HOST, port))
+        listening.listen(128)
     except OSError as fault:
-        made.close()
-        told = "is in use" if fault.errno == errno.EADDRINUSE else fault.strerror or str(fault)
-        raise BadInput(f"port {port}", f"{told}: name another by --port, or 0 for a free one") from None
-    return made
+        listening.close()
+        message = "is in use" if fault.errno == errno.EADDRINUSE else fault.strerror or str(fault)
+        raise BadInput(f"port {port}", f"{message}: name another by --port, or 0 for a free one") from None
+    return listening
 
 
 def serve(app: Flask, own: socket.socket, address: str | None) -> None:

@@ -1,7 +1,6 @@
 """A network that answers, of the feed as it is or of a plan's scenarios, until another takes its place."""
 
-from dataclasses import dataclass
-from functools import cached_property
+from dataclasses import dataclass, field
 from pathlib import Path
 from typing import Any, Sequence
 
@@ -12,9 +11,11 @@ from ..engine import Result, matrix
 from ..files import remove
 from ..matrices import BASE, TODAY
 from ..network import Network
+from ..views.page.lines import LineChange
+from .lines import UNCHANGED
 from .point import Point, Walk, laid_out
 from .question import Question
-from .wish import Wish
+from .options import ExploreOptions
 
 Seconds = npt.NDArray[np.int32]
 NEVER = -1  # in place of seconds, where a stop isn't reached
@@ -25,12 +26,13 @@ class Plan:
     """Of what a network is."""
 
     folder: str  # the feed
-    files: list[str]  # of its scenarios
+    files: list[str]  # of its scenarios; none of today's where that is the feed as it is
     walk: int  # seconds, the longest walk
     actions: list[dict[str, Any]]  # a person's changes, as the page sends them
     text: str  # of the plan of its scenarios; empty where there is none
-    told: list[str]  # what the plan's actions did
+    sentences: list[str]  # what the plan's actions did
     own: Path | None  # a folder that goes with it
+    changes: list[LineChange] = field(default_factory=lambda: [UNCHANGED])  # of the lines, by scenario
 
     @property
     def scenarios(self) -> list[str]:
@@ -38,28 +40,29 @@ class Plan:
         names = [Path(path).name.removesuffix(".csv") for path in self.files]
         return [TODAY, *(name for name in names if name != TODAY)] if names else [BASE]
 
+    def name_of(self, scenario: str) -> str:
+        """What the program calls a scenario."""
+        is_feed = scenario == TODAY and not any(Path(path).name == f"{TODAY}.csv" for path in self.files)
+        return BASE if is_feed else scenario
+
 
 class Standing:
     """A process that keeps the network of a plan."""
 
-    def __init__(self, version: int, plan: Plan, wish: Wish) -> None:
-        self.version, self.plan, self.wish = version, plan, wish
+    def __init__(self, version: int, plan: Plan, options: ExploreOptions) -> None:
+        self.version, self.plan, self.options = version, plan, options
         self.scenarios = plan.scenarios
+        self.order: npt.NDArray[np.intp] | None = None  # where the column of each place is, by the first answer
         self.network = Network(
             plan.folder,
-            wish.date,
+            options.date,
             walk=plan.walk,
             scenarios=plan.files,
-            footpaths=wish.footpaths,
-            back=wish.back,
-            ahead=wish.ahead,
-            program=wish.program,
+            footpaths=options.footpaths,
+            back=options.back,
+            ahead=options.ahead,
+            program=options.program,
         )
-
-    @cached_property
-    def order(self) -> dict[str, int]:
-        """Where the column of each stop is; filled by the first answer."""
-        return {}
 
     def ask(self, origin: str, window: tuple[str, str], trips: int, shares: Sequence[int]) -> Result:
         """Travel times from a stop."""
@@ -67,31 +70,32 @@ class Standing:
 
     def ask_from(self, point: Point, walks: list[Walk], folder: Path, question: Question) -> Result:
         """Travel times from a point that is no stop, by a run with it as one more stop, whose files are in a folder."""
-        name, feed, footpaths = laid_out(folder, self.plan.folder, self.wish.footpaths, point, walks)
+        name, feed, footpaths = laid_out(folder, self.plan.folder, self.options.footpaths, point, walks)
         return matrix(
             feed,
-            self.wish.date,
+            self.options.date,
             question.window,
             trips=question.trips,
             walk=self.plan.walk,
-            shares=self.wish.shares,
+            shares=self.options.shares,
             scenarios=self.plan.files,
             origins=[name],
             footpaths=footpaths,
-            back=self.wish.back,
-            ahead=self.wish.ahead,
-            program=self.wish.program,
+            back=self.options.back,
+            ahead=self.options.ahead,
+            program=self.options.program,
         )
 
     def seconds(self, result: Result, columns: Sequence[str]) -> Seconds:
         """The cells of some stops by scenario and share, in whole seconds."""
-        if not self.order:
-            self.order.update({name: place for place, name in enumerate(result.stops)})
-        chosen = np.array([self.order[name] for name in columns], dtype=np.intp)
-        rows = [result.seconds[name, share][0] for name in self.scenarios for share in result.shares]
-        found = np.stack(rows)[:, chosen]
-        made: Seconds = np.where(np.isnan(found), NEVER, found).astype("<i4")
-        return made
+        if self.order is None:
+            places = {name: place for place, name in enumerate(result.stops)}
+            self.order = np.array([places[name] for name in columns], dtype=np.intp)
+        names = map(self.plan.name_of, self.scenarios)
+        rows = [result.seconds[name, share][0] for name in names for share in result.shares]
+        found = np.stack(rows)[:, self.order]
+        seconds: Seconds = np.where(np.isnan(found), NEVER, found).astype("<i4")
+        return seconds
 
     def close(self) -> None:
         self.network.close()

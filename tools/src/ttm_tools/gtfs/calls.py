@@ -7,8 +7,8 @@ from typing import Sequence
 import numpy as np
 
 from . import fields
-from .columns import empty, positions_of, values_of
-from .fields import Mask, Whole, number, time
+from .columns import empty, positions_of, times_of, values_of
+from .fields import Mask, Whole, number
 from .tables import Table
 
 
@@ -94,13 +94,20 @@ def calls_of(table: Table, trips: Sequence[str]) -> Calls:
     trip = positions_of(table["trip_id"], trips)
     gone = np.append(aside(table, trip, len(trips)), True)
     rows = np.flatnonzero(~gone[trip])
-    sequence = values_of(table["stop_sequence"], number)[rows]
-    rows = rows[np.lexsort((np.maximum(sequence, 0), trip[rows]))]
-    first, last = (values_of(table[name], time)[rows] for name in ("arrival_time", "departure_time"))
+    sequence = np.maximum(values_of(table["stop_sequence"], number)[rows], 0)
+    if not in_order(trip[rows], sequence):
+        rows = rows[np.lexsort((sequence, trip[rows]))]
+    first, last = (times_of(table[name])[rows] for name in ("arrival_time", "departure_time"))
     bad = np.asarray((first == fields.NONE) | (last == fields.NONE), dtype=np.bool_)
     arrival, departure = np.where(first >= 0, first, last), np.where(last >= 0, last, first)
-    arrival, departure = (np.where(it >= 0, it, fields.EMPTY) for it in (arrival, departure))
+    arrival, departure = (np.where(times >= 0, times, fields.EMPTY) for times in (arrival, departure))
     return Calls(rows, trip[rows], arrival, departure, bad)
+
+
+def in_order(trip: Whole, sequence: Whole) -> bool:
+    """Whether calls stand trip by trip, and ascending on each."""
+    later, same = trip[1:] > trip[:-1], trip[1:] == trip[:-1]
+    return bool((later | (same & (sequence[1:] >= sequence[:-1]))).all())
 
 
 def begins_of(calls: Calls, count: int) -> Whole:

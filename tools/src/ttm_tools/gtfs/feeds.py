@@ -12,11 +12,11 @@ from ..files import copy_file
 from ..opening.paths import inside
 from ..opening.zips import Unread, members_of, refuse_size, unpack_member
 from ..records import names_of
-from .columns import distinct, empty, one_of, values_of, where
+from .columns import Texts, distinct, empty, one_of, values_of, where
 from .fields import EMPTY, FILES, Mask, number
-from .reading import Columns, columns_of, is_long
+from .reading import columns_of, is_long
 from .stops import has_file, in_folder
-from .tables import Table, frame_of, no_table, read_table, write_table
+from .tables import Table, no_table, read_table, write_table
 
 OPTIONAL = ("calendar.txt", "calendar_dates.txt", "frequencies.txt", "transfers.txt")
 
@@ -37,7 +37,7 @@ class Feed:
 
     def has_columns(self, name: str) -> bool:
         """Whether a file is there with the columns that it needs."""
-        return name in self.tables and all(it in self.tables[name] for it in FILES[name].needed)
+        return name in self.tables and all(column in self.tables[name] for column in FILES[name].needed)
 
 
 Near = Callable[[Table], "set[str] | None"]  # the stops of stops.txt that matter; none where all do
@@ -50,12 +50,12 @@ def calls_near(path: Path, stops: set[str]) -> Table:
     known = stops | {stop.strip() for stop in stops}
     trips = set[str]()
 
-    def note(piece: Columns) -> Mask:
+    def note(piece: Mapping[str, Texts]) -> Mask:
         called = where(piece["stop_id"], lambda stop: stop in known or stop.strip() in known)
         trips.update(distinct(piece["trip_id"], called))
         return np.zeros(len(called), dtype=np.bool_)
 
-    def keep(piece: Columns) -> Mask:
+    def keep(piece: Mapping[str, Texts]) -> Mask:
         return one_of(piece["trip_id"], trips)
 
     if not is_long(path):
@@ -65,7 +65,7 @@ def calls_near(path: Path, stops: set[str]) -> Table:
         table.keep(keep(piece))
         return table
     columns_of(path, ("trip_id", "stop_id"), note)
-    return Table("stop_times.txt", frame_of(*columns_of(path, names_of(path), keep)))
+    return Table("stop_times.txt", *columns_of(path, names_of(path), keep))
 
 
 def read_feed(path: str | Path, room: Path, near: Near = lambda _: None) -> Feed:
@@ -74,45 +74,54 @@ def read_feed(path: str | Path, room: Path, near: Near = lambda _: None) -> Feed
     """
     given = Path(path)
     if given.is_dir():
-        files = {str(it.relative_to(given)): it for it in files_in(given)}
-        held = {name: files[member] for name, member in files_of(given, list(files)).items()}
-        feed = feed_of(given, held, near)
-        feed.others = {name: inside(given, path) for name, path in held.items() if name not in FILES}
-        within = next(iter(held.values())).parent
-        feed.unread.update((name, within / name) for name in FILES if (within / name).is_dir())
-        return feed
+        return read_folder(given, (), near)
     if not given.exists():
         raise BadInput(given, "no such file or folder")
     sizes = members_of(given)
     chosen = files_of(given, list(sizes))
-    refuse_size(given, [sizes[it] for it in chosen.values()], room)
-    feed = feed_of(given, {it: unpack_member(given, chosen[it], room / it) for it in chosen if it in FILES}, near)
-    feed.others = Unread(given, {name: it for name, it in chosen.items() if name not in FILES}, room)
+    refuse_size(given, [sizes[member] for member in chosen.values()], room)
+    feed = feed_of(
+        given, {name: unpack_member(given, chosen[name], room / name) for name in chosen if name in FILES}, near
+    )
+    feed.others = Unread(given, {name: member for name, member in chosen.items() if name not in FILES}, room)
+    return feed
+
+
+def read_folder(folder: Path, apart: Sequence[str], near: Near = lambda _: None) -> Feed:
+    """A feed from a folder; files apart aren't read."""
+    files = {str(file.relative_to(folder)): file for file in files_in(folder)}
+    held = {name: files[member] for name, member in files_of(folder, list(files)).items()}
+    feed = feed_of(folder, {name: member for name, member in held.items() if name not in apart}, near)
+    feed.others = {name: inside(folder, path) for name, path in held.items() if name not in FILES}
+    within = next(iter(held.values())).parent
+    feed.unread.update((name, within / name) for name in FILES if (within / name).is_dir())
     return feed
 
 
 def files_in(folder: Path) -> Iterator[Path]:
     """The files of a folder and of those inside it, two deep."""
     for pattern in ("*", "*/*", "*/*/*"):
-        yield from (it for it in sorted(folder.glob(pattern)) if not it.is_dir())
+        yield from (path for path in sorted(folder.glob(pattern)) if not path.is_dir())
 
 
 def files_of(path: Path, members: Sequence[str]) -> dict[str, str]:
     """The files of the feed among those of a zip file or folder, by name: those of the folder that has the most."""
     folders: dict[str, dict[str, str]] = {}
-    for member in members:
-        folder, name = os.path.split(member)
-        if not any(part.startswith((".", "__MACOSX")) for part in PurePosixPath(member).parts):
-            folders.setdefault(folder, {})[name] = member
+    for file in members:
+        folder, name = os.path.split(file)
+        if not any(part.startswith((".", "__MACOSX")) for part in PurePosixPath(file).parts):
+            folders.setdefault(folder, {})[name] = file
     counts = {folder: len(FILES.keys() & names.keys()) for folder, names in folders.items()}
     best = [folder for folder, count in counts.items() if count and count == max(counts.values())]
     if not best:
-        zipped = [member for member in members if member.endswith(".zip")]
+        zipped = [file for file in members if file.endswith(".zip")]
         hint = f", but {zipped[0]}: unzip it first" if zipped else ""
         raise BadInput(path, f"no GTFS in it{hint}")
     if len(best) > 1:
         raise BadInput(path, f"several feeds in it, {best[0] or '.'} and {best[1]}: give them one by one")
-    return {name: it for name, it in folders[best[0]].items() if name in FILES or name.endswith((".txt", ".geojson"))}
+    return {
+        name: file for name, file in folders[best[0]].items() if name in FILES or name.endswith((".txt", ".geojson"))
+    }
 
 
 def feed_of(path: Path, files: Mapping[str, Path], near: Near) -> Feed:

@@ -12,6 +12,7 @@ import numpy as np
 import numpy.typing as npt
 
 Whole = npt.NDArray[np.int64]
+Narrow = npt.NDArray[np.int32]  # whole numbers where there are millions of them
 Floats = npt.NDArray[np.float64]
 Mask = npt.NDArray[np.bool_]
 NONE, EMPTY = -1, -2

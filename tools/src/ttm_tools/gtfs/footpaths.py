@@ -1,48 +1,65 @@
 """Walks between the stops of a timetable, closed over chains of footpaths, and the change time at each stop."""
 
 from dataclasses import dataclass
-from typing import Iterator
+from typing import Mapping, Sequence
 
 import numpy as np
 
-from ..records import rows
-from .columns import values_of
+from .columns import Column, texts_of, values_of
 from .feeds import used_transfers
-from .fields import Whole, number
-from .nearest import reached_from
+from .fields import Mask, Whole, number
+from .reading import columns
+from .tables import Table
 from .timetable import Timetable
 
 NO_CHANGE = 16_777_216  # seconds: a change time that lets nobody change
+AT_ONCE = 1 << 20  # walks that are lengthened at once, about
+NO_STOP, SEVERAL = -1, -2
+Ends = Mapping[str, Sequence[int]]  # the stops that an end of a stated walk stands for
 
 
 @dataclass(frozen=True)
-class Walks:
+class Footpaths:
     """One-way walks between stops, each the least sum over chains of footpaths within the limit."""
 
     begin: Whole
     end: Whole
     seconds: Whole
 
+    def of(self, rows: Whole | Mask) -> "Footpaths":
+        """Some of them."""
+        return Footpaths(self.begin[rows], self.end[rows], self.seconds[rows])
+
 
 def read_walks(
     timetable: Timetable, footpaths: str | None, limit: int, start: int | None = None
-) -> tuple[Walks, Whole]:
+) -> tuple[Footpaths, Whole]:
     """The walks of a feed and of a file of footpaths, closed within the limit, and the change time at each stop. With
     a start those walks alone that begin there or where vehicles call, as others aren't of its journeys.
     """
-    ends, changes, direct = ends_of(timetable), np.zeros(len(timetable.stops), np.int64), dict[tuple[int, int], int]()
-    for origin, target, seconds, is_change in stated_walks(timetable, footpaths):
-        for a in ends.get(origin, []):
-            if is_change and origin == target:
-                changes[a] = max(changes[a], min(seconds, NO_CHANGE))
-            for b in ends.get(target, []):
-                if a != b and seconds <= limit:
-                    direct[a, b] = min(direct.get((a, b), seconds), seconds)
-    begins = None if start is None else {start, *np.unique(timetable.events.stop).tolist()}
+    direct, changes = direct_walks(timetable, footpaths, limit)
+    begins = np.full(len(changes), start is None, dtype=np.bool_)
+    if start is not None:
+        begins[timetable.events.stop] = begins[start] = True
     return closed(direct, limit, begins), changes
 
 
-def ends_of(timetable: Timetable) -> dict[str, list[int]]:
+def direct_walks(timetable: Timetable, footpaths: str | None, limit: int) -> tuple[Footpaths, Whole]:
+    """The shortest walk that a feed and a file of footpaths state from one stop to another, in order, and the change
+    time at each stop.
+    """
+    ends, count, table = ends_of(timetable), len(timetable.stops), timetable.feed.get("transfers.txt").copy()
+    table.keep(used_transfers(table))
+    stated = [stated_walks(table["from_stop_id"], table["to_stop_id"], table["min_transfer_time"], ends)]
+    if footpaths is not None:
+        read = columns(footpaths, ("from_stop_id", "to_stop_id", "seconds"))
+        stated.append(stated_walks(read["from_stop_id"], read["to_stop_id"], read["seconds"], ends))
+    every = joined(stated)
+    direct, _ = least(every.of((every.begin != every.end) & (every.seconds <= limit)), count)
+    return direct, change_times(table, ends, count)
+
+
+def ends_of(timetable: Timetable) -> Ends:
     """The stops that an end of a walk stands for: itself, or the stops of a station."""
     known, all_stops = {name: place for place, name in enumerate(timetable.stops)}, timetable.all_stops
     ends = {name: [place] for name, place in known.items()}
@@ -53,28 +70,69 @@ def ends_of(timetable: Timetable) -> dict[str, list[int]]:
     return ends
 
 
-def stated_walks(timetable: Timetable, footpaths: str | None) -> Iterator[tuple[str, str, int, bool]]:
-    """The rows of transfers.txt that state a time for all routes and trips, then those of a file of footpaths: ends,
-    seconds, and whether the row may state a change time.
-    """
-    table = timetable.feed.get("transfers.txt")
-    seconds, kinds = (values_of(table[name], number).tolist() for name in ("min_transfer_time", "transfer_type"))
-    origins, targets = table.texts("from_stop_id"), table.texts("to_stop_id")
-    for row in np.flatnonzero(used_transfers(table)).tolist():
-        yield origins[row], targets[row], seconds[row], kinds[row] == 2
-    if footpaths is not None:
-        for _, (origin, target, taken) in rows(footpaths, ["from_stop_id", "to_stop_id", "seconds"]):
-            yield origin, target, int(taken), False
+def stated_walks(origin: Column, target: Column, seconds: Column, ends: Ends) -> Footpaths:
+    """The walks that records state, by the stops that their ends stand for."""
+
+    def place_of(text: str) -> int:
+        stops = ends.get(text, ())
+        return stops[0] if len(stops) == 1 else SEVERAL if stops else NO_STOP
+
+    begin, end = values_of(origin, place_of, NO_STOP), values_of(target, place_of, NO_STOP)
+    taken = values_of(seconds, number)
+    several = np.flatnonzero((begin == SEVERAL) | (end == SEVERAL))
+    lines = zip(texts_of(origin.at(several)), texts_of(target.at(several)), taken[several].tolist())
+    more = [(a, b, least) for one, other, least in lines for a in ends.get(one, ()) for b in ends.get(other, ())]
+    single = Footpaths(begin, end, taken).of((begin >= 0) & (end >= 0))
+    return joined([single, Footpaths(*np.array(more, np.int64).reshape(-1, 3).T)])
 
 
-def closed(direct: dict[tuple[int, int], int], limit: int, begins: set[int] | None) -> Walks:
-    """Each stop's walks, or those of some, by Dijkstra's search, cut at the limit."""
-    leaving: dict[int, list[tuple[int, int]]] = {}
-    for (a, b), seconds in direct.items():
-        leaving.setdefault(a, []).append((b, seconds))
-    walks: list[tuple[int, int, int]] = []
-    for source in leaving if begins is None else begins & leaving.keys():
-        found = reached_from(source, leaving, limit)
-        walks += [(source, stop, seconds) for stop, seconds in found.items() if stop != source]
-    columns = np.array(walks, dtype=np.int64).reshape(-1, 3)
-    return Walks(columns[:, 0], columns[:, 1], columns[:, 2])
+def change_times(transfers: Table, ends: Ends, count: int) -> Whole:
+    """The seconds of a change at each stop: those from a stop, or station, to itself."""
+    times, columns = np.zeros(count, np.int64), [transfers.texts(name) for name in ("from_stop_id", "to_stop_id")]
+    kinds, seconds = (values_of(transfers[name], number) for name in ("transfer_type", "min_transfer_time"))
+    for origin, target, kind, taken in zip(*columns, kinds.tolist(), seconds.tolist()):
+        for stop in ends.get(origin, ()) if origin == target and kind == 2 else ():
+            times[stop] = max(times[stop], min(taken, NO_CHANGE))
+    return times
+
+
+def joined(some: Sequence[Footpaths]) -> Footpaths:
+    """All walks, one after the other."""
+    return Footpaths(
+        *(np.concatenate(column) for column in zip(*((walks.begin, walks.end, walks.seconds) for walks in some)))
+    )
+
+
+def least(walks: Footpaths, count: int) -> tuple[Footpaths, Whole]:
+    """The shortest walk between each two stops, by their numbers, and its place among all; of several the first."""
+    pairs = walks.begin * count + walks.end
+    order = np.lexsort((walks.seconds, pairs))
+    pairs = pairs[order]
+    chosen = order[np.flatnonzero(np.concatenate([[True], pairs[1:] != pairs[:-1]])[: len(pairs)])]
+    return walks.of(chosen), chosen
+
+
+def closed(direct: Footpaths, limit: int, begins: Mask) -> Footpaths:
+    """The shortest walks from some stops over chains of direct ones, which are in order, cut at the limit."""
+    firsts = np.searchsorted(direct.begin, np.arange(len(begins) + 1))
+    own = direct.of(begins[direct.begin])
+    longer = np.cumsum(firsts[own.end + 1] - firsts[own.end])
+    ends = np.flatnonzero(np.concatenate([own.begin[1:] != own.begin[:-1], [True]])[: len(longer)]) + 1  # of a stop's
+    pieces = [0, *ends[np.diff(longer[ends - 1] // AT_ONCE, append=-1) != 0].tolist()]
+    pieces_closed = [over_chains(own.of(np.arange(a, b)), direct, firsts, limit) for a, b in zip(pieces, pieces[1:])]
+    return joined([own.of(np.arange(0)), *pieces_closed])
+
+
+def over_chains(own: Footpaths, direct: Footpaths, firsts: Whole, limit: int) -> Footpaths:
+    """The shortest walks that begin with some: what became shorter is lengthened, until nothing does."""
+    walks = new = own
+    while len(new.begin):
+        counts = firsts[new.end + 1] - firsts[new.end]
+        row = np.repeat(np.arange(len(counts)), counts)
+        step = np.arange(len(row)) + np.repeat(firsts[new.end] - np.cumsum(counts) + counts, counts)
+        longer = Footpaths(new.begin[row], direct.end[step], new.seconds[row] + direct.seconds[step])
+        longer = longer.of((longer.seconds <= limit) & (longer.end != longer.begin))
+        known = len(walks.begin)
+        walks, chosen = least(joined([walks, longer]), len(firsts) - 1)
+        new = walks.of(chosen >= known)
+    return walks

@@ -54,9 +54,9 @@ def rename(table: Table, kind: str, new: Callable[[str], str]) -> None:
     for name in table.columns:
         if kind_of(table.name, name) == kind:
             # a parent's spaces aren't read
-            texts = [it.strip(" ") if name == "parent_station" else it for it in table[name].categories]
-            table.replace(name, renamed(table[name], [new(it) if it else "" for it in texts]))
+            texts = [text.strip(" ") if name == "parent_station" else text for text in table[name].categories]
+            table.replace(name, renamed(table[name], [new(text) if text else "" for text in texts]))
     if table.name == "translations.txt":
         names = list(zip(table.texts("table_name"), table.texts("record_id")))
-        rows = [row for row, (name, it) in enumerate(names) if it and TRANSLATED.get(name) == kind]
+        rows = [row for row, (name, text) in enumerate(names) if text and TRANSLATED.get(name) == kind]
         table.put("record_id", np.array(rows, dtype=np.intp), [new(names[row][1]) for row in rows])

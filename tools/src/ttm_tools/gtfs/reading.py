@@ -1,4 +1,4 @@
-"""Columns of a file: read by pandas if the file is long, else record by record.
+"""Columns of a file: by numpy where it is plain, by pandas where it is long and isn't, else record by record.
 
 pandas takes a million records at a time. It doesn't take records with more fields than the header, and some quotes;
 such a file is read record by record too.
@@ -7,29 +7,31 @@ such a file is read record by record too.
 import os
 import re
 from pathlib import Path
-from typing import Any, Callable, Iterable, Iterator, Sequence
+from typing import Any, Callable, Iterable, Iterator, Mapping, Sequence
 
 import numpy as np
 import numpy.typing as npt
-import pandas
 
-from ..progress import told
-from ..records import names_of, places_of, records, rows
-from .columns import Column, column_of
-from .fields import Layout, Mask, Whole
+from .. import progress
+from ..records import places_of, records, rows
+from .columns import Column, Texts, column_of
+from .fields import Mask, Whole
+from .plain import BLOCK, Piece, plain_pieces, together
 
 ROWS_AT_ONCE = 1_000_000
 BYTES_AT_ONCE = 50 * ROWS_AT_ONCE  # of a file of so many records, about
-SMALL = 1 << 24  # bytes of a file that is read record by record
+LITTLE = 1 << 20  # bytes of a plain file at once, where memory counts more than a fifth of the time
+SMALL = 1 << 24  # bytes of a file that is read record by record where it isn't plain
 BLANKS = re.compile(rb"(?:^|[\r\n])[ \t]+[\r\n]")
 BEGINS = [end + blank for end in (b"\r", b"\n") for blank in (b" ", b"\t")]
-ODD = (ValueError, OverflowError)  # what pandas raises of records that it doesn't take, ParserError among it
+ODD = (ValueError, OverflowError)  # raised of what a reader doesn't take, ParserError of pandas among it
 Columns = dict[str, Column]
-Keep = Callable[[Columns], "Mask | None"]
+Keep = Callable[[Mapping[str, Texts]], "Mask | None"]
+Way = Callable[[], Iterable[Mapping[str, Texts]]]  # in pieces
 
 
 def columns(path: str | Path, needed: Sequence[str]) -> Columns:
-    """The needed columns of a file of many records."""
+    """The needed columns of a file."""
     return columns_of(path, needed, lambda piece: None)[0]
 
 
@@ -38,22 +40,56 @@ def columns_of(path: str | Path, needed: Sequence[str], keep: Keep) -> tuple[Col
     these records.
     """
     try:
-        return joined_pieces(pieces(path, needed), needed, keep)
+        return plain_columns(path, needed, keep)
     except ODD:
-        return joined_pieces([columns_by_records(path, needed)], needed, keep)
+        pass
+    try:
+        if is_long(path):
+            return joined_pieces(pieces(path, needed), needed, keep)
+    except ODD:
+        pass
+    return joined_pieces([columns_by_records(path, needed)], needed, keep)
+
+
+def plain_columns(path: str | Path, needed: Sequence[str], keep: Keep) -> tuple[Columns, Whole]:
+    """The same of a plain file."""
+    count, name = os.path.getsize(path) // BLOCK, os.path.basename(path)
+    found: dict[str, list[Piece]] = {name: [] for name in needed}
+    numbers, first = [np.zeros(0, np.int64)], 2
+    for piece in progress.shown(plain_pieces(path, needed), count, name, f"{BLOCK >> 20} MB"):
+        kept, lines = keep(piece), len(next(iter(piece.values())).codes) if piece else 0
+        rows = np.arange(lines) if kept is None else np.flatnonzero(kept)
+        numbers.append(first + rows)
+        first += lines
+        for name, column in piece.items():
+            found[name].append(column if kept is None else column.used_by(column.codes[rows]))
+    return {name: together(found.pop(name)) for name in needed}, np.concatenate(numbers)
 
 
 def pieces(path: str | Path, needed: Sequence[str]) -> Iterator[Columns]:
-    """The needed columns of a file of many records, a million records at a time, as pandas reads them."""
-    how = {"dtype": "category", "keep_default_na": False, "index_col": False, "chunksize": ROWS_AT_ONCE}
+    """The needed columns of a file of many records, a million records at a time."""
+    count = os.path.getsize(path) // BYTES_AT_ONCE
+    return progress.shown(chunks(path, needed, ROWS_AT_ONCE), count, os.path.basename(path), "M records")
+
+
+def chunks(path: str | Path, needed: Sequence[str], rows_at_once: int) -> Iterator[Columns]:
+    """The needed columns of a file of many records, so many records at a time, as pandas reads them."""
+    import pandas
+
+    how = {"dtype": "category", "keep_default_na": False, "index_col": False, "chunksize": rows_at_once}
     how |= {"encoding": "utf-8-sig", "encoding_errors": "surrogateescape", "low_memory": False}
     _, header = next(records(path), (1, list[str]()))
     places = places_of(header, path, needed)
     heads = {str(number): name for name, number in places.items() if name in needed}
     names = [str(number) for number in range(len(header))]
     with pandas.read_csv(path, names=names, header=0, usecols=sorted(heads), **how) as read:
-        for piece in told(read, os.path.getsize(path) // BYTES_AT_ONCE, os.path.basename(path), "M records"):
-            yield {name: piece[head].array for head, name in heads.items()}
+        for piece in read:
+            yield {name: as_column(piece[head].array) for head, name in heads.items()}
+
+
+def as_column(categorical: Any) -> Column:
+    """A column that pandas has read."""
+    return Column(categorical.categories.to_numpy(), categorical.codes)
 
 
 def joined_pieces(some: Iterable[Columns], needed: Sequence[str], keep: Keep) -> tuple[Columns, Whole]:
@@ -80,10 +116,10 @@ def joined_codes(codes: list[npt.NDArray[Any]]) -> npt.NDArray[Any]:
     return whole
 
 
-def known_codes(column: Column, codes: npt.NDArray[Any], known: dict[str, int]) -> npt.NDArray[Any]:
+def known_codes(column: Texts, codes: npt.NDArray[Any], known: dict[str, int]) -> npt.NDArray[Any]:
     """The codes of a piece as those of the whole column, whose texts are numbered as they come."""
     used = np.flatnonzero(np.bincount(codes, minlength=len(column.categories)))
-    texts = column.categories.to_numpy()[used].tolist()
+    texts = column.categories[used].tolist()
     taken = np.zeros(len(column.categories), dtype=np.int32)
     taken[used] = [known.setdefault(text, len(known)) for text in texts]
     narrow: npt.NDArray[Any] = taken.astype(np.min_scalar_type(-len(known) - 1))[codes]
@@ -105,18 +141,14 @@ def is_long(path: str | Path) -> bool:
     return os.path.getsize(path) >= SMALL and not has_odd_lines(path)
 
 
-def all_columns(path: str | Path) -> Columns:
-    """All columns of a file by their names."""
-    return (columns if is_long(path) else columns_by_records)(path, names_of(path))
-
-
-def columns_in(path: str | Path, layout: Layout) -> Columns:
-    """The columns of a layout that a file has; a needed one that it lacks is an error. The file is one that `ttm`
-    takes, so lines that pandas counts in another way aren't looked for.
+def ways_to_read(path: str | Path, needed: Sequence[str], rows_at_once: int) -> Iterator[Way]:
+    """How the needed columns of a file of a feed that `ttm` takes are read in pieces: each way is for files that those
+    before it refuse by ODD, as soon as they come to what they don't take.
     """
-    there = names_of(path)
-    needed = [*layout.needed, *(name for name in layout.taken if name in there)]
-    return (columns if os.path.getsize(path) >= SMALL else columns_by_records)(path, needed)
+    yield lambda: plain_pieces(path, needed, LITTLE)
+    if os.path.getsize(path) >= SMALL:
+        yield lambda: chunks(path, needed, rows_at_once)
+    yield lambda: [columns_by_records(path, needed)]
 
 
 def has_odd_lines(path: str | Path) -> bool:
@@ -125,7 +157,7 @@ def has_odd_lines(path: str | Path) -> bool:
     with open(path, "rb") as file:
         while block := file.read(1 << 24):
             whole = last + block
-            if b"\0" in block or (any(it in whole for it in BEGINS) and BLANKS.search(whole)):
+            if b"\0" in block or (any(begin in whole for begin in BEGINS) and BLANKS.search(whole)):
                 return True
             last = block[-1000:]
     return False

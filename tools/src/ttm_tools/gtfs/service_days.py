@@ -35,7 +35,7 @@ class Days:
 def ordinals(dates: Whole) -> Whole:
     """Days of dates that are numbers, -1 where they are none that the Python calendar has."""
     found, places = np.unique(dates, return_inverse=True)
-    days = [ordinal(int(it)) for it in found]
+    days = [ordinal(int(date)) for date in found]
     return np.array(days or [-1], dtype=np.int64)[places]
 
 
@@ -50,7 +50,7 @@ def days_of(feed: Feed) -> Days:
     """The service days of a feed whose calendars have no fault."""
     calendar, dates = feed.get("calendar.txt"), feed.get("calendar_dates.txt")
     trips = feed.get("trips.txt")
-    services = list(dict.fromkeys(it for table in (calendar, dates, trips) for it in table.texts("service_id")))
+    services = list(dict.fromkeys(text for table in (calendar, dates, trips) for text in table.texts("service_id")))
     starts, ends = (ordinals(values_of(calendar[name], date)) for name in ("start_date", "end_date"))
     marked = ordinals(values_of(dates["date"], date))
     long = (starts >= ORIGIN) & (ends - starts >= MOST_DAYS)
@@ -67,7 +67,7 @@ def days_of(feed: Feed) -> Days:
     for row in np.flatnonzero(valid):
         span = slice(starts[row] - first, ends[row] - first + 1)
         runs[places[calendar.text("service_id", row)], span] |= flags[row][weekday[span]]
-    of = np.array([places[it] for it in dates.texts("service_id")], dtype=np.int64)
+    of = np.array([places[text] for text in dates.texts("service_id")], dtype=np.int64)
     kinds = values_of(dates["exception_type"], number)
     for kind in (2, 1):  # a day that is both added and removed runs
         rows = np.flatnonzero((kinds == kind) & (marked >= ORIGIN))

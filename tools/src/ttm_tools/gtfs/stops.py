@@ -46,14 +46,14 @@ class Stops:
         chosen = np.array([self.places[name] for name in identifiers], dtype=np.intp)
         names, stations = ([texts[place] for place in chosen] for texts in (self.names, self.stations))
         places = (self.latitudes[chosen], self.longitudes[chosen])
-        wide, high = (None if it is None else it[chosen] for it in (self.widths, self.heights))
+        wide, high = (None if sides is None else sides[chosen] for sides in (self.widths, self.heights))
         areas = {name: self.areas[name] for name in identifiers if name in self.areas} if self.areas else {}
         return Stops(self.path, list(identifiers), names, *places, self.kinds[chosen], stations, wide, high, areas)
 
     def sides(self) -> Floats:
         """How wide and how high the cell of each stop is, in metres; NaN for a stop that has none."""
         none = np.full(len(self.identifiers), np.nan)
-        wide, high = (none if it is None else it for it in (self.widths, self.heights))
+        wide, high = (none if sides is None else sides for sides in (self.widths, self.heights))
         return np.stack([wide, np.where(np.isnan(high), wide, high)], axis=1)
 
     @property
@@ -62,8 +62,8 @@ class Stops:
 
     def name_of(self, identifier: str) -> str:
         """A stop's name with its identifier."""
-        name, told = self.names[self.places[identifier]], shown(identifier)
-        return name if name == told else f"{name} ({told})"
+        name, plain = self.names[self.places[identifier]], shown(identifier)
+        return name if name == plain else f"{name} ({plain})"
 
 
 def in_folder(folder: str, name: str) -> str:

@@ -1,4 +1,4 @@
-"""A file of a feed as a frame: a categorical for each of its columns, and the number of each record as its index.
+"""A file of a feed as its columns, with the number of each record.
 
 A table that nothing changed is copied byte for byte. A column takes one to four bytes for each record beside its texts,
 each of which is kept once.
@@ -10,19 +10,14 @@ from typing import BinaryIO, Iterable, Mapping, Sequence
 
 import numpy as np
 import numpy.typing as npt
-import pandas
 
 from ..records import field as quoted
+from ..records import names_of
 from .columns import Column, behind, coded, column_of, constant, texts_at, texts_of
 from .fields import Layout, Mask, Whole
-from .reading import all_columns, columns_in
+from .reading import columns
 
 ROWS_AT_ONCE = 1 << 18
-
-
-def frame_of(columns: Mapping[str, Column], records: Whole) -> pandas.DataFrame:
-    """Columns as a frame, without a copy."""
-    return pandas.DataFrame(dict(columns), index=pandas.Index(records, dtype=np.int64), copy=False)
 
 
 @dataclass
@@ -30,28 +25,34 @@ class Table:
     """A file of a feed."""
 
     name: str
-    frame: pandas.DataFrame  # the index has the number of each record as it was published; the header is record 1
+    fields: Mapping[str, Column]  # by the names of the columns
+    records: Whole  # the number of each record as it was published; the header is record 1; 0 where it isn't known
     source: Path | None = None  # the file, as long as nothing was changed
+    apart: Sequence[str] = ()  # columns of the file that aren't here
 
     def __len__(self) -> int:
-        return len(self.frame)
+        return len(self.records)
 
     def __contains__(self, name: str) -> bool:
         """Whether the file has a column."""
-        return name in self.frame.columns
+        return name in self.fields
 
     def __getitem__(self, name: str) -> Column:
         """A column; one that the file hasn't is empty throughout."""
-        return self.frame[name].array if name in self else constant("", len(self))
+        return self.fields[name] if name in self.fields else constant("", len(self))
 
     @property
     def columns(self) -> list[str]:
-        return list(self.frame.columns)
+        return list(self.fields)
 
     @property
-    def records(self) -> Whole:
-        numbers: Whole = self.frame.index.to_numpy()
-        return numbers
+    def names(self) -> list[str]:
+        """All columns of the file."""
+        return names_of(self.source) if self.apart and self.source is not None else self.columns
+
+    def whole(self) -> "Table":
+        """The same with all columns of the file."""
+        return read_table(self.name, self.source) if self.apart and self.source is not None else self
 
     def text(self, name: str, row: int) -> str:
         column = self[name]
@@ -64,18 +65,22 @@ class Table:
     def rows(self, chosen: Sequence[int] | None = None) -> list[dict[str, str]]:
         """The records, or some of them, each with its texts by the columns' names."""
         every = [self[name] for name in self.columns]
-        columns = [texts_at(it, it.codes if chosen is None else it.codes[list(chosen)]) for it in every]
+        columns = [texts_at(column, column.codes if chosen is None else column.codes[list(chosen)]) for column in every]
         return [dict(zip(self.columns, row)) for row in zip(*columns)]
 
     def keep(self, kept: Mask) -> None:
         """Removes all records but some."""
         if not kept.all():
-            self.frame, self.source = self.frame[kept].copy(deep=False), None
+            self.fields = {name: column.at(kept) for name, column in self.fields.items()}
+            self.records, self.source = self.records[kept], None
 
     def replace(self, name: str, column: Column) -> None:
         """Puts a column in the place of one, or behind all."""
-        self.frame, self.source = self.frame.copy(deep=False), None
-        self.frame[name] = column
+        self.fields, self.source = {**self.fields, name: column}, None
+
+    def rename(self, names: Mapping[str, str]) -> None:
+        """Gives columns other names, in their places."""
+        self.fields = {names.get(name, name): column for name, column in self.fields.items()}
 
     def put(self, name: str, rows: npt.NDArray[np.intp], texts: Sequence[str]) -> None:
         """Writes texts into the fields of some records."""
@@ -89,26 +94,33 @@ class Table:
 
     def copy(self) -> "Table":
         """The same table, which changes by itself."""
-        return Table(self.name, self.frame, self.source)
+        return Table(self.name, self.fields, self.records, self.source, self.apart)
+
+
+def unnumbered(count: int) -> Whole:
+    """The numbers of so many records where nobody asks for them: they take no memory."""
+    return np.broadcast_to(np.zeros(1, np.int64), (count,))
 
 
 def no_table(name: str, source: Path | None = None) -> Table:
     """A table without columns and records."""
-    return Table(name, frame_of({}, np.zeros(0, np.int64)), source)
+    return Table(name, {}, np.zeros(0, np.int64), source)
 
 
 def table_of(name: str, columns: Sequence[str], rows: Iterable[Mapping[str, str]]) -> Table:
     """A table of a few records that no file has; a field that isn't named is empty."""
     records = list(rows)
     texts = {column: coded(row.get(column, "") for row in records) for column in columns}
-    return Table(name, frame_of(texts, np.zeros(len(records), np.int64)))
+    return Table(name, texts, np.zeros(len(records), np.int64))
 
 
 def read_table(name: str, path: Path, layout: Layout | None = None) -> Table:
     """A file with all its columns; or with those of a layout, which has to have the needed ones."""
-    columns = all_columns(path) if layout is None else columns_in(path, layout)
-    count = len(next(iter(columns.values()))) if columns else 0
-    return Table(name, frame_of(columns, np.arange(2, count + 2, dtype=np.int64)), path)
+    there = names_of(path)
+    wanted = there if layout is None else [*layout.needed, *(name for name in layout.taken if name in there)]
+    found = columns(path, wanted)
+    count = len(next(iter(found.values()))) if found else 0
+    return Table(name, found, np.arange(2, count + 2, dtype=np.int64), path)
 
 
 def joined(first: Table, second: Table) -> Table:
@@ -117,7 +129,7 @@ def joined(first: Table, second: Table) -> Table:
         return first if first.columns else second
     names = dict.fromkeys((*first.columns, *second.columns))
     columns = {name: behind(first[name], second[name]) for name in names}
-    return Table(first.name, frame_of(columns, np.concatenate([first.records, second.records])))
+    return Table(first.name, columns, np.concatenate([first.records, second.records]))
 
 
 def write_table(table: Table, file: BinaryIO) -> None:

@@ -6,21 +6,25 @@ All as docs/explanation/definitions.md says. What `ttm` refuses isn't looked for
 import datetime
 import os
 from dataclasses import dataclass
-from typing import Iterator, Sequence
+from functools import cached_property
+from pathlib import Path
+from typing import Callable, Sequence
 
 import numpy as np
 
 from ..records import rows
+from .call_numbers import CALLS, CallNumbers, CallReader
 from .calls import begins_of, calls_of
-from .columns import positions_of, values_of
+from .columns import Codes, one_of, positions_of, times_of, values_of, where
 from .feeds import Feed, read_files
-from .fields import Mask, Whole, number, time
+from .fields import Mask, Whole, number
 from .service_days import services_on
-from .stops import Stops
+from .stops import Stops, in_folder
 from .tables import Table
 
 DAY = 86_400
 NOT_ALLOWED = 1  # a pickup_type or drop_off_type
+ALLOWED = ("pickup_type", "drop_off_type")  # columns that say whether one may board, and alight
 
 
 @dataclass(frozen=True)
@@ -28,11 +32,32 @@ class Events:
     """The events of all trips, trip after trip, each trip's in the order in which it makes them."""
 
     begins: Whole  # where the events of each trip begin, and behind the last one how many there are
-    stop: Whole  # places among the stops at which vehicles call
-    arrive: Whole  # seconds since midnight of the service day
-    depart: Whole
+    stop: Codes  # places among the stops at which vehicles call
+    arrive: Codes  # seconds since midnight of the service day
+    depart: Codes
     board: Mask  # whether one may board
     alight: Mask
+
+    @cached_property
+    def counts(self) -> Whole:
+        """How many events each trip has."""
+        return np.diff(self.begins)
+
+    @cached_property
+    def earliest(self) -> Whole:
+        """The least arrival of each trip; 0 for one without events."""
+        return self.of_trips(np.minimum.reduceat, self.arrive)
+
+    @cached_property
+    def latest(self) -> Whole:
+        """The greatest departure of each trip; 0 for one without events."""
+        return self.of_trips(np.maximum.reduceat, self.depart)
+
+    def of_trips(self, reduceat: Callable[[Codes, Whole], Whole], times: Codes) -> Whole:
+        numbers, called = np.zeros(len(self.counts), np.int64), np.flatnonzero(self.counts)
+        if len(called):
+            numbers[called] = reduceat(times, self.begins[called])
+        return numbers
 
 
 @dataclass(frozen=True)
@@ -44,7 +69,6 @@ class Timetable:
     stops: list[str]  # at which vehicles call, in the order of stops.txt
     trips: list[str]
     routes: list[str]  # of each trip
-    services: list[str]  # of each trip
     events: Events
     headways: dict[int, list[tuple[int, int, int]]]  # by trip: start, end (not included), and seconds between
 
@@ -60,23 +84,41 @@ def read_timetable(all_stops: Stops) -> Timetable:
     """The timetable of the feed that has these stops."""
     feed = read_files(os.path.dirname(all_stops.path), FILES_READ)
     stops = [name for name, kind in zip(all_stops.identifiers, all_stops.kinds.tolist()) if kind == 0]
-    trips, routes, services = (feed.tables["trips.txt"].texts(name) for name in ("trip_id", "route_id", "service_id"))
+    trips, routes = (feed.tables["trips.txt"].texts(name) for name in ("trip_id", "route_id"))
     events = events_of(feed.tables.pop("stop_times.txt"), trips, stops)
-    return Timetable(feed, all_stops, stops, trips, routes, services, events, headways_of(feed, trips))
+    return Timetable(feed, all_stops, stops, trips, routes, events, headways_of(feed, trips))
+
+
+def read_narrow_timetable(all_stops: Stops) -> Timetable:
+    """The same by numbers of four bytes, some records at a time: it takes 14 bytes for each stop time, not 190."""
+    folder = os.path.dirname(all_stops.path)
+    feed = read_files(folder, [name for name in FILES_READ if name != CALLS])
+    stops = [name for name, kind in zip(all_stops.identifiers, all_stops.kinds.tolist()) if kind == 0]
+    trips, routes = (feed.tables["trips.txt"].texts(name) for name in ("trip_id", "route_id"))
+    numbers = {name: place for place, name in enumerate(stops)}
+    calls, table = CallReader(Path(in_folder(folder, CALLS)), trips, numbers, ALLOWED).read()
+    return Timetable(feed, all_stops, stops, trips, routes, narrow_events(calls, table), headways_of(feed, trips))
+
+
+def narrow_events(calls: CallNumbers, table: Table) -> Events:
+    """The events of some calls, with the columns of their file that say where one may board and alight."""
+    allowed = [where(table[name], lambda text: number(text) != NOT_ALLOWED) for name in ALLOWED]
+    board, alight = allowed if isinstance(calls.rows, range) else (column[calls.rows] for column in allowed)
+    return Events(calls.begins, calls.stop, calls.arrive, calls.depart, board, alight)
 
 
 def events_of(table: Table, trips: Sequence[str], stops: Sequence[str]) -> Events:
     """The events of stop_times.txt; a trip with a record that names no stop has none."""
     calls = calls_of(table, trips)
     stop = positions_of(table["stop_id"], stops)[calls.rows]
-    allowed = ((values_of(table[name], number) != NOT_ALLOWED)[calls.rows] for name in ("pickup_type", "drop_off_type"))
+    allowed = ((values_of(table[name], number) != NOT_ALLOWED)[calls.rows] for name in ALLOWED)
     return Events(begins_of(calls, len(trips)), stop, *calls.filled(), *allowed)
 
 
 def headways_of(feed: Feed, trips: Sequence[str]) -> dict[int, list[tuple[int, int, int]]]:
     """The rows of frequencies.txt by trip."""
     table, found = feed.get("frequencies.txt"), dict[int, list[tuple[int, int, int]]]()
-    start, end = (values_of(table[name], time).tolist() for name in ("start_time", "end_time"))
+    start, end = (times_of(table[name]).tolist() for name in ("start_time", "end_time"))
     seconds = values_of(table["headway_secs"], number).tolist()
     for trip, row in zip(positions_of(table["trip_id"], trips).tolist(), zip(start, end, seconds)):
         found.setdefault(trip, []).append(row)
@@ -115,24 +157,36 @@ def runs_of(timetable: Timetable, date: datetime.date, days: tuple[int, int], ed
     """The runs that a scenario keeps, from so many days before a date to so many after it; the axis begins at midnight
     of the first day.
     """
-    runs: list[tuple[int, int]] = []
-    lengths = np.diff(timetable.events.begins).tolist()
+    kept = trips_that_run(timetable, edits)
+    shifts = np.array([edits.shifts.get(name, 0) for name in timetable.trips] if edits.shifts else [], np.int64)
+    services = timetable.feed.tables["trips.txt"]["service_id"]
+    trips, moved = [np.zeros(0, np.int64)], [np.zeros(0, np.int64)]
     for day in range(-days[0], days[1] + 1):
         running = services_on(timetable.feed, date + datetime.timedelta(days=day))
-        for trip, (name, route, service) in enumerate(zip(timetable.trips, timetable.routes, timetable.services)):
-            if lengths[trip] and service in running and route not in edits.routes and name not in edits.trips:
-                moved = DAY * (days[0] + day) + edits.shifts.get(name, 0)
-                runs += [(trip, moved + more) for more in departures_of(timetable, trip)]
-    found = np.array(runs, dtype=np.int64).reshape(-1, 2)
-    return Runs(found[:, 0], found[:, 1])
+        trip, more = departures_of(timetable, np.flatnonzero(kept & one_of(services, running)))
+        trips.append(trip)
+        moved.append(more + DAY * (days[0] + day) + (shifts[trip] if len(shifts) else 0))
+    return Runs(np.concatenate(trips), np.concatenate(moved))
 
 
-def departures_of(timetable: Timetable, trip: int) -> Iterator[int]:
-    """What is added to the trip's own times for each of its runs of a day."""
+def trips_that_run(timetable: Timetable, edits: Edits) -> Mask:
+    """Which trips have events, and aren't removed."""
+    table = timetable.feed.tables["trips.txt"]
+    gone = one_of(table["route_id"], edits.routes) | one_of(table["trip_id"], edits.trips)
+    return np.asarray((timetable.events.counts > 0) & ~gone, dtype=np.bool_)
+
+
+def departures_of(timetable: Timetable, trips: Whole) -> tuple[Whole, Whole]:
+    """Some trips, each as often as it runs on a day, and what is added to its own times in each of its runs."""
+    if not timetable.headways:
+        return trips, np.zeros(len(trips), np.int64)
+    own = [added_times(timetable, trip) for trip in trips.tolist()]
+    return np.repeat(trips, [len(some) for some in own]), np.array([time for some in own for time in some], np.int64)
+
+
+def added_times(timetable: Timetable, trip: int) -> list[int]:
+    """What is added to a trip's own times in each of its runs of a day."""
     if trip not in timetable.headways:
-        yield 0
-        return
+        return [0]
     first = int(timetable.events.depart[timetable.events.begins[trip]])
-    for start, end, headway in timetable.headways[trip]:
-        for departure in range(start, end, headway):
-            yield departure - first
+    return [time - first for start, end, headway in timetable.headways[trip] for time in range(start, end, headway)]

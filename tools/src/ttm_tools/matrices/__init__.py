@@ -8,7 +8,7 @@ from ..opening.paths import as_one_line, regular
 from .beside import Beside
 from .capped import capped
 from .csv_matrix import CsvMatrix
-from .layout import Layout, layout_of
+from .layout import MatrixLayout, layout_of
 from .lines import Seconds
 from .matrix import BASE, TODAY, Block, Matrix, Pair, Share, Sums, has_all, lacking, pair_of
 from .open_matrix import OpenMatrix, is_open_matrix, write_open_matrix
@@ -18,7 +18,7 @@ __all__ = [
     "Beside",
     "TODAY",
     "Block",
-    "Layout",
+    "MatrixLayout",
     "Matrix",
     "Pair",
     "Seconds",

@@ -16,7 +16,7 @@ from .origin import told_of
 
 
 @dataclass(frozen=True)
-class Source:
+class MatrixSource:
     """A scenario of one of the two, and how its rows, columns and limits stand in the whole."""
 
     matrix: Matrix
@@ -48,14 +48,14 @@ class Beside(Matrix):
         limits = limits_of(own, other)
         stops = [name for name in own.stops if name in other.places]
         self.layout = replace(own.layout, limits=tuple(own.layout.limits[place] for place, _ in limits), stops=stops)
-        at = [np.array([it[end] for it in limits], dtype=np.intp) for end in (0, 1)]
-        columns = [np.array([it.places[name] for name in stops], dtype=np.intp) for it in (own, other)]
+        at = [np.array([limit[end] for limit in limits], dtype=np.intp) for end in (0, 1)]
+        columns = [np.array([table.places[name] for name in stops], dtype=np.intp) for table in (own, other)]
         origins = self.common(chosen, shares)
-        self.sources = {second: Source(other, chosen, shares, origins, columns[1], at[1])}
+        self.sources = {second: MatrixSource(other, chosen, shares, origins, columns[1], at[1])}
         same: dict[Share, Share] = {share: share for share in shares}
         self.renamed = {own.base: first}
         for name in own.compared:
-            self.sources[self.renamed.get(name, name)] = Source(own, name, same, origins, columns[0], at[0])
+            self.sources[self.renamed.get(name, name)] = MatrixSource(own, name, same, origins, columns[0], at[0])
         self.scenarios = list(self.sources)
         self.heading, self.files = self.heading_of(), (other.path,)
         if not stops or not origins:
@@ -83,29 +83,32 @@ class Beside(Matrix):
     def scenario(self, name: str) -> str:
         return super().scenario(name if name in self.scenarios else self.renamed.get(name, name))
 
-    def other(self, base: str, asked: str | None) -> str:
-        return self.scenarios[1] if asked is None and base == self.base else super().other(base, asked)
+    def other(self, base: str, name: str | None) -> str:
+        return self.scenarios[1] if name is None and base == self.base else super().other(base, name)
 
     def origins(self, scenario: str, share: Share) -> list[str]:
         return self.sources[scenario].origins
 
     def access(self, scenario: str, share: Share) -> Sums:
         of = self.sources[scenario]
-        made: Sums = of.matrix.access(of.scenario, of.shares[share])[of.rows_of(share)][:, of.limits]
-        return made
+        counts: Sums = of.matrix.access(of.scenario, of.shares[share])[of.rows_of(share)][:, of.limits]
+        return counts
 
     def rows(self, scenario: str, share: Share, begin: int, end: int) -> Seconds:
         of = self.sources[scenario]
         found = of.matrix.rows_at(of.scenario, of.shares[share], of.rows_of(share)[begin:end])
-        made: Seconds = found[:, of.columns]
-        return made
+        seconds: Seconds = found[:, of.columns]
+        return seconds
 
-    def told(self) -> list[str]:
+    def sentences(self) -> list[str]:
         """What is only in one of the two, and from where each comes."""
         lines, (own, other) = list[str](), (self.own, self.other_matrix)
         share = self.shares[0]
         mine, base = list(self.sources.values())[1], self.sources[self.base]
-        ends = [(it.matrix.origins(it.scenario, it.shares[share]), it.matrix.stops) for it in (mine, base)]
+        ends = [
+            (source.matrix.origins(source.scenario, source.shares[share]), source.matrix.stops)
+            for source in (mine, base)
+        ]
         for what, place, kept in (("origins", 0, set(mine.origins)), ("stops", 1, set(self.stops))):
             for (one, names), (another, _) in (((own, ends[0]), (other, ends[1])), ((other, ends[1]), (own, ends[0]))):
                 lost = [shown(name) for name in names[place] if name not in kept]
@@ -115,21 +118,21 @@ class Beside(Matrix):
         return [*lines, self.heading]
 
     def heading_of(self) -> str:
-        """Which two are compared: file, scenario, day and departures where a study tells them, and percentiles where
+        """Which two are compared: file, scenario, day and departures where a study says them, and percentiles where
         these differ.
         """
-        made, others = [], self.sources[self.base].shares
+        texts, others = [], self.sources[self.base].shares
         for label, of in list(self.sources.items())[1::-1]:
             differs = [f"percentile {of.shares[share]}" for share in self.shares if others[share] != share]
-            told = [f"scenario {shown(of.scenario)}", *told_of(of.matrix.path), *differs]
-            made.append(f"{shown(label)} is {of.matrix.path} ({', '.join(told)})")
-        return "; ".join(made)
+            texts_of_scenario = [f"scenario {shown(of.scenario)}", *told_of(of.matrix.path), *differs]
+            texts.append(f"{shown(label)} is {of.matrix.path} ({', '.join(texts_of_scenario)})")
+        return "; ".join(texts)
 
 
 def labels_of(own: str, other: str) -> tuple[str, str]:
     """What the two are called: by their files, or folders where these are called alike."""
     paths = [Path(own).absolute(), Path(other).absolute()]
-    for names in ([it.stem for it in paths], [it.parent.name for it in paths]):
+    for names in ([path.stem for path in paths], [path.parent.name for path in paths]):
         if names[0] != names[1]:
             return names[0], names[1]
     return own, other if other != own else f"{other} (base)"
@@ -142,8 +145,8 @@ def shares_of(own: Matrix, other: Matrix) -> dict[Share, Share]:
         return both
     if len(own.shares) == 1 and len(other.shares) == 1:
         return {own.shares[0]: other.shares[0]}
-    told = ", ".join(map(str, own.shares))
-    raise BadInput(other.path, f"no percentile in common with {own.path}, which has {told}")
+    percentiles = ", ".join(map(str, own.shares))
+    raise BadInput(other.path, f"no percentile in common with {own.path}, which has {percentiles}")
 
 
 def limits_of(own: Matrix, other: Matrix) -> Sequence[tuple[int, int]]:

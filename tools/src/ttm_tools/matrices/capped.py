@@ -25,19 +25,19 @@ class Capped(Matrix):
         return self.whole.origins(scenario, share)
 
     def access(self, scenario: str, share: Share) -> Sums:
-        made: Sums = self.whole.access(scenario, share)[:, self.limits_kept]
-        return made
+        counts: Sums = self.whole.access(scenario, share)[:, self.limits_kept]
+        return counts
 
     def rows(self, scenario: str, share: Share, begin: int, end: int) -> Seconds:
         found = self.whole.rows(scenario, share, begin, end)
-        made: Seconds = np.where(found > self.end, np.float32(np.nan), found)
-        return made
+        seconds: Seconds = np.where(found > self.end, np.float32(np.nan), found)
+        return seconds
 
-    def limit(self, asked: int | None) -> tuple[int, int | None]:
-        if not self.layout.limits or asked is not None and asked > self.end:
-            told = "access of the matrix counts pairs that take longer than the greatest travel time"
-            raise BadInput(self.path, f"{told}, {self.end:g} seconds: take ttm-tools access")
-        return super().limit(asked)
+    def limit(self, seconds: int | None) -> tuple[int, int | None]:
+        if not self.layout.limits or seconds is not None and seconds > self.end:
+            message = "access of the matrix counts pairs that take longer than the greatest travel time"
+            raise BadInput(self.path, f"{message}, {self.end:g} seconds: take ttm-tools access")
+        return super().limit(seconds)
 
 
 def capped(matrix: Matrix, minutes: float | None) -> Matrix:

@@ -48,15 +48,15 @@ class Chosen(Matrix):
         return [names[place] for place in self.rows_of(scenario, share).tolist()]
 
     def access(self, scenario: str, share: Share) -> Sums:
-        made: Sums = self.whole.access(scenario, share)[self.rows_of(scenario, share)]
-        return made
+        counts: Sums = self.whole.access(scenario, share)[self.rows_of(scenario, share)]
+        return counts
 
     def rows(self, scenario: str, share: Share, begin: int, end: int) -> Seconds:
         found = self.whole.rows_at(scenario, share, self.rows_of(scenario, share)[begin:end])
         return found if len(self.columns) == len(self.whole.stops) else found[:, self.columns]
 
-    def limit(self, asked: int | None) -> tuple[int, int | None]:
-        return self.whole.limit(asked)
+    def limit(self, seconds: int | None) -> tuple[int, int | None]:
+        return self.whole.limit(seconds)
 
     @property
     def base(self) -> str:
@@ -73,8 +73,8 @@ class Chosen(Matrix):
     def scenario(self, name: str) -> str:
         return self.whole.scenario(name)
 
-    def other(self, base: str, asked: str | None) -> str:
-        return self.whole.other(base, asked)
+    def other(self, base: str, name: str | None) -> str:
+        return self.whole.other(base, name)
 
     def rows_at_once(self) -> int:
         return self.whole.rows_at_once()

@@ -44,15 +44,15 @@ def is_packed(data: Any) -> bool:
 
 def rows_of(data: Any, begin: int, end: int) -> Seconds:
     """Some rows of a set of data."""
-    made: Seconds
+    values: Seconds
     if begin >= end or not is_packed(data):
-        made = data[begin:end].astype(np.float32, copy=False)
-        return made
+        values = data[begin:end].astype(np.float32, copy=False)
+        return values
     rows = data.chunks[0]
     first = begin // rows * rows
     chunks = list(in_order(lambda place: chunk_at(data, place), range(first, end, rows), processors()))
-    made = np.concatenate(chunks)[begin - first : end - first]
-    return made
+    values = np.concatenate(chunks)[begin - first : end - first]
+    return values
 
 
 def chunk_at(data: Any, place: int) -> Seconds:
@@ -60,8 +60,8 @@ def chunk_at(data: Any, place: int) -> Seconds:
     skipped, chunk = data.id.read_direct_chunk((place, 0))
     rows, columns = data.chunks
     try:
-        made: Seconds = unpacked(chunk, rows, columns) if skipped == 0 else data[place : place + rows]
+        values: Seconds = unpacked(chunk, rows, columns) if skipped == 0 else data[place : place + rows]
     except (zlib.error, ValueError) as fault:
-        told = f"{data.name}: the piece that begins with row {place + 1} can't be read: {fault}"
-        raise BadInput(data.file.filename, told) from None
-    return made
+        message = f"{data.name}: the piece that begins with row {place + 1} can't be read: {fault}"
+        raise BadInput(data.file.filename, message) from None
+    return values

@@ -12,7 +12,7 @@ from .. import progress
 from ..faults import BadInput
 from ..opening.paths import as_one_line, regular
 from ..records import shown
-from .layout import Layout, layout_of
+from .layout import MatrixLayout, layout_of
 from .lines import (
     MOST,
     Seconds,
@@ -34,7 +34,7 @@ TRAVEL_TIMES = f"whole seconds up to {MOST}, or nothing"
 
 
 @dataclass(frozen=True)
-class Line:
+class MatrixLine:
     """A line of a matrix: its record, its access for each limit, and where the bytes of its cells begin and end in the
     file.
     """
@@ -49,12 +49,12 @@ class Line:
 class Index:
     """The lines of a scenario and a share, and the place of each origin among them, in the file's order."""
 
-    lines: list[Line] = field(default_factory=list)
+    lines: list[MatrixLine] = field(default_factory=list)
     places: dict[str, int] = field(default_factory=dict)
 
 
 class CsvMatrix(Matrix):
-    """A matrix that `ttm` printed; each of its lines has as many fields as the header, or it is told."""
+    """A matrix that `ttm` printed; each of its lines has as many fields as the header, or it is reported."""
 
     def __init__(self, path: str) -> None:
         self.path = path
@@ -66,7 +66,7 @@ class CsvMatrix(Matrix):
         if not self.index:
             raise BadInput(path, "no rows")
 
-    def read_layout(self, file: BinaryIO) -> Layout:
+    def read_layout(self, file: BinaryIO) -> MatrixLayout:
         record = read_record(file)
         refuse_wide(self.path, record)
         found = layout_of(fields_of(record.removeprefix(b"\xef\xbb\xbf")))
@@ -80,7 +80,7 @@ class CsvMatrix(Matrix):
         """Notes each line of the file, whose header was read."""
         begin, number = file.tell(), 1
         rows = os.fstat(file.fileno()).st_size // (5 * self.layout.width)
-        for record in progress.told(records_of(file), rows, "reading", "rows"):
+        for record in progress.shown(records_of(file), rows, "reading", "rows"):
             line = content(record)
             if len(line) == len(record):
                 raise BadInput(self.path, "cut short: the last line has no end")
@@ -104,7 +104,7 @@ class CsvMatrix(Matrix):
         if heads[1] in index.places:
             raise BadInput(self.path, f"{shown(heads[1])} is there twice in {shown(heads[0])}", record=number)
         index.places[heads[1]] = len(index.lines)
-        index.lines.append(Line(number, numbers, begin + first, begin + len(line)))
+        index.lines.append(MatrixLine(number, numbers, begin + first, begin + len(line)))
 
     def number(self, record: int, column: str, text: str) -> int:
         if not (text.isascii() and text.isdigit() and len(text) <= 18):
@@ -123,17 +123,17 @@ class CsvMatrix(Matrix):
 
     def rows(self, scenario: str, share: Share, begin: int, end: int) -> Seconds:
         lines = self.of(scenario, share).lines[begin:end]
-        made = np.empty((len(lines), len(self.stops)), np.float32)
+        values = np.empty((len(lines), len(self.stops)), np.float32)
         if not self.stops:
-            return made
+            return values
         with open(self.path, "rb", buffering=0) as file:
             for row, line in enumerate(lines):
                 cells = os.pread(file.fileno(), line.end - line.begin, line.begin)
                 seconds = seconds_of(cells, len(self.stops))
                 if seconds is None:
                     self.tell_bad(cells, line.record)
-                made[row] = seconds
-        return made
+                values[row] = seconds
+        return values
 
     def tell_bad(self, cells: bytes, record: int) -> None:
         place, text = first_bad(cells)

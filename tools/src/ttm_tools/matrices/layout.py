@@ -18,7 +18,7 @@ MOST_LIMITS = 8
 
 
 @dataclass(frozen=True)
-class Layout:
+class MatrixLayout:
     """What a header's columns are."""
 
     names_share: bool  # whether lines name a share
@@ -42,10 +42,10 @@ class Layout:
         return ["scenario", "origin", "share", *[f"access_{limit}" for limit in self.limits]]
 
 
-def layout_of(header: Sequence[str]) -> Layout | None:
+def layout_of(header: Sequence[str]) -> MatrixLayout | None:
     """The layout that a header shows, or None where it is no matrix's."""
     if list(header[:3]) == ["scenario", "origin", "access"]:
-        return Layout(False, (None,), list(header[3:]))
+        return MatrixLayout(False, (None,), list(header[3:]))
     if list(header[:3]) != ["scenario", "origin", "share"]:
         return None
     limits: list[int] = []
@@ -54,4 +54,4 @@ def layout_of(header: Sequence[str]) -> Layout | None:
         if not limit or limits and int(limit[1]) <= limits[-1]:
             break
         limits.append(int(limit[1]))
-    return Layout(True, tuple(limits), list(header[3 + len(limits) :])) if limits else None
+    return MatrixLayout(True, tuple(limits), list(header[3 + len(limits) :])) if limits else None

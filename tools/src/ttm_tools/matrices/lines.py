@@ -87,25 +87,25 @@ def seconds_of(cells: bytes, count: int) -> Seconds | None:
     longest = int(lengths.max())
     if longest > MOST_DIGITS:
         return None
-    made = values_of(digits, ends, lengths, longest)
-    return None if made.max() > MOST else with_gaps(made, lengths)
+    values = values_of(digits, ends, lengths, longest)
+    return None if values.max() > MOST else with_gaps(values, lengths)
 
 
 def values_of(
     digits: Bytes, ends: npt.NDArray[np.intp], lengths: npt.NDArray[np.intp], longest: int
 ) -> npt.NDArray[np.int32]:
     """The numbers whose last digits stand before these ends: a digit of each at a time."""
-    made = np.zeros(len(ends), np.int32)
+    values = np.zeros(len(ends), np.int32)
     for place in range(longest):
         digit = digits.take(ends - (1 + place), mode="clip")
-        made += (digit * (lengths > place)).astype(np.int32) * POWERS[place]
-    return made
+        values += (digit * (lengths > place)).astype(np.int32) * POWERS[place]
+    return values
 
 
 def with_gaps(values: npt.NDArray[np.int32], lengths: npt.NDArray[np.intp]) -> Seconds:
-    made = values.astype(np.float32)
-    made[lengths == 0] = np.nan
-    return made
+    seconds = values.astype(np.float32)
+    seconds[lengths == 0] = np.nan
+    return seconds
 
 
 def first_bad(cells: bytes) -> tuple[int, str]:

@@ -10,7 +10,7 @@ import numpy.typing as npt
 
 from ..faults import BadInput, some
 from ..records import shown
-from .layout import Layout
+from .layout import MatrixLayout
 from .lines import Seconds
 
 Sums = npt.NDArray[np.int64]
@@ -36,7 +36,7 @@ class Matrix(ABC):
     """
 
     path: str
-    layout: Layout
+    layout: MatrixLayout
     scenarios: list[str]  # in the file's order
     shares: list[Share]  # ascending
     greatest: float | None = None  # seconds above which a pair counts as not reached
@@ -109,30 +109,30 @@ class Matrix(ABC):
         row: Seconds = self.rows(scenario, share, place, place + 1)[0]
         return row
 
-    def share(self, asked: int | None) -> Share:
+    def share(self, percent: int | None) -> Share:
         """The share that is asked for, which needs to be named only where there are several."""
-        told = ", ".join(map(str, self.shares))
-        if asked is not None and not self.layout.names_share:
+        percentiles = ", ".join(map(str, self.shares))
+        if percent is not None and not self.layout.names_share:
             raise BadInput(self.path, "it names no share; leave --share out")
-        if asked is not None and asked not in self.shares:
-            raise BadInput(self.path, f"no line of the share {asked}; it has {told}")
-        if asked is None and self.layout.names_share and len(self.shares) > 1:
-            raise BadInput(self.path, f"it has lines of the shares {told}: name one by --share")
-        return self.shares[0] if asked is None else asked
+        if percent is not None and percent not in self.shares:
+            raise BadInput(self.path, f"no line of the share {percent}; it has {percentiles}")
+        if percent is None and self.layout.names_share and len(self.shares) > 1:
+            raise BadInput(self.path, f"it has lines of the shares {percentiles}: name one by --share")
+        return self.shares[0] if percent is None else percent
 
-    def limit(self, asked: int | None) -> tuple[int, int | None]:
+    def limit(self, seconds: int | None) -> tuple[int, int | None]:
         """The place of a limit among the columns of access, and the limit in seconds: the one asked for, or the only
         one.
         """
         limits = self.layout.limits
         if limits == (None,):
-            return 0, asked
-        told = ", ".join(map(str, limits))
-        if asked is None and len(limits) > 1:
-            raise BadInput(self.path, f"it has access within {told} seconds: name one by --within")
-        if asked is not None and asked not in limits:
-            raise BadInput(self.path, f"no access within {asked} seconds, but within {told}")
-        place = 0 if asked is None else limits.index(asked)
+            return 0, seconds
+        seconds_stated = ", ".join(map(str, limits))
+        if seconds is None and len(limits) > 1:
+            raise BadInput(self.path, f"it has access within {seconds_stated} seconds: name one by --within")
+        if seconds is not None and seconds not in limits:
+            raise BadInput(self.path, f"no access within {seconds} seconds, but within {seconds_stated}")
+        place = 0 if seconds is None else limits.index(seconds)
         return place, limits[place]
 
     def scenario(self, name: str) -> str:
@@ -142,25 +142,25 @@ class Matrix(ABC):
         return name
 
     @property
-    def told_greatest(self) -> str:
-        """What is told beside the percentile where travel times have an end."""
+    def greatest_stated(self) -> str:
+        """What is reported beside the percentile where travel times have an end."""
         return "" if self.greatest is None else f"pairs beyond {self.greatest / 60:g} minutes count as not reached"
 
     @property
     def left_out(self) -> str:
-        """What is told where a scenario is left out; nothing where none is."""
-        told = f"{self.path}: {BASE}, which has the trips of all scenarios at once, is left out"
-        return "" if self.compared == self.scenarios else told
+        """What is reported where a scenario is left out; nothing where none is."""
+        sentence = f"{self.path}: {BASE}, which has the trips of all scenarios at once, is left out"
+        return "" if self.compared == self.scenarios else sentence
 
-    def other(self, base: str, asked: str | None) -> str:
+    def other(self, base: str, wanted: str | None) -> str:
         """The scenario beside the base, which needs to be named only where there are several."""
         self.scenario(base)
-        if asked is not None:
-            return self.scenario(asked)
+        if wanted is not None:
+            return self.scenario(wanted)
         others = [name for name in (self.scenarios if base == BASE else self.compared) if name != base]
         if len(others) > 1:
-            told = f"{shown(others[0])} and {shown(others[1])}"
-            raise BadInput(self.path, f"it has the scenarios {told} besides {shown(base)}: name one by --scenario")
+            names = f"{shown(others[0])} and {shown(others[1])}"
+            raise BadInput(self.path, f"it has the scenarios {names} besides {shown(base)}: name one by --scenario")
         if not others:
             raise BadInput(
                 self.path, f"no scenario other than {shown(base)}; it has {', '.join(map(shown, self.scenarios))}"
@@ -199,10 +199,10 @@ class Pair:
             )
 
 
-def pair_of(matrix: Matrix, base: str | None, asked: str | None, share: int | None) -> Pair:
+def pair_of(matrix: Matrix, base: str | None, compared: str | None, share: int | None) -> Pair:
     """Two scenarios of a matrix, of one share; beside its own base where none is named."""
     base = base or matrix.base
-    other, chosen = matrix.other(base, asked), matrix.share(share)
+    other, chosen = matrix.other(base, compared), matrix.share(share)
     first, second = (matrix.origins(name, chosen) for name in (base, other))
     places = {name: place for place, name in enumerate(second)}
     both = [(place, places[name]) for place, name in enumerate(first) if name in places]
@@ -212,7 +212,7 @@ def pair_of(matrix: Matrix, base: str | None, asked: str | None, share: int | No
 
 
 def has_all(matrix: Matrix, origins: Sequence[str], file: str) -> None:
-    """Tells where a matrix lacks rows of the origins that a study has, as one that ends too early does."""
+    """Reports where a matrix lacks rows of the origins that a study has, as one that ends too early does."""
     for scenario in matrix.scenarios:
         for share in matrix.shares:
             found = matrix.origins(scenario, share)
@@ -220,18 +220,18 @@ def has_all(matrix: Matrix, origins: Sequence[str], file: str) -> None:
                 there = set(found)
                 lost = [shown(origin) for origin in origins if origin not in there]
                 what = f"scenario {shown(scenario)}" if share is None else f"scenario {shown(scenario)}, share {share}"
-                told = f"lacks {len(lost):,} of {len(origins):,} origins of {file}: {some(lost)}" if lost else None
-                raise BadInput(matrix.path, f"{what}: {told or f'other origins than {file}'}")
+                message = f"lacks {len(lost):,} of {len(origins):,} origins of {file}: {some(lost)}" if lost else None
+                raise BadInput(matrix.path, f"{what}: {message or f'other origins than {file}'}")
 
 
 def lacking(one: tuple[str, Sequence[str]], other: tuple[str, Sequence[str]]) -> str | None:
-    """Which origins one scenario has and the other hasn't, as a line tells it."""
-    told = []
+    """Which origins one scenario has and the other hasn't, as a line says it."""
+    sentences = []
     for (name, origins), (another, others) in ((one, other), (other, one)):
         there = set(others)
         lost = [shown(origin) for origin in origins if origin not in there]
         if lost:
-            told.append(
+            sentences.append(
                 f"{len(lost):,} of {len(origins):,} origins of {shown(name)} aren't in {shown(another)}: {some(lost)}"
             )
-    return "; ".join(told) or None
+    return "; ".join(sentences) or None

@@ -20,7 +20,7 @@ from ..opening.open_matrices import SHARES, limits_of, looked_at, refuse_shapes,
 from ..opening.paths import as_one_line, regular
 from ..threads import in_order, processors
 from .chunks import LEVEL, packed, rows_of
-from .layout import Layout
+from .layout import MatrixLayout
 from .lines import Seconds
 from .matrix import Matrix, Share, Sums, lacking
 
@@ -39,14 +39,14 @@ def decoded(names: Any) -> list[str]:
 
 def names_of(keys: Sequence[tuple[str, Share]]) -> dict[tuple[str, Share], str]:
     """The names of matrices in the file, no two alike."""
-    made: dict[tuple[str, Share], str] = {}
+    names: dict[tuple[str, Share], str] = {}
     for scenario, share in keys:
         name = scenario.replace("/", "_").replace("\0", "_") + ("" if share is None else f"_{share}")
         name = name.lstrip(".") or "_"
-        while name in made.values():
+        while name in names.values():
             name += "_"
-        made[scenario, share] = name
-    return made
+        names[scenario, share] = name
+    return names
 
 
 def write_open_matrix(matrix: Matrix, path: str, threads: int | None = None) -> None:
@@ -57,8 +57,8 @@ def write_open_matrix(matrix: Matrix, path: str, threads: int | None = None) -> 
     import h5py
 
     if not matrix.stops:
-        told = "has no columns, as a run whose --destinations are a header alone: there is nothing to write"
-        raise BadInput(matrix.path, told)
+        message = "has no columns, as a run whose --destinations are a header alone: there is nothing to write"
+        raise BadInput(matrix.path, message)
     layouts = [(scenario, share) for scenario in matrix.compared for share in matrix.shares]
     first = matrix.origins(*layouts[0])
     for scenario, share in layouts:
@@ -69,7 +69,7 @@ def write_open_matrix(matrix: Matrix, path: str, threads: int | None = None) -> 
             raise BadInput(matrix.path, f"an Open Matrix file has one list of origins: {lost}")
     refuse_twice(first, "origin", matrix.path)
     refuse_twice(matrix.stops, "destination", matrix.path)
-    with written_aside(path) as made, h5py.File(made, "w") as file:
+    with written_aside(path) as aside, h5py.File(aside, "w") as file:
         file.attrs["OMX_VERSION"] = np.bytes_(b"0.2")
         file.attrs["SHAPE"] = np.array([len(first), len(matrix.stops)], np.int32)
         if matrix.layout.names_share:
@@ -108,28 +108,28 @@ def make_data(group: Any, matrix: Matrix, key: tuple[str, Share], name: str, pla
     shape = (len(matrix.origins(scenario, share)), len(matrix.stops))
     rows = max(1, min(shape[0], CELLS_OF_A_CHUNK // max(1, shape[1])))
     how = {"chunks": (rows, shape[1]), "compression": "gzip", "compression_opts": LEVEL, "shuffle": True}
-    made = group.create_dataset(name, shape=shape, dtype="<f4", **(how if all(shape) else {}))
-    made.attrs["place"] = place
-    made.attrs["NA"] = np.float32(np.nan)
-    made.attrs["scenario"] = np.bytes_(scenario.encode("utf-8", "surrogateescape"))
+    data = group.create_dataset(name, shape=shape, dtype="<f4", **(how if all(shape) else {}))
+    data.attrs["place"] = place
+    data.attrs["NA"] = np.float32(np.nan)
+    data.attrs["scenario"] = np.bytes_(scenario.encode("utf-8", "surrogateescape"))
     if share is not None:
-        made.attrs["share"] = share
-    return made
+        data.attrs["share"] = share
+    return data
 
 
-def fill_data(made: Any, matrix: Matrix, key: tuple[str, Share], threads: int) -> None:
+def fill_data(data: Any, matrix: Matrix, key: tuple[str, Share], threads: int) -> None:
     """Writes the travel times of a scenario and a share, a chunk at a time."""
-    if made.chunks is None:
+    if data.chunks is None:
         return
-    count, rows = made.shape[0], made.chunks[0]
+    count, rows = data.shape[0], data.chunks[0]
     begins = range(0, count, rows)
 
     def chunk_from(begin: int) -> bytes:
         return packed(padded(matrix, key, range(begin, min(begin + rows, count)), rows))
 
     chunks = in_order(chunk_from, begins, threads)
-    for begin, chunk in zip(begins, progress.told(chunks, len(begins), f"{key[0]} {key[1] or ''}", "blocks")):
-        made.id.write_direct_chunk((begin, 0), chunk)
+    for begin, chunk in zip(begins, progress.shown(chunks, len(begins), f"{key[0]} {key[1] or ''}", "blocks")):
+        data.id.write_direct_chunk((begin, 0), chunk)
 
 
 def padded(matrix: Matrix, key: tuple[str, Share], rows: range, room: int) -> Seconds:
@@ -178,7 +178,7 @@ class OpenMatrix(Matrix):
         refuse_twice(self.origin_names, "origin", self.path)
         refuse_twice(stops, "destination", self.path)
         named = None not in {share for _, share in self.names}
-        self.layout = Layout(named, limits_of(self.file, self.path), stops)
+        self.layout = MatrixLayout(named, limits_of(self.file, self.path), stops)
         self.scenarios = list(dict.fromkeys(scenario for scenario, _ in self.names))
         self.shares = sorted({share for _, share in self.names}, key=lambda share: share or 0)
         if len(self.names) < len(self.scenarios) * len(self.shares):
@@ -192,10 +192,10 @@ class OpenMatrix(Matrix):
     def access(self, scenario: str, share: Share) -> Sums:
         name = self.names[scenario, share]
         with as_one_line(self.path, f"access of {name} can't be read"):
-            made: Sums = self.file["access"][name][:].astype(np.int64)
-        if (made < 0).any():
-            raise BadInput(self.path, f"access of {name} has {made.min()}, which is no sum")
-        return made
+            counts: Sums = self.file["access"][name][:].astype(np.int64)
+        if (counts < 0).any():
+            raise BadInput(self.path, f"access of {name} has {counts.min()}, which is no sum")
+        return counts
 
     def rows(self, scenario: str, share: Share, begin: int, end: int) -> Seconds:
         name = self.names[scenario, share]

@@ -1,4 +1,4 @@
-"""From where a matrix comes, as the study beside it tells: the day and the departures."""
+"""From where a matrix comes, as the study beside it says: the day and the departures."""
 
 from pathlib import Path
 
@@ -11,7 +11,7 @@ NOTES = "study.json"
 def told_of(path: str) -> list[str]:
     """The day and the window of a matrix in a study's folder, or in a folder of it; nothing for another one."""
     matrix = Path(path).absolute()
-    folder = next((it for it in (matrix.parent, matrix.parent.parent) if (it / NOTES).is_file()), None)
+    folder = next((folder for folder in (matrix.parent, matrix.parent.parent) if (folder / NOTES).is_file()), None)
     if folder is None:
         return []
     try:

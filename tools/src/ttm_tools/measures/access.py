@@ -17,9 +17,9 @@ from .. import progress
 from ..faults import WrongWords
 from ..gtfs.fields import Floats
 from ..matrices import Matrix, Seconds, Share
+from .measure_list import DECAYS
 
-STEP, LINEAR, EXPONENTIAL, LOGISTIC = "step", "linear", "exponential", "logistic"
-DECAYS = (STEP, LINEAR, EXPONENTIAL, LOGISTIC)
+STEP = "step"
 NEARLY = 1 - 1e-12  # of a sum of decimals that is meant to be whole
 
 
@@ -41,8 +41,8 @@ class Interval:
         """The part of the limits within which each travel time is; the cutoff isn't used."""
         count = self.high - self.low + 1
         minutes = np.ceil(np.where(np.isnan(seconds), np.inf, seconds).astype(np.float64) / 60)
-        made: Floats = np.clip(self.high + 1 - np.maximum(minutes, self.low), 0, count) / count
-        return made
+        weights: Floats = np.clip(self.high + 1 - np.maximum(minutes, self.low), 0, count) / count
+        return weights
 
 
 @dataclass(frozen=True)
@@ -53,34 +53,42 @@ class Decay:
     value: float | None = None  # minutes: how wide the linear fall is, the standard deviation of the logistic one
 
     def __post_init__(self) -> None:
-        if self.kind in (LINEAR, LOGISTIC) and not (self.value or 0) > 0:
+        takes_value = bool(DECAYS[self.kind].value)
+        if takes_value and not (self.value or 0) > 0:
             raise WrongWords(f"--decay {self.kind} needs --decay-value, minutes above 0")
-        if self.kind in (STEP, EXPONENTIAL) and self.value is not None:
+        if not takes_value and self.value is not None:
             raise WrongWords(f"--decay {self.kind} takes no --decay-value")
 
     def weights(self, seconds: Seconds, cutoff: float) -> Floats:
         """The weight of each travel time, 0 to 1; 0 where there is none. The cutoff is in minutes."""
-        limit = np.round(60 * cutoff)
-        width = 60 * (self.value or 0)
-        if self.kind == STEP:
-            near: Floats = (seconds <= limit).astype(np.float64)
-            return near
-        times = np.where(np.isnan(seconds), np.inf, seconds).astype(np.float64)
-        if self.kind == LINEAR:
-            line: Floats = np.clip((limit + width / 2 - times) / width, 0, 1)
-            return line
-        if self.kind == EXPONENTIAL:
-            halves: Floats = np.exp2(-times / limit)
-            return halves
-        scale = width * math.sqrt(3) / math.pi
-        return logistic((times - limit) / scale, -limit / scale)
+        weights: Floats = DECAYS[self.kind].compute()(seconds, np.round(60 * cutoff), 60 * (self.value or 0))
+        return weights
 
 
-def logistic(at: Floats, at_zero: float) -> Floats:
+def step(seconds: Seconds, limit: float, width: float) -> Floats:
+    return np.asarray(seconds <= limit, dtype=np.float64)
+
+
+def endless(seconds: Seconds) -> Floats:
+    """Travel times, infinite where there is none."""
+    return np.where(np.isnan(seconds), np.inf, seconds).astype(np.float64)
+
+
+def linear(seconds: Seconds, limit: float, width: float) -> Floats:
+    return np.asarray(np.clip((limit + width / 2 - endless(seconds)) / width, 0, 1))
+
+
+def exponential(seconds: Seconds, limit: float, width: float) -> Floats:
+    return np.asarray(np.exp2(-endless(seconds) / limit))
+
+
+def logistic(seconds: Seconds, limit: float, width: float) -> Floats:
     """The falling logistic curve, 1 where the travel time is 0."""
-    made: Floats = (1 + math.exp(at_zero)) / (1 + np.exp(np.minimum(at, 700)))
-    made[np.isinf(at)] = 0
-    return made
+    scale = width * math.sqrt(3) / math.pi
+    at = (endless(seconds) - limit) / scale
+    weights: Floats = (1 + math.exp(-limit / scale)) / (1 + np.exp(np.minimum(at, 700)))
+    weights[np.isinf(at)] = 0
+    return weights
 
 
 def access(
@@ -116,21 +124,21 @@ def times_to(seconds: Seconds, numbers: Floats, counts: Sequence[float]) -> Floa
     order = np.argsort(seconds, axis=1)  # those without a time stand last
     none = np.full((len(seconds), 1), np.nan)
     ordered = np.concatenate([np.take_along_axis(seconds, order, axis=1).astype(np.float64), none], axis=1)
-    made = []
+    times = []
     for column in numbers.T:
         sums = np.cumsum(column[order], axis=1)
         places: list[npt.NDArray[np.intp]] = [(sums < count * NEARLY).sum(axis=1) for count in counts]
-        made.append(np.take_along_axis(ordered, np.stack(places, axis=1), axis=1))
-    return np.stack(made, axis=1)
+        times.append(np.take_along_axis(ordered, np.stack(places, axis=1), axis=1))
+    return np.stack(times, axis=1)
 
 
 def by_blocks(
     matrix: Matrix, scenario: str, share: Share, shape: tuple[int, int], measure: Callable[[Seconds], Floats]
 ) -> Floats:
     """What is measured of each block of rows, one after the other."""
-    made = np.zeros((len(matrix.origins(scenario, share)), *shape))
-    count, begin = -(-len(made) // matrix.rows_at_once()), 0
-    for block in progress.told(matrix.blocks(scenario, share), count, f"{scenario} {share or ''}", "blocks"):
-        made[begin : begin + len(block.origins)] = measure(block.seconds)
+    numbers = np.zeros((len(matrix.origins(scenario, share)), *shape))
+    count, begin = -(-len(numbers) // matrix.rows_at_once()), 0
+    for block in progress.shown(matrix.blocks(scenario, share), count, f"{scenario} {share or ''}", "blocks"):
+        numbers[begin : begin + len(block.origins)] = measure(block.seconds)
         begin += len(block.origins)
-    return made
+    return numbers

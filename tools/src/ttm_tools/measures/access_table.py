@@ -18,7 +18,7 @@ OF_TIMES = ("id", "opportunity", "percentile", "nearest", "seconds")
 
 
 @dataclass(frozen=True)
-class Kind:
+class AccessKind:
     """What was measured."""
 
     opportunity: str
@@ -26,12 +26,12 @@ class Kind:
     cutoff: str  # minutes; of a table of times how many are to be reached
 
     @property
-    def told(self) -> str:
+    def label(self) -> str:
         share = f", share {self.percentile} %" if self.percentile else ""
         return f"{shown(self.opportunity)} within {self.cutoff} minutes{share}"
 
     @property
-    def told_nearest(self) -> str:
+    def label_of_nearest(self) -> str:
         share = f", share {self.percentile} %" if self.percentile else ""
         count = "" if self.cutoff == "1" else f"{self.cutoff} "
         return f"time to the {count}nearest {shown(self.opportunity)}{share}"
@@ -43,7 +43,7 @@ class AccessTable:
 
     path: str
     scenarios: list[str]
-    kinds: list[Kind]
+    kinds: list[AccessKind]
     origins: list[str]
     numbers: Floats  # by scenario, kind and origin; of times seconds, NaN where so many aren't reached
     of_times: bool = False
@@ -54,8 +54,8 @@ class AccessTable:
         """The scenario that others are compared with where none is named."""
         return self.named_base or (TODAY if TODAY in self.scenarios else BASE)
 
-    def told(self, kind: Kind) -> str:
-        return kind.told_nearest if self.of_times else kind.told
+    def label_of(self, kind: AccessKind) -> str:
+        return kind.label_of_nearest if self.of_times else kind.label
 
     def scenario(self, name: str) -> int:
         """The place of a scenario."""
@@ -67,14 +67,14 @@ class AccessTable:
 
 def read_access(path: str) -> AccessTable:
     """A table in which each scenario and kind has each origin once; without a column scenario all is `base`."""
-    scenarios, kinds, origins = dict[str, int](), dict[Kind, int](), dict[str, int]()
+    scenarios, kinds, origins = dict[str, int](), dict[AccessKind, int](), dict[str, int]()
     found: dict[tuple[int, int, int], float] = {}
     of_times = is_of_times(path)
     for number, scenario, kind, origin, value in lines_of(path, OF_TIMES if of_times else COLUMNS):
         places = (scenarios.setdefault(scenario, len(scenarios)), kinds.setdefault(kind, len(kinds)))
         key = (*places, origins.setdefault(origin, len(origins)))
         if key in found:
-            raise BadInput(path, f"{shown(origin)} is there twice for {kind.told}, {shown(scenario)}", record=number)
+            raise BadInput(path, f"{shown(origin)} is there twice for {kind.label}, {shown(scenario)}", record=number)
         found[key] = value
     numbers = np.full((len(scenarios), len(kinds), len(origins)), np.nan)
     if not found:
@@ -99,8 +99,10 @@ def beside(own: AccessTable, other: AccessTable, labels: tuple[str, str], scenar
         raise BadInput(other.path, f"has no {what} in common with {own.path}")
     renamed = [labels[0] if name == own.base else name for name in own.scenarios]
     parts = [
-        it.numbers[np.ix_(rows, [it.kinds.index(kind) for kind in kinds], [it.origins.index(name) for name in origins])]
-        for it, rows in ((other, [other.scenario(scenario or other.base)]), (own, range(len(own.scenarios))))
+        table.numbers[
+            np.ix_(rows, [table.kinds.index(kind) for kind in kinds], [table.origins.index(name) for name in origins])
+        ]
+        for table, rows in ((other, [other.scenario(scenario or other.base)]), (own, range(len(own.scenarios))))
     ]
     names = [labels[1], *(name for name in renamed if name != labels[1])]
     kept = [row for row, name in enumerate(renamed) if name != labels[1]]
@@ -108,38 +110,38 @@ def beside(own: AccessTable, other: AccessTable, labels: tuple[str, str], scenar
     return AccessTable(own.path, names, kinds, origins, numbers, own.of_times, labels[1])
 
 
-def told_lost(own: AccessTable, other: AccessTable) -> list[str]:
+def sentences_on_lost(own: AccessTable, other: AccessTable) -> list[str]:
     """The origins that only one of two tables has."""
-    made = []
+    sentences = []
     for one, another in ((own, other), (other, own)):
         there = set(another.origins)
         lost = [shown(name) for name in one.origins if name not in there]
         if lost:
             count = f"{len(lost):,} of {len(one.origins):,} origins of {one.path}"
-            made.append(f"{count} aren't in {another.path}, and are left out: {some(lost)}")
-    return made
+            sentences.append(f"{count} aren't in {another.path}, and are left out: {some(lost)}")
+    return sentences
 
 
 def is_of_times(path: str) -> bool:
-    """Whether a table tells times to the nearest."""
+    """Whether a table says times to the nearest."""
     _, header = next(records(path), (1, list[str]()))
     return {*OF_TIMES[3:]} <= {*header} and not {*COLUMNS[3:]} <= {*header}
 
 
-def lines_of(path: str, named: Sequence[str]) -> Iterator[tuple[int, str, Kind, str, float]]:
+def lines_of(path: str, named: Sequence[str]) -> Iterator[tuple[int, str, AccessKind, str, float]]:
     """Each line: its record, scenario, kind, origin and access, or time: infinite where so many aren't reached."""
     for number, (origin, opportunity, percentile, cutoff, text, scenario) in rows(path, named, ["scenario"]):
         value = math.inf if named is OF_TIMES and not text.strip() else number_of(text.strip())
         if not value >= 0:
             allowed = "a number from 0 on"
             raise BadInput(path, "is none", record=number, column=named[-1], value=text, allowed=allowed)
-        yield number, scenario or "base", Kind(opportunity, percentile, cutoff), origin, value
+        yield number, scenario or "base", AccessKind(opportunity, percentile, cutoff), origin, value
 
 
 def tell_gaps(table: AccessTable) -> None:
-    """Tells the first scenario and kind that lacks origins."""
+    """Refuses the first scenario and kind that lacks origins."""
     gaps = np.isnan(table.numbers)
     for scenario, kind in np.argwhere(gaps.any(axis=2))[:1].tolist():
         lost = [shown(table.origins[place]) for place in np.flatnonzero(gaps[scenario, kind]).tolist()]
-        what = f"{table.told(table.kinds[kind])}, {shown(table.scenarios[scenario])}"
+        what = f"{table.label_of(table.kinds[kind])}, {shown(table.scenarios[scenario])}"
         raise BadInput(table.path, f"{what} lacks {len(lost):,} of {len(table.origins):,} origins: {some(lost)}")

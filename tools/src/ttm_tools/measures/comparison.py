@@ -59,9 +59,9 @@ class Sides:
     cut_off: npt.NDArray[np.bool_]  # of those that lose: something before, and nothing now
     newly_reached: npt.NDArray[np.bool_]  # of those that gain: nothing before, and something now
 
-    def told(self) -> str:
+    def sentence(self) -> str:
         """How many there are of each."""
-        lose, gain, cut, new = (int(it.sum()) for it in (self.lose, self.gain, self.cut_off, self.newly_reached))
+        lose, gain, cut, new = (int(kind.sum()) for kind in (self.lose, self.gain, self.cut_off, self.newly_reached))
         all_of_it = f" ({cut:,} of them cut off)" if cut else ""
         from_nothing = f" ({new:,} of them newly reached)" if new else ""
         return f"{lose:,} lose{all_of_it}, {gain:,} gain{from_nothing}"
@@ -77,12 +77,12 @@ def kinds_of(before: Seconds, after: Seconds, limit: float) -> npt.NDArray[np.in
     """What became of each cell: a place among KINDS, -1 where it differs by no more than the limit, in seconds."""
     gone, new = np.isnan(after), np.isnan(before)
     later = after - before
-    made = np.full(before.shape, -1, np.int8)
-    made[later > limit] = SLOWER
-    made[later < -limit] = FASTER
-    made[gone & ~new] = CUT_OFF
-    made[new & ~gone] = NEW
-    return made
+    kinds = np.full(before.shape, -1, np.int8)
+    kinds[later > limit] = SLOWER
+    kinds[later < -limit] = FASTER
+    kinds[gone & ~new] = CUT_OFF
+    kinds[new & ~gone] = NEW
+    return kinds
 
 
 def compare(pair: Pair, limit: float, with_pairs: bool) -> Comparison:
@@ -92,7 +92,7 @@ def compare(pair: Pair, limit: float, with_pairs: bool) -> Comparison:
     counts, reached = [np.zeros((0, len(KINDS)), np.int64)], [np.zeros((2, 0), np.int64)]
     none = np.zeros((0, 0), np.float32)
     found = [[column] for column in columns_of(0, none, none, np.zeros((0, 0), np.int8))]
-    for begin, before, after in progress.told(pair.blocks(), pair.count_of_blocks(), "comparing", "blocks"):
+    for begin, before, after in progress.shown(pair.blocks(), pair.count_of_blocks(), "comparing", "blocks"):
         kinds = kinds_of(before, after, limit)
         counts.append(np.stack([np.count_nonzero(kinds == kind, axis=1) for kind in range(len(KINDS))], axis=1))
         reached.append(np.stack([np.count_nonzero(~np.isnan(times), axis=1) for times in (before, after)]))
@@ -104,9 +104,9 @@ def compare(pair: Pair, limit: float, with_pairs: bool) -> Comparison:
 
 def put_together(pieces: list[npt.NDArray[Any]]) -> npt.NDArray[Any]:
     """A column of its pieces, which are dropped."""
-    made: npt.NDArray[Any] = np.concatenate(pieces)
+    column: npt.NDArray[Any] = np.concatenate(pieces)
     pieces.clear()
-    return made
+    return column
 
 
 def columns_of(begin: int, before: Seconds, after: Seconds, kinds: npt.NDArray[np.int8]) -> list[npt.NDArray[Any]]:
@@ -152,8 +152,8 @@ def sorted_origins(first: Sums, second: Sums, sort: str) -> npt.NDArray[np.intp]
 
 
 def as_order(places: Any) -> npt.NDArray[np.intp]:
-    made: npt.NDArray[np.intp] = places
-    return made
+    order: npt.NDArray[np.intp] = places
+    return order
 
 
 def order_of_origins(change: Sums, counts: npt.NDArray[np.int64]) -> npt.NDArray[np.intp]:

@@ -6,23 +6,24 @@ formulas.
 """
 
 from dataclasses import dataclass
-from typing import Callable, Sequence
+from typing import Sequence
 
 import numpy as np
+import numpy.typing as npt
 
 from ..gtfs.fields import Floats
 from ..matrices import Matrix, Seconds, Share
 from .access import Weighting, by_blocks
+from .measure_list import COMPETITIONS
 
-FLOATING, BALANCED, AVAILABILITY = "floating", "balanced", "availability"
-METHODS = (FLOATING, BALANCED, AVAILABILITY)
+Places = npt.NDArray[np.intp]
 
 
 @dataclass(frozen=True)
 class Market:
     """Who competes for what, and how."""
 
-    method: str  # of METHODS
+    method: str  # of COMPETITIONS
     supply: Floats  # a row for each stop of the matrix, a column for each thing
     demand: dict[str, float]  # people by origin
     weighting: Weighting
@@ -36,57 +37,80 @@ def competition(matrix: Matrix, scenario: str, share: Share, market: Market) -> 
     """What each origin has: by origin, column of the supply, and cutoff. Availability is what all people there have,
     the others what each of them has.
     """
-    made = [of_cutoff(matrix, scenario, share, market, cutoff) for cutoff in market.cutoffs]
-    return np.stack(made, axis=2)
+    columns = [of_cutoff(matrix, scenario, share, market, cutoff) for cutoff in market.cutoffs]
+    return np.stack(columns, axis=2)
 
 
 def of_cutoff(matrix: Matrix, scenario: str, share: Share, market: Market, cutoff: float) -> Floats:
     origins = matrix.origins(scenario, share)
     people = market.people(origins)
-    columns = [one_thing(matrix, scenario, share, market, (cutoff, people, it)) for it in market.supply.T]
-    found: Floats = np.stack(columns, axis=1) if columns else np.zeros((len(origins), 0))
-    return found * people[:, None] if market.method == AVAILABILITY else found
+    things = [Thing(matrix, scenario, share, market, cutoff, people, supply) for supply in market.supply.T]
+    columns: list[Floats] = [COMPETITIONS[market.method].compute()(thing) for thing in things]
+    return np.stack(columns, axis=1) if columns else np.zeros((len(origins), 0))
 
 
-def one_thing(matrix: Matrix, scenario: str, share: Share, market: Market, of: tuple[float, Floats, Floats]) -> Floats:
-    """The same for one column of the supply."""
-    cutoff, people, supply = of
-    used = np.flatnonzero(supply)
+@dataclass(frozen=True)
+class Thing:
+    """A column of the supply that people compete for within a cutoff."""
 
-    def weights(seconds: Seconds) -> Floats:
-        return market.weighting.weights(seconds[:, used], cutoff)
+    matrix: Matrix
+    scenario: str
+    share: Share
+    market: Market
+    cutoff: float
+    people: Floats  # by origin
+    supply: Floats  # by stop
 
-    demand, sums = totals(matrix, scenario, share, people, weights, balanced=market.method == BALANCED)
-    rates = np.divide(supply[used], demand, out=np.zeros(len(used)), where=demand > 0)
-    if market.method == BALANCED:
-        rates = np.divide(rates, sums, out=np.zeros(len(used)), where=sums > 0)
+    @property
+    def used(self) -> Places:
+        return np.flatnonzero(self.supply)
 
-    def access(seconds: Seconds) -> Floats:
-        made: Floats = (weights(seconds) @ rates)[:, None, None]
-        return made
+    def weights(self, seconds: Seconds) -> Floats:
+        return self.market.weighting.weights(seconds[:, self.used], self.cutoff)
 
-    return by_blocks(matrix, scenario, share, (1, 1), access)[:, 0, 0]
+    def rates(self, demand: Floats) -> Floats:
+        """What each who asks for a destination has of it."""
+        return divided(self.supply[self.used], demand)
+
+    def shared_out(self, rates: Floats) -> Floats:
+        """What each origin has of all destinations."""
+
+        def access(seconds: Seconds) -> Floats:
+            access_by_origin: Floats = (self.weights(seconds) @ rates)[:, None, None]
+            return access_by_origin
+
+        return by_blocks(self.matrix, self.scenario, self.share, (1, 1), access)[:, 0, 0]
 
 
-def totals(
-    matrix: Matrix,
-    scenario: str,
-    share: Share,
-    people: Floats,
-    weights: Callable[[Seconds], Floats],
-    *,
-    balanced: bool,
-) -> tuple[Floats, Floats]:
+def floating(thing: Thing) -> Floats:
+    demand, _ = totals(thing, balanced=False)
+    return thing.shared_out(thing.rates(demand))
+
+
+def balanced(thing: Thing) -> Floats:
+    demand, sums = totals(thing, balanced=True)
+    return thing.shared_out(divided(thing.rates(demand), sums))
+
+
+def availability(thing: Thing) -> Floats:
+    return floating(thing) * thing.people
+
+
+def divided(numbers: Floats, by: Floats) -> Floats:
+    """Numbers by others, 0 where these are."""
+    return np.divide(numbers, by, out=np.zeros(len(numbers)), where=by > 0)
+
+
+def totals(thing: Thing, *, balanced: bool) -> tuple[Floats, Floats]:
     """For each destination the people who ask for it, and the sum of its weights over the origins with people. Where it
     is balanced the people of an origin are shared out among its destinations, so that each of them counts once.
     """
     demand, sums, begin = np.zeros(0), np.zeros(0), 0
-    for block in matrix.blocks(scenario, share):
-        found = weights(block.seconds)
-        there = people[begin : begin + len(found)]
+    for block in thing.matrix.blocks(thing.scenario, thing.share):
+        found = thing.weights(block.seconds)
+        there = thing.people[begin : begin + len(found)]
         begin += len(found)
         whole = found.sum(axis=1) if balanced else np.ones(len(found))
-        asked = np.divide(there, whole, out=np.zeros(len(there)), where=whole > 0)
-        more = asked @ found, (there > 0) @ found
+        more = divided(there, whole) @ found, (there > 0) @ found
         demand, sums = (more[0], more[1]) if not len(demand) else (demand + more[0], sums + more[1])
     return demand, sums

@@ -9,6 +9,7 @@ from dataclasses import dataclass
 import numpy as np
 
 from ..gtfs.fields import Floats
+from .columns import column, row_of
 
 TENTHS = 10
 TOP, BOTTOM = 0.1, 0.4  # of the people, in the Palma ratio
@@ -16,34 +17,13 @@ NEARLY = 1 - 1e-12  # of what is meant to be just a half, or just so many percen
 
 
 @dataclass(frozen=True)
-class Equity:
-    """The measures of one scenario; NaN where there is none."""
+class EquityCase:
+    """The access at each point of a scenario and of the base, and the people there, some in all."""
 
-    people: float
-    mean: float
-    median: float
-    losers: float  # percent of the people
-    gini: float
-    palma: float
-    least_tenth: float  # mean access of the tenth with the least access
-    least_tenth_change: float  # mean change of those who are that tenth in the base
-
-
-def equity(base: Floats, access: Floats, people: Floats, percent: float) -> Equity:
-    """The measures of the access at each point, beside that of the base; some people are there. A loser loses at least
-    so many percent of the base's access.
-    """
-    lost = (base > 0) & (base - access >= base * (percent / 100 * NEARLY)) & (base > access)
-    return Equity(
-        float(people.sum()),
-        mean(access, people),
-        median(access, people),
-        100 * float(people[lost].sum() / people.sum()),
-        gini(access, people),
-        ratio(mean(access, part(access, people, 1 - TOP, 1)), mean(access, part(access, people, 0, BOTTOM))),
-        mean(access, part(access, people, 0, 1 / TENTHS)),
-        mean(access - base, part(base, people, 0, 1 / TENTHS)),
-    )
+    base: Floats
+    access: Floats
+    people: Floats
+    percent: float  # of the base's access, from which on somebody counts as a loser
 
 
 def mean(numbers: Floats, people: Floats) -> float:
@@ -68,14 +48,14 @@ def part(access: Floats, people: Floats, begin: float, end: float) -> Floats:
     after = np.cumsum(counts)
     before, total = after - counts, after[-1]
     inside = np.clip(np.minimum(after, end * total) - np.maximum(before, begin * total), 0, None)
-    made: Floats = people * (inside / np.where(counts > 0, counts, 1))[group]
-    return made
+    people_inside: Floats = people * (inside / np.where(counts > 0, counts, 1))[group]
+    return people_inside
 
 
 def lorenz(access: Floats, people: Floats) -> tuple[Floats, Floats]:
     """The Lorenz curve: shares of the people by ascending access, and of all access that they have."""
     order = np.argsort(access, kind="stable")
-    ends = [np.concatenate([[0], np.cumsum(it[order])]) for it in (people, people * access)]
+    ends = [np.concatenate([[0], np.cumsum(weights[order])]) for weights in (people, people * access)]
     shares = [end / end[-1] if end[-1] > 0 else np.full(len(end), np.nan) for end in ends]
     return shares[0], shares[1]
 
@@ -84,6 +64,63 @@ def gini(access: Floats, people: Floats) -> float:
     """Twice the area between the Lorenz curve and that of equal access; NaN where nobody has any."""
     across, up = lorenz(access, people)
     return float(1 - np.diff(across) @ (up[1:] + up[:-1]))
+
+
+def losers_percent(case: EquityCase) -> float:
+    base, lost = case.base, case.base - case.access
+    loses = (base > 0) & (lost >= base * (case.percent / 100 * NEARLY)) & (base > case.access)
+    return 100 * float(case.people[loses].sum() / case.people.sum())
+
+
+def palma(case: EquityCase) -> float:
+    most, least = part(case.access, case.people, 1 - TOP, 1), part(case.access, case.people, 0, BOTTOM)
+    return ratio(mean(case.access, most), mean(case.access, least))
+
+
+def least_tenth(case: EquityCase) -> float:
+    return mean(case.access, part(case.access, case.people, 0, 1 / TENTHS))
+
+
+def least_tenth_change(case: EquityCase) -> float:
+    return mean(case.access - case.base, part(case.base, case.people, 0, 1 / TENTHS))
+
+
+@dataclass(frozen=True)
+class Equity:
+    """The measures of one scenario; NaN where there is none."""
+
+    people: float = column(lambda case: float(case.people.sum()))
+    mean: float = column(lambda case: mean(case.access, case.people), "Σ *p a* / *P*")
+    median: float = column(
+        lambda case: median(case.access, case.people), "the least access that at least half of the people don't exceed"
+    )
+    losers_percent: float = column(
+        losers_percent,
+        "percentage of people with *a* (base) − *a* ≥ `--lose` percent of *a* (base), and above 0 (default 10)",
+    )
+    gini: float = column(
+        lambda case: gini(case.access, case.people),
+        "Σ Σ *pᵢ pⱼ* \\|*aᵢ* − *aⱼ*\\| / (2 *P*² mean), over all ordered pairs of origins, so each two count twice:"
+        " 0 if all have the same, near 1 if one has all",
+        'C. Gini, 1912; weighted as in A. Sen, "On Economic Inequality", 1973',
+    )
+    palma: float = column(
+        palma,
+        "mean access of the tenth with the most, divided by that of the two fifths with the least: 1 if all have the"
+        " same",
+        "G. Palma, Development and Change 42, 2011; of means, as in the package `accessibility`, but ordered by access,"
+        " since no incomes are known",
+    )
+    least_tenth: float = column(
+        least_tenth,
+        "mean access of the tenth with the least access in this scenario",
+        'after J. Rawls, "A Theory of Justice", 1971',
+    )
+    least_tenth_change: float = column(least_tenth_change, "mean change of those who are that tenth in the base")
+
+
+def equity(base: Floats, access: Floats, people: Floats, percent: float) -> Equity:
+    return row_of(Equity, EquityCase(base, access, people, percent))
 
 
 def changes_by_tenth(base: Floats, access: Floats, people: Floats) -> Floats:

@@ -1,11 +1,11 @@
 """The journey behind a cell: a second search, by the definitions of docs/explanation/definitions.md, apart from `ttm`.
 
-Round by round of rides each stop gets the least time at which a ride ends there: all events of all runs are looked at
-in each round, by arrays. Who sets out later is nowhere earlier; so once the last departure that gets there is known,
-only what runs until its arrival counts for those before it, and between two departures that arrive at the same time all
-do. None of this is proved.
+Round by round of rides each stop gets the least time at which a ride ends there, from all events, by arrays.
+Who sets out later is nowhere earlier; so once the last departure that gets there is known, only what runs until its
+arrival counts for those before it, and nothing that the first of them can't take. None of this is proved.
 """
 
+from bisect import bisect_right
 from dataclasses import dataclass
 from functools import cached_property
 
@@ -13,18 +13,18 @@ import numpy as np
 import numpy.typing as npt
 
 from ..gtfs.fields import Mask, Whole
-from ..gtfs.footpaths import Walks
+from ..gtfs.footpaths import Footpaths
 from ..gtfs.timetable import Events, Runs
 
 NEVER = 1 << 40
 AT_ONCE = 30  # departures that share a part of the network
-NEAR = 4 * 3600  # seconds after the last departure that are looked at first
+NEAR = (5400, 4 * 3600)  # seconds after the last departure that are looked at first
 FEW = 1 << 16  # stops, which numpy puts in order by counting
 Places = npt.NDArray[np.intp]
 
 
 @dataclass(frozen=True)
-class Network:
+class SearchNetwork:
     """Events of runs on the axis of times, run after run, and how one walks and changes."""
 
     run: Whole  # of each event the run, ascending
@@ -34,7 +34,7 @@ class Network:
     depart: Whole
     board: Mask
     alight: Mask
-    walks: Walks
+    walks: Footpaths
     changes: Whole  # seconds at each stop
 
     @cached_property
@@ -42,19 +42,42 @@ class Network:
         return groups_of(self.stop)
 
     @cached_property
-    def walks_by_end(self) -> tuple[Places, Places, Places]:
-        return groups_of(self.walks.end)
+    def walks_to_vehicles(self) -> tuple[Footpaths, tuple[Places, Places, Places]]:
+        """The walks that end where one can board something, and these by their ends."""
+        boarded = np.zeros(len(self.changes), dtype=np.bool_)
+        boarded[self.stop[self.board]] = True
+        walks = self.walks.of(boarded[self.walks.end])
+        return walks, groups_of(walks.end)
 
-    def within(self, first: int, last: int) -> "Network":
+    def within(self, first: int, last: int) -> "SearchNetwork":
         """What departs, or arrives, between two times; nothing else counts for journeys between them."""
-        kept = (self.depart >= first) & (self.arrive <= last)
+        return self.only((self.depart >= first) & (self.arrive <= last))
+
+    def taken_by(self, search: "Search") -> "SearchNetwork":
+        """What somebody can take who sets out later than in a search of this network: no journey has anything else."""
+        ready = search.ready(search.ridden[-2])
+        kept = self.aboard(ready) | (self.board & (ready[self.stop] <= self.depart))
+        return self.only(kept)
+
+    def only(self, kept: Mask) -> "SearchNetwork":
+        """Some events alone."""
         run, stop, board, alight = self.run[kept], self.stop[kept], self.board[kept], self.alight[kept]
         times = self.arrive[kept], self.depart[kept]
-        return Network(run, first_of_each(run), stop, *times, board, alight, self.walks, self.changes)
+        return SearchNetwork(run, first_of_each(run), stop, *times, board, alight, self.walks, self.changes)
+
+    def mirrored(self) -> "SearchNetwork":
+        """The same with time running backwards: a journey becomes one from its end to its start."""
+        run, stop, board, alight = self.run[::-1], self.stop[::-1], self.alight[::-1], self.board[::-1]
+        times = -self.depart[::-1], -self.arrive[::-1]
+        walks = Footpaths(self.walks.end, self.walks.begin, self.walks.seconds)
+        return SearchNetwork(run, first_of_each(run), stop, *times, board, alight, walks, self.changes)
 
     def walked(self, times: Whole) -> Whole:
-        """The least time of each stop at the end of a walk from where others have these times."""
-        return least_of(times[self.walks.begin] + self.walks.seconds, self.walks_by_end, len(times))
+        """The least time of each stop at the end of a walk from where others have these times; of a stop where one can
+        board nothing NEVER.
+        """
+        walks, by_end = self.walks_to_vehicles
+        return least_of(times[walks.begin] + walks.seconds, by_end, len(times))
 
     def carried(self, ready: Whole) -> Whole:
         """The least time of each stop at which a ride ends there, for who is ready to board at these times."""
@@ -64,15 +87,15 @@ class Network:
         """Whether somebody who boarded at an event before sits in the vehicle when it comes to an event."""
         count = np.arange(len(self.stop))
         caught = np.maximum.accumulate(np.where(self.board & (ready[self.stop] <= self.depart), count, -1))
-        made: Mask = np.concatenate([[-1], caught[:-1]])[: len(count)] >= self.begin
-        return made
+        ridden: Mask = np.concatenate([[-1], caught[:-1]])[: len(count)] >= self.begin
+        return ridden
 
 
 def first_of_each(run: Whole) -> Whole:
     """Of each event the place of the first one of its run."""
     new = np.concatenate([[True], run[1:] != run[:-1]])[: len(run)]
-    made: Whole = np.maximum.accumulate(np.where(new, np.arange(len(run)), 0))
-    return made
+    firsts: Whole = np.maximum.accumulate(np.where(new, np.arange(len(run)), 0))
+    return firsts
 
 
 def groups_of(keys: Whole) -> tuple[Places, Places, Places]:
@@ -86,23 +109,33 @@ def groups_of(keys: Whole) -> tuple[Places, Places, Places]:
 def least_of(values: Whole, groups: tuple[Places, Places, Places], count: int) -> Whole:
     """The least value of each group, NEVER where there is none."""
     order, begins, keys = groups
-    made = np.full(count, NEVER, np.int64)
+    least = np.full(count, NEVER, np.int64)
     if len(keys):
-        made[keys] = np.minimum(np.minimum.reduceat(values[order], begins), NEVER)
-    return made
+        least[keys] = np.minimum(np.minimum.reduceat(values[order], begins), NEVER)
+    return least
 
 
-def network_of(events: Events, runs: Runs, walks: Walks, changes: Whole, first: int) -> Network:
-    """The network of some runs from a time on."""
-    lengths = (events.begins[1:] - events.begins[:-1])[runs.trip]
-    begins = np.cumsum(lengths) - lengths
-    run = np.repeat(np.arange(len(lengths)), lengths)
-    place = events.begins[runs.trip][run] + np.arange(len(run)) - begins[run]
-    arrive, depart = events.arrive[place] + runs.shift[run], events.depart[place] + runs.shift[run]
-    whole = Network(
-        run, begins[run], events.stop[place], arrive, depart, events.board[place], events.alight[place], walks, changes
-    )
-    return whole.within(first, NEVER)
+@dataclass(frozen=True)
+class Schedule:
+    """All runs of some days from a time on, how one walks, and how one changes."""
+
+    events: Events  # of trips
+    runs: Runs
+    walks: Footpaths
+    changes: Whole  # seconds at each stop
+    first: int
+
+    def within(self, first: int, last: int) -> SearchNetwork:
+        """The network of what departs, or arrives, between two times."""
+        first, trip, shift, events = max(first, self.first), self.runs.trip, self.runs.shift, self.events
+        chosen = np.flatnonzero((events.latest[trip] + shift >= first) & (events.earliest[trip] + shift <= last))
+        lengths = events.counts[trip[chosen]]
+        run, begins = np.repeat(chosen, lengths), np.cumsum(lengths) - lengths
+        place = np.arange(len(run)) + np.repeat(events.begins[trip[chosen]] - begins, lengths)
+        times = events.arrive[place] + shift[run], events.depart[place] + shift[run]
+        places = np.repeat(begins, lengths), events.stop[place]
+        allowed = events.board[place], events.alight[place]
+        return SearchNetwork(run, *places, *times, *allowed, self.walks, self.changes).within(first, last)
 
 
 @dataclass(frozen=True)
@@ -111,7 +144,7 @@ class Search:
     them ends at each stop; who hasn't ridden is at the origin.
     """
 
-    network: Network
+    network: SearchNetwork
     origin: int
     departure: int
     rides: int
@@ -120,21 +153,23 @@ class Search:
     def ridden(self) -> list[Whole]:
         times = np.full(len(self.network.changes), NEVER, np.int64)
         times[self.origin] = self.departure
-        made = [times]
+        rounds = [times]
         for _ in range(self.rides):
-            made.append(np.minimum(made[-1], self.network.carried(self.ready(made[-1]))))
-        return made
+            rounds.append(np.minimum(rounds[-1], self.network.carried(self.ready(rounds[-1]))))
+        return rounds
 
     def ready(self, times: Whole) -> Whole:
         """When one is ready to board: after the change time, or after a walk at once, as at the start."""
-        made = np.minimum(np.minimum(times + self.network.changes, self.network.walked(times)), NEVER)
-        made[self.origin] = min(made[self.origin], self.departure)
-        return made
+        times_ready = np.minimum(np.minimum(times + self.network.changes, self.network.walked(times)), NEVER)
+        times_ready[self.origin] = min(times_ready[self.origin], self.departure)
+        return times_ready
 
     def arrival(self, stop: int) -> int | None:
         """The least time at which a journey ends at a stop."""
-        last = self.ridden[-1]
-        best = min(int(last[stop]), int(self.network.walked(last)[stop]))
+        last, walks = self.ridden[-1], self.network.walks
+        there = np.flatnonzero(walks.end == stop)
+        on_foot = last[walks.begin[there]] + walks.seconds[there]
+        best = min(int(last[stop]), int(on_foot.min(initial=NEVER)))
         return best if best < NEVER else None
 
 
@@ -203,44 +238,59 @@ def way_to(search: Search, times: Whole, stop: int, departure: int) -> tuple[int
     return int(walks.begin[best]), int(walks.seconds[best])
 
 
-def durations(network: Network, origin: int, stop: int, departures: list[int], rides: int) -> list[int | None]:
+def durations(schedule: Schedule, origin: int, stop: int, departures: list[int], rides: int) -> list[int | None]:
     """The least duration for each departure, ascending; None where nobody gets there."""
-    low, high, place, last = 0, len(departures), len(departures) - 1, 0  # from `high` on nobody gets there
-    end = departures[-1] + NEAR
-    near = network.within(departures[0], end)
+    durations_found: list[int | None] = [None] * len(departures)
+    count, last = arriving(schedule, origin, stop, departures, rides)
+    if count:
+        network = between(schedule.within(departures[0], last), origin, departures[0], stop, last, rides)
+        for begin in reversed(range(0, count, AT_ONCE)):
+            some = departures[begin : min(count, begin + AT_ONCE)]
+            ends = arrivals(network.within(some[0], last), origin, stop, some, rides)
+            durations_found[begin : begin + len(some)] = [end - departure for end, departure in zip(ends, some)]
+            last = ends[0]
+    return durations_found
+
+
+def between(network: SearchNetwork, origin: int, departure: int, stop: int, arrival: int, rides: int) -> SearchNetwork:
+    """What somebody can take who sets out at a departure or later, and arrives at a time or earlier."""
+    network = network.taken_by(Search(network, origin, departure, rides))
+    back = network.mirrored()
+    return back.taken_by(Search(back, stop, -arrival, rides)).mirrored()
+
+
+def arriving(schedule: Schedule, origin: int, stop: int, departures: list[int], rides: int) -> tuple[int, int]:
+    """How many of the departures, the first ones, get to a stop, and when the last of these does."""
+    for near in NEAR:
+        end = departures[-1] + near
+        last = Search(schedule.within(departures[-1], end), origin, departures[-1], rides).arrival(stop)
+        if last is not None and last <= end:
+            return len(departures), last
+    network = schedule.within(departures[0], NEVER)
+    first = Search(network, origin, departures[0], rides)
+    found = first.arrival(stop)
+    if found is None:
+        return 0, 0
+    network, low, high = network.taken_by(first), 0, len(departures) - 1  # `low` gets there
     while low < high:
-        found = Search(near, origin, departures[place], rides).arrival(stop)
-        if found is None or found > end:
-            found = Search(network, origin, departures[place], rides).arrival(stop)
-        low, high, last = (low, place, last) if found is None else (place + 1, high, found)
-        place = (low + high) // 2
-    made: list[int | None] = [None] * len(departures)
-    for begin in reversed(range(0, low, AT_ONCE)):
-        some = departures[begin : min(low, begin + AT_ONCE)]
-        ends = arrivals(network.within(some[0], last), origin, stop, some, rides)
-        made[begin : begin + len(some)] = [end - departure for end, departure in zip(ends, some)]
-        last = ends[0]
-    return made
+        place = (low + high + 1) // 2
+        arrival = Search(network, origin, departures[place], rides).arrival(stop)
+        low, high, found = (low, place - 1, found) if arrival is None else (place, high, arrival)
+    return low + 1, found
 
 
-def arrivals(network: Network, origin: int, stop: int, departures: list[int], rides: int) -> list[int]:
-    """The least time at a stop for each of some departures, ascending, after all of which one gets there."""
-    known: dict[int, int] = {}
-
-    def arrival(place: int) -> int:
-        if place not in known:
-            found = Search(network, origin, departures[place], rides).arrival(stop)
-            known[place] = NEVER if found is None else found
-        return known[place]
-
-    spans = [(0, len(departures) - 1)]
-    while spans:
-        begin, end = spans.pop()
-        if arrival(begin) == arrival(end):
-            known.update(dict.fromkeys(range(begin, end), arrival(end)))
-        else:
-            spans += [(begin, (begin + end) // 2), ((begin + end) // 2 + 1, end)]
-    return [known[place] for place in range(len(departures))]
+def arrivals(network: SearchNetwork, origin: int, stop: int, departures: list[int], rides: int) -> list[int]:
+    """The least time at a stop for each of some departures, ascending, after all of which one gets there. A search
+    backwards from an arrival says how late one may set out for it.
+    """
+    arrival_times, back = list[int](), network.mirrored()
+    while len(arrival_times) < len(departures):
+        arrival = Search(network, origin, departures[len(arrival_times)], rides).arrival(stop)
+        assert arrival is not None
+        latest = Search(back, stop, -arrival, rides).arrival(origin)
+        assert latest is not None
+        arrival_times += [arrival] * (bisect_right(departures, -latest) - len(arrival_times))
+    return arrival_times
 
 
 def cell(durations: list[int | None], share: int) -> int | None:

@@ -3,38 +3,49 @@
 from dataclasses import dataclass
 
 import numpy as np
+import numpy.typing as npt
 
 from ..gtfs.fields import Floats
+from .columns import column, row_of
 
 NEARLY = 1 - 1e-12  # of what is meant to be just a half, or just so many percent
 MINUTE = 60.0
+OF_PARTS = "the least time within which at least half, or nine tenths, of all people are there; none if fewer ever are"
+Flags = npt.NDArray[np.bool_]
 
 
 @dataclass(frozen=True)
-class Nearness:
-    """The measures of one scenario, times in minutes; NaN where there is none."""
-
-    people: float
-    reached: float  # percent of the people who reach so many
-    mean: float  # of those who do
-    median: float  # the least time that is enough for half of all people
-    nine_tenths: float  # and for nine of ten
-    losers: float  # percent of the people
-
-
-def nearness(base: Floats, seconds: Floats, people: Floats, percent: float) -> Nearness:
-    """The measures of the time from each point, beside that of the base, NaN where so many aren't reached. A loser
-    needs so many percent longer or more, or doesn't reach them any more.
+class NearnessCase:
+    """The time from each point to the nearest in a scenario and in the base, NaN where so many aren't reached, and the
+    people there.
     """
-    there, total = ~np.isnan(seconds), people.sum()
-    longer = (seconds > base) & (seconds - base >= base * (percent / 100 * NEARLY))
-    lost = longer | (~there & ~np.isnan(base))
-    inside = people[there].sum()
-    mean = float(seconds[there] @ people[there] / inside / MINUTE) if inside else float("nan")
-    enough = [within(seconds, people, part) / MINUTE for part in (0.5, 0.9)]
-    return Nearness(
-        float(total), 100 * float(inside / total), mean, enough[0], enough[1], 100 * float(people[lost].sum() / total)
-    )
+
+    base: Floats  # seconds
+    seconds: Floats
+    people: Floats
+    percent: float  # longer, from which on somebody counts as a loser
+
+    @property
+    def there(self) -> Flags:
+        return ~np.isnan(self.seconds)
+
+    @property
+    def inside(self) -> float:
+        """The people who reach so many."""
+        return float(self.people[self.there].sum())
+
+
+def mean_minutes(case: NearnessCase) -> float:
+    times = case.seconds[case.there] @ case.people[case.there]
+    return float(times / case.inside / MINUTE) if case.inside else float("nan")
+
+
+def losers_percent(case: NearnessCase) -> float:
+    """Who needs so many percent longer or more, or doesn't reach them any more."""
+    longer = case.seconds - case.base
+    loses = (case.seconds > case.base) & (longer >= case.base * (case.percent / 100 * NEARLY))
+    lost = loses | (~case.there & ~np.isnan(case.base))
+    return 100 * float(case.people[lost].sum() / case.people.sum())
 
 
 def within(seconds: Floats, people: Floats, part: float) -> float:
@@ -42,3 +53,25 @@ def within(seconds: Floats, people: Floats, part: float) -> float:
     order = np.argsort(seconds, kind="stable")  # those without a time stand last
     sums = np.cumsum(people[order])
     return float(seconds[order][np.argmax(sums >= sums[-1] * part * NEARLY)])
+
+
+@dataclass(frozen=True)
+class Nearness:
+    """The measures of one scenario; NaN where there is none."""
+
+    people: float = column(lambda case: float(case.people.sum()))
+    reached_percent: float = column(
+        lambda case: 100 * float(case.inside / case.people.sum()), "percentage of people with an *s*"
+    )
+    mean_minutes: float = column(mean_minutes, "Σ *p s*, divided by the number of these people")
+    median_minutes: float = column(lambda case: within(case.seconds, case.people, 0.5) / MINUTE, OF_PARTS)
+    nine_tenths_minutes: float = column(lambda case: within(case.seconds, case.people, 0.9) / MINUTE, OF_PARTS)
+    losers_percent: float = column(
+        losers_percent,
+        "percentage of people with *s* − *s* (base) ≥ `--lose` percent of *s* (base), and above 0, or with an *s* in"
+        " the base alone",
+    )
+
+
+def nearness(base: Floats, seconds: Floats, people: Floats, percent: float) -> Nearness:
+    return row_of(Nearness, NearnessCase(base, seconds, people, percent))

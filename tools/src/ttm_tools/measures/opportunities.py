@@ -32,11 +32,11 @@ class Counts:
     numbers: Floats  # a row for each stop, a column for each name; 0 for a stop that no record names
 
     def named(self, name: str) -> Floats:
-        made: Floats = self.numbers[:, self.names.index(name)]
-        return made
+        column: Floats = self.numbers[:, self.names.index(name)]
+        return column
 
 
-def read_counts(paths: Sequence[str], stops: Sequence[str], kind: str, asked: Sequence[str] = ()) -> Counts:
+def read_counts(paths: Sequence[str], stops: Sequence[str], kind: str, wanted: Sequence[str] = ()) -> Counts:
     """The columns of some files, or those that are asked for, for these stops; a file that names another stop is
     refused. A column `opportunities` is called as its file.
     """
@@ -45,13 +45,13 @@ def read_counts(paths: Sequence[str], stops: Sequence[str], kind: str, asked: Se
     columns: list[Floats] = []
     for path in paths:
         there += [called(name, path) for name in columns_of(path)]
-        found = [name for name in columns_of(path) if not asked or called(name, path) in asked]
+        found = [name for name in columns_of(path) if not wanted or called(name, path) in wanted]
         for name in found:
             if called(name, path) in names:
                 raise BadInput(path, f"a column {shown(called(name, path))} is in another file too")
             names.append(called(name, path))
         columns.append(numbers_of(path, found, places, kind))
-    lost = [name for name in asked if name not in names]
+    lost = [name for name in wanted if name not in names]
     if lost:
         raise BadInput(
             ", ".join(paths), f"no column {shown(lost[0])}; there are {some([shown(name) for name in there])}"
@@ -68,10 +68,10 @@ def columns_of(path: str) -> list[str]:
     _, header = next(records(path), (1, list[str]()))
     names = [name for name in places_of(header, path, []) if name]
     refuse_alike(path, header, [name for name in names if name not in NO_COUNTS])
-    made = [name for name in names if name not in NO_COUNTS and name not in IDENTIFIERS]
-    if not made:
+    columns = [name for name in names if name not in NO_COUNTS and name not in IDENTIFIERS]
+    if not columns:
         raise BadInput(path, "no column of numbers", record=1)
-    return made
+    return columns
 
 
 def identifier_of(path: str) -> str:
@@ -85,7 +85,7 @@ def identifier_of(path: str) -> str:
 
 def numbers_of(path: str, names: Sequence[str], places: dict[str, int], kind: str) -> Floats:
     """Some columns of a file, each a number from 0 on for each stop."""
-    made, seen = np.zeros((len(places), len(names))), set[str]()
+    numbers, seen = np.zeros((len(places), len(names))), set[str]()
     for number, (stop, *fields) in rows(path, [identifier_of(path), *names]):
         if stop not in places:
             raise BadInput(path, f"{shown(stop)} is no {kind}", record=number)
@@ -97,5 +97,5 @@ def numbers_of(path: str, names: Sequence[str], places: dict[str, int], kind: st
             if not value >= 0:
                 allowed = "a number from 0 on"
                 raise BadInput(path, "is none", record=number, column=names[column], value=text, allowed=allowed)
-            made[places[stop], column] = value
-    return made
+            numbers[places[stop], column] = value
+    return numbers

@@ -6,6 +6,7 @@ such stops the first on the way. Vehicles are the most runs under way at once, w
 """
 
 import datetime
+import functools
 from dataclasses import dataclass
 from typing import Any, Sequence
 
@@ -15,9 +16,10 @@ import numpy.typing as npt
 from ..gtfs.fields import Floats
 from ..gtfs.fields import Whole
 from ..gtfs.timetable import Edits, Timetable, runs_of
+from .columns import column, row_of
 
 Flags = npt.NDArray[np.bool_]
-HOUR = 3600.0
+HOUR, NONE = 3600.0, float("nan")
 
 
 @dataclass(frozen=True)
@@ -28,12 +30,12 @@ class Period:
     end: int
 
     def has(self, times: Whole) -> Flags:
-        made: Flags = (times >= self.start) & (times < self.end)
-        return made
+        inside: Flags = (times >= self.start) & (times < self.end)
+        return inside
 
 
 @dataclass(frozen=True)
-class Calls:
+class ServiceCalls:
     """The departures of all runs at stops, the last call of each, at which nobody departs, left out."""
 
     run: Whole
@@ -44,32 +46,17 @@ class Calls:
 
 
 @dataclass(frozen=True)
-class Running:
+class ServiceRuns:
     """The runs of a scenario on a service day."""
 
     trip: Whole  # places among the trips
     start: Whole  # first departure, seconds
     end: Whole  # last arrival
     kilometres: Floats
-    calls: Calls
+    calls: ServiceCalls
 
 
-@dataclass(frozen=True)
-class Service:
-    """What runs in a period; NaN where there is none."""
-
-    departures: int
-    headway: float  # median, minutes
-    gap: float  # the greatest, minutes
-    first: float  # first departure, seconds
-    last: float  # last arrival of these runs
-    speed: float  # kilometres an hour, stops included
-    vehicles: int
-    hours: float
-    kilometres: float
-
-
-def running_on(timetable: Timetable, date: datetime.date, edits: Edits, lengths: Floats) -> Running:
+def running_on(timetable: Timetable, date: datetime.date, edits: Edits, lengths: Floats) -> ServiceRuns:
     """The runs of the service day itself; lengths are the kilometres of each trip."""
     runs, events = runs_of(timetable, date, (0, 0), edits), timetable.events
     begins = events.begins[runs.trip]
@@ -79,7 +66,7 @@ def running_on(timetable: Timetable, date: datetime.date, edits: Edits, lengths:
     event = begins[run] + position
     kept = position < counts[run] - 1
     depart = events.depart[event] + runs.shift[run]
-    calls = Calls(
+    calls = ServiceCalls(
         run[kept],
         events.stop[event[kept]],
         depart[kept],
@@ -87,45 +74,54 @@ def running_on(timetable: Timetable, date: datetime.date, edits: Edits, lengths:
         events.stop[np.minimum(event[kept] + 1, len(events.stop) - 1)],
     )
     start, end = events.depart[begins] + runs.shift, events.arrive[begins + counts - 1] + runs.shift
-    return Running(runs.trip, start, end, lengths[runs.trip], calls)
+    return ServiceRuns(runs.trip, start, end, lengths[runs.trip], calls)
 
 
-def headway_stops(running: Running, group: Whole, groups: int, stops: int) -> Whole:
+def headway_stops(running: ServiceRuns, group: Whole, groups: int, stops: int) -> Whole:
     """For each group of runs the stop at which most of them call; of several the first on the way; -1 for none."""
     calls = running.calls
     key, run_once = np.unique(group[calls.run] * stops + calls.stop, return_inverse=True)
     counts = np.bincount(run_once, minlength=len(key))
     means = np.bincount(run_once, calls.position, len(key)) / np.maximum(counts, 1)
-    made = np.full(groups, -1, dtype=np.int64)
+    stop_of_group = np.full(groups, -1, dtype=np.int64)
     order = np.lexsort([means, -counts, key // stops])
     first = np.ones(len(order), dtype=np.bool_)
     first[1:] = np.diff(key[order] // stops) > 0
-    made[key[order][first] // stops] = key[order][first] % stops
-    return made
+    stop_of_group[key[order][first] // stops] = key[order][first] % stops
+    return stop_of_group
 
 
-def service_of(running: Running, chosen: Flags, period: Period, stop: int) -> Service:
-    """What some of the runs are in a period."""
-    inside = chosen & period.has(running.start)
-    calls = running.calls
-    at = np.sort(calls.depart[chosen[calls.run] & (calls.stop == stop) & period.has(calls.depart)])
-    gaps = np.diff(at) / 60
-    seconds, kilometres = float((running.end - running.start)[inside].sum()), float(running.kilometres[inside].sum())
-    count, none = int(inside.sum()), float("nan")
-    return Service(
-        count,
-        float(np.median(gaps)) if len(gaps) else none,
-        float(gaps.max()) if len(gaps) else none,
-        float(running.start[inside].min()) if count else none,
-        float(running.end[inside].max()) if count else none,
-        kilometres / (seconds / HOUR) if seconds else none,
-        vehicles_in(running, chosen, period),
-        seconds / HOUR,
-        kilometres,
-    )
+@dataclass(frozen=True)
+class PeriodRuns:
+    """Some of the runs in a period, and a stop of theirs; -1 for none."""
+
+    running: ServiceRuns
+    chosen: Flags
+    period: Period
+    stop: int
+
+    @functools.cached_property
+    def inside(self) -> Flags:
+        """The runs that leave their first stop in the period."""
+        return self.chosen & self.period.has(self.running.start)
+
+    @functools.cached_property
+    def gaps(self) -> Floats:
+        """Minutes between departures from the stop that follow one another."""
+        calls = self.running.calls
+        here = self.chosen[calls.run] & (calls.stop == self.stop) & self.period.has(calls.depart)
+        return np.diff(np.sort(calls.depart[here])) / 60
+
+    @property
+    def seconds(self) -> float:
+        return float((self.running.end - self.running.start)[self.inside].sum())
+
+    @property
+    def kilometres(self) -> float:
+        return float(self.running.kilometres[self.inside].sum())
 
 
-def vehicles_in(running: Running, chosen: Flags, period: Period) -> int:
+def vehicles_in(running: ServiceRuns, chosen: Flags, period: Period) -> int:
     """The most runs under way at once; one that ends frees its vehicle for one that begins then."""
     under = chosen & (running.start < period.end) & (running.end > period.start)
     begins, ends = np.maximum(running.start[under], period.start), np.minimum(running.end[under], period.end)
@@ -134,14 +130,67 @@ def vehicles_in(running: Running, chosen: Flags, period: Period) -> int:
     return int(np.cumsum(steps[order]).max(initial=0))
 
 
-def departures_by_stop(running: Running, period: Period, stops: int) -> Whole:
+def least(numbers: "Floats | Whole") -> float:
+    return float(numbers.min()) if len(numbers) else NONE
+
+
+def greatest(numbers: "Floats | Whole") -> float:
+    return float(numbers.max()) if len(numbers) else NONE
+
+
+OF_GAPS = (
+    "median and greatest time between successive departures in the period, at the stop where most runs of the direction"
+    " call (of several, the first on the way)"
+)
+OF_WAYS = "from each run's first departure to its last arrival; along straight lines from stop to stop"
+
+
+@dataclass(frozen=True)
+class Service:
+    """What runs in a period; NaN where there is none. `head` is of the page, and `decimals` of the table."""
+
+    departures: int = column(
+        lambda part: int(part.inside.sum()), "runs that leave their first stop in the period", head="departures"
+    )
+    headway_minutes: float = column(
+        lambda part: float(np.median(part.gaps)) if len(part.gaps) else NONE, OF_GAPS, head="headway, min"
+    )
+    greatest_gap_minutes: float = column(lambda part: greatest(part.gaps), OF_GAPS, head="greatest gap, min")
+    first_departure: float = column(
+        lambda part: least(part.running.start[part.inside]), "of these runs", head="first", is_time=True
+    )
+    last_arrival: float = column(
+        lambda part: greatest(part.running.end[part.inside]), "of these runs", head="last", is_time=True
+    )
+    kilometres_an_hour: float = column(
+        lambda part: part.kilometres / (part.seconds / HOUR) if part.seconds else NONE,
+        "vehicle kilometres by vehicle hours: the speed with all stops",
+        head="km/h",
+        decimals=2,
+    )
+    vehicles: int = column(
+        lambda part: vehicles_in(part.running, part.chosen, part.period),
+        "the most runs under way at once in the period, without turning times and empty runs; a run that arrives frees"
+        " its vehicle for one that leaves at that second",
+        head="vehicles",
+    )
+    vehicle_hours: float = column(lambda part: part.seconds / HOUR, OF_WAYS, head="hours", decimals=2)
+    vehicle_kilometres: float = column(lambda part: part.kilometres, OF_WAYS, head="km", decimals=2)
+
+
+def service_of(running: ServiceRuns, chosen: Flags, period: Period, stop: int) -> Service:
+    """What some of the runs are in a period."""
+    return row_of(Service, PeriodRuns(running, chosen, period, stop))
+
+
+def departures_by_stop(running: ServiceRuns, period: Period, stops: int) -> Whole:
     """How many vehicles leave each stop in a period."""
     inside = period.has(running.calls.depart)
-    made: Whole = np.bincount(running.calls.stop[inside], minlength=stops)
-    return made
+    departures: Whole = np.bincount(running.calls.stop[inside], minlength=stops)
+    return departures
 
 
-def departures_by_piece(running: Running, period: Period) -> tuple[Whole, Whole, Whole]:
+def departures_by_piece(running: ServiceRuns, period: Period) -> tuple[Whole, Whole, Whole]:
     """Pairs of stops that follow one another on some run, either way, and how many vehicles leave for the other in a
     period.
     """
@@ -158,9 +207,9 @@ def straight_lengths(timetable: Timetable, east: Floats, north: Floats) -> Float
     trip = np.repeat(np.arange(len(timetable.trips)), np.diff(events.begins))[placed]
     x, y = east[events.stop[placed]], north[events.stop[placed]]
     steps: Floats = np.where(np.diff(trip) == 0, np.hypot(np.diff(x), np.diff(y)), 0.0)
-    made: Floats = np.zeros(len(timetable.trips))
-    np.add.at(made, trip[1:], steps)
-    return made
+    lengths: Floats = np.zeros(len(timetable.trips))
+    np.add.at(lengths, trip[1:], steps)
+    return lengths
 
 
 def periods_of(times: Sequence[int]) -> list[Period]:

@@ -43,12 +43,12 @@ def limits_of(file: Any, path: str) -> tuple[int | None, ...]:
     limits = file.attrs.get("limits")
     if limits is None:
         return (None,)
-    made = np.asarray(limits)
-    if made.ndim != 1 or made.dtype.kind not in "iu" or not 1 <= len(made) <= 8 or (np.diff(made) <= 0).any():
+    values = np.asarray(limits)
+    if values.ndim != 1 or values.dtype.kind not in "iu" or not 1 <= len(values) <= 8 or (np.diff(values) <= 0).any():
         raise BadInput(path, "limits aren't 1 to 8 whole numbers, ascending")
-    if not all(int(it) in LIMITS for it in made):
+    if not all(int(value) in LIMITS for value in values):
         raise BadInput(path, "limits aren't seconds")
-    return tuple(map(int, made))
+    return tuple(map(int, values))
 
 
 def refuse_link(group: Any, name: str, path: str) -> None:
@@ -97,6 +97,6 @@ def looked_at(cells: npt.NDArray[np.float32], path: str, name: str) -> npt.NDArr
         bad = ~((cells >= 0) & (cells <= MOST_SECONDS) & (cells == np.floor(cells)) | np.isnan(cells))
     if bad.any():
         row, column = np.argwhere(bad)[0]
-        told = f"matrix {name} has {cells[row, column]!s}, which is no travel time"
-        raise BadInput(path, told, allowed=f"whole seconds up to {MOST_SECONDS:,}, or NaN")
+        message = f"matrix {name} has {cells[row, column]!s}, which is no travel time"
+        raise BadInput(path, message, allowed=f"whole seconds up to {MOST_SECONDS:,}, or NaN")
     return cells

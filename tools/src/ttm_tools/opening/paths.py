@@ -61,5 +61,5 @@ def as_one_line(path: str | Path, what: str) -> Iterator[None]:
     except Exception as fault:
         if isinstance(fault, OSError) and is_full(fault):
             raise
-        told = str(fault) or type(fault).__name__
-        raise BadInput(path, f"{what}: {told[:MOST_TOLD]}") from fault
+        message = str(fault) or type(fault).__name__
+        raise BadInput(path, f"{what}: {message[:MOST_TOLD]}") from fault

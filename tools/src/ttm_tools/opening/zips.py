@@ -19,13 +19,13 @@ def members_of(path: Path) -> dict[str, int]:
     """The files in a zip file, with their sizes when unpacked."""
     regular(path)
     with as_one_line(path, "can't be unzipped"), zipfile.ZipFile(path) as packed:
-        found = [(it.filename, it.file_size) for it in packed.infolist() if not it.is_dir()]
-    made: dict[str, int] = {}
+        found = [(info.filename, info.file_size) for info in packed.infolist() if not info.is_dir()]
+    members: dict[str, int] = {}
     for name, size in found:
-        if name in made:
+        if name in members:
             raise BadInput(path, f"{name} is in it twice")
-        made[name] = size
-    return made
+        members[name] = size
+    return members
 
 
 def refuse_size(path: Path, sizes: Iterable[int], room: Path) -> None:

@@ -8,7 +8,7 @@ from dataclasses import dataclass
 from typing import TYPE_CHECKING, Callable
 
 if TYPE_CHECKING:
-    from .plan_file import Entry
+    from ..opening.toml_file import Entry
     from .state import State
 
 CHOICE = ("route", "direction", "pattern", "service")  # the keys that choose trips
@@ -50,8 +50,7 @@ LISTED = (
         "remove_stop",
         ("stop", *CHOICE),
         "stop; trips (of route ..) no longer call there",
-        "trips (all, or those of a `route`) no longer call at a `stop`; their other times stay; a trip with a single"
-        " call left goes",
+        "trips (of a `route`, or all) no longer call at a `stop`; other times stay; a trip with one call left goes",
         '`stop = "C"`: T2 is left with B, and goes',
         "removals.remove_stop",
     ),
@@ -79,10 +78,9 @@ LISTED = (
         " speed (km/h along straight lines) and dwell (seconds at stops between the ends, default 0); both"
         " (directions, default true); departures = [{ first, last, every (seconds) }, ..]; days"
         ' ("daily", "weekdays", "weekend" or a list such as ["monday"]) or service',
-        "adds a `route` along `stops`, with `seconds` between them, or with a `speed` (km/h along straight lines,"
-        " rounded up to whole seconds) and a `dwell` (seconds at stops between the ends); `departures` from both ends"
-        " (`both = false`: from the first alone) by periods that include `last`; on `days`, or by a `service` of the"
-        " feed",
+        "adds a `route` along `stops`, with `seconds` between them or a `speed` (km/h along straight lines, rounded up"
+        " to whole seconds), and a `dwell` (seconds at stops between the ends); `departures` by periods that include"
+        " `last`, from both ends (`both = false`: from the first); on `days`, or by a `service` of the feed",
         '`stops = ["A", "B", "C"]`, `seconds = [300, 400]`, `dwell = 20`, first 08:00, last 08:10, every 600: A 08:00,'
         " B 08:05 to 08:05:20, C 08:12; the same at 08:10; and from C at both times",
         "lines.add_line",
@@ -93,11 +91,10 @@ LISTED = (
         "route .., every (seconds), from, to: departures from the first time on, before the second; copies of a"
         " typical trip, which is printed, replace the trips that leave in between. With times = 2 instead of every, a"
         " copy of each trip is added halfway to the next departure",
-        "a departure `every` given number of seconds, from `from` to strictly before `to`; replaces the trips that"
-        " leave in between by copies of a typical one: in each direction, of the pattern with the most departures"
-        " there, the trip with the median running time, which is printed. With `times = 2` instead of `every` the"
-        " route runs twice as often: all trips stay, and a copy of each is added halfway to the next departure from"
-        " the same stop",
+        "copies of a typical trip, one `every` number of seconds, replace the trips that leave from `from` to strictly"
+        " before `to`. In each direction the typical trip, which is printed, has the median running time of the pattern"
+        " with the most departures there. With `times = 2` instead of `every` all trips stay, and a copy of each is"
+        " added halfway to the next departure from the same stop",
         '`route = "R2"`, `every = 300`, from 08:10 to 08:20: T2 is replaced by B 08:10, C 08:25 and B 08:15, C 08:30',
         "headways.headway",
     ),
@@ -107,7 +104,7 @@ LISTED = (
         "route .., factor of the run times, or dwell (seconds to add at each stop, negative to remove), between the"
         " ends or from_stop and to_stop; sums of run times are rounded to the nearest second",
         "multiplies run times by a `factor`, or adds seconds to `dwell` times, of whole trips or between `from_stop`"
-        " and `to_stop`; sums are rounded to the nearest second, so no time goes back",
+        " and `to_stop`; sums are rounded to the nearest second",
         '`route = "R2"`, `factor = 0.85`: 900 seconds become 765, C 08:27:45',
         "speeds.speed",
     ),

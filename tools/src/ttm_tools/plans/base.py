@@ -13,17 +13,20 @@ from typing import Sequence
 import numpy as np
 
 from ..faults import BadInput
+from ..gtfs.call_numbers import CALLS, CallNumbers, CallReader, narrow
 from ..gtfs.calls import begins_of, calls_of
 from ..gtfs.columns import positions_of, values_of
-from ..gtfs.feeds import Feed, is_stop, read_feed
-from ..gtfs.fields import MOST_STOPS, Floats, Whole, date, number, time
+from ..gtfs.feeds import Feed, is_stop, read_feed, read_folder
+from ..gtfs.fields import MOST_STOPS, Floats, Narrow, Whole, date, number, time
 from ..gtfs.service_days import MOST_DAYS, Days, days_of, ordinals
 from ..gtfs.stops import place_of
 from ..prepare.check import check
 from ..prepare.report import fault_lines
 from ..records import shown
-from .plan_file import Entry
+from ..opening.kinds import decimal
+from ..opening.toml_file import Entry
 
+BLOCK = 1 << 20  # calls that are counted at once
 NO_ROW = -1  # in place of a record: a call that no record of the feed states
 
 
@@ -48,7 +51,7 @@ class Headway:
 
 
 @dataclass(frozen=True)
-class Places:
+class StopPlaces:
     """Where stops stand: those of the feed at which vehicles call, in its order, and then the plan's own."""
 
     identifiers: list[str]
@@ -67,23 +70,34 @@ class Base:
 
     feed: Feed
     folder: Path
-    places: Places
+    places: StopPlaces
     old_stops: int  # how many of the stops are the feed's
     trips: list[str]
     routes: list[str]  # of each trip
     services: list[str]
     begins: Whole  # where each trip's calls begin, and behind the last one how many there are
-    stop: Whole  # of each call, a place among the stops
-    arrive: Whole
-    depart: Whole
-    row: Whole  # the record of stop_times.txt
+    stop: Narrow  # of each call, a place among the stops
+    arrive: Narrow
+    depart: Narrow
+    row: Narrow | range  # the record of stop_times.txt
+    records: int  # of that file
     headways: dict[int, tuple[Headway, ...]] = field(default_factory=dict)
     new_services: dict[str, list[datetime.date]] = field(default_factory=dict)  # of the plan, with their days
 
     @cached_property
     def lengths(self) -> Whole:
-        made: Whole = np.diff(self.begins)
-        return made
+        counts: Whole = np.diff(self.begins)
+        return counts
+
+    @cached_property
+    def calls_at(self) -> Whole:
+        """How many calls there are at each stop."""
+        count = len(self.places.identifiers)
+        some = range(0, len(self.stop), BLOCK)
+        return sum(
+            (np.bincount(self.stop[begin : begin + BLOCK], minlength=count) for begin in some),
+            np.zeros(count, np.int64),
+        )
 
     @cached_property
     def numbers(self) -> dict[str, int]:
@@ -93,10 +107,10 @@ class Base:
     @cached_property
     def by_route(self) -> dict[str, Whole]:
         """The trips of each route of the feed."""
-        made: dict[str, list[int]] = {name: [] for name in self.feed.tables["routes.txt"].texts("route_id")}
+        trips: dict[str, list[int]] = {name: [] for name in self.feed.tables["routes.txt"].texts("route_id")}
         for place, route in enumerate(self.routes):
-            made[route].append(place)
-        return {name: np.array(places, dtype=np.int64) for name, places in made.items()}
+            trips[route].append(place)
+        return {name: np.array(places, dtype=np.int64) for name, places in trips.items()}
 
     @cached_property
     def first_agency(self) -> str:
@@ -149,7 +163,7 @@ class Base:
 
 
 def read_base(folder: str, new_stops: Sequence[Entry]) -> Base:
-    """Reads the folder of a feed; one that `ttm` refuses is told by its first fault."""
+    """Reads the folder of a feed; one that `ttm` refuses is reported by its first fault."""
     path = Path(folder)
     if not path.is_dir():
         raise BadInput(folder, "no folder of a feed (unzip it first)")
@@ -160,17 +174,32 @@ def read_base(folder: str, new_stops: Sequence[Entry]) -> Base:
         raise BadInput(
             folder, f"{sum(map(len, faults)):,} faults, first {first} (ttm-tools prepare tells and mends them)"
         )
+    table, trips, places = feed.tables[CALLS], feed.tables["trips.txt"].texts("trip_id"), read_places(feed, new_stops)
+    calls = calls_of(table, trips)
+    stop = positions_of(table["stop_id"], places.numbers)[calls.rows]
+    columns = [narrow(column) for column in (calls.rows, stop, *calls.filled())]
+    numbers = CallNumbers(begins_of(calls, len(trips)), columns[0], columns[1], columns[2], columns[3], len(table))
+    return base_of(feed, path, places, len(places.identifiers) - len(new_stops), numbers)
+
+
+def read_taken_base(folder: str, new_stops: Sequence[Entry]) -> Base:
+    """Reads the folder of a feed that `ttm` has taken: without a look for faults, and with the calls as numbers alone,
+    so that it takes some 20 bytes for each stop time.
+    """
+    path = Path(folder)
+    feed = read_folder(path, (CALLS,))
+    places, trips = read_places(feed, new_stops), feed.tables["trips.txt"].texts("trip_id")
+    numbers, feed.tables[CALLS] = CallReader(path / CALLS, trips, places.numbers).read()
+    return base_of(feed, path, places, len(places.identifiers) - len(new_stops), numbers)
+
+
+def base_of(feed: Feed, path: Path, places: StopPlaces, old_stops: int, calls: CallNumbers) -> Base:
     table = feed.tables["trips.txt"]
     trips, routes, services = (table.texts(name) for name in ("trip_id", "route_id", "service_id"))
-    calls = calls_of(feed.tables["stop_times.txt"], trips)
-    arrive, depart = calls.filled()
-    begins = begins_of(calls, len(trips))
-    places = read_places(feed, new_stops)
-    stop = positions_of(feed.tables["stop_times.txt"]["stop_id"], places.numbers)[calls.rows]
-    old = len(places.identifiers) - len(new_stops)
-    made = Base(feed, path, places, old, trips, routes, services, begins, stop, arrive, depart, calls.rows)
-    made.headways = read_headways(feed, made.numbers)
-    return made
+    columns = (calls.begins, calls.stop, calls.arrive, calls.depart, calls.rows, calls.records)
+    base = Base(feed, path, places, old_stops, trips, routes, services, *columns)
+    base.headways = read_headways(feed, base.numbers)
+    return base
 
 
 def read_headways(feed: Feed, numbers: dict[str, int]) -> dict[int, tuple[Headway, ...]]:
@@ -178,14 +207,14 @@ def read_headways(feed: Feed, numbers: dict[str, int]) -> dict[int, tuple[Headwa
     table = feed.get("frequencies.txt")
     start, end = (values_of(table[name], time).tolist() for name in ("start_time", "end_time"))
     seconds = values_of(table["headway_secs"], number).tolist()
-    made: dict[int, tuple[Headway, ...]] = {}
+    headways: dict[int, tuple[Headway, ...]] = {}
     for row, trip in enumerate(table.texts("trip_id")):
         place = numbers[trip]
-        made[place] = (*made.get(place, ()), Headway(start[row], end[row], seconds[row], row))
-    return made
+        headways[place] = (*headways.get(place, ()), Headway(start[row], end[row], seconds[row], row))
+    return headways
 
 
-def read_places(feed: Feed, new_stops: Sequence[Entry]) -> Places:
+def read_places(feed: Feed, new_stops: Sequence[Entry]) -> StopPlaces:
     """The stops at which vehicles call, and behind them the new ones."""
     table = feed.tables["stops.txt"]
     rows = np.flatnonzero(is_stop(table))
@@ -202,8 +231,8 @@ def read_places(feed: Feed, new_stops: Sequence[Entry]) -> Places:
         taken.add(stop)
         stops.append(stop)
         names.append(entry.text("name", stop))
-        where.append((float(entry.number("lat", "-90", "90")), float(entry.number("lon", "-180", "180"))))
+        where.append((float(entry.read("lat", decimal("-90", "90"))), float(entry.read("lon", decimal("-180", "180")))))
     if new_stops and len(taken) > MOST_STOPS:
         raise new_stops[-1].fault(f"makes {len(taken):,} stops and stations, and ttm takes {MOST_STOPS:,}", "id")
     found = np.array(where, dtype=np.float64).reshape(-1, 2)
-    return Places(stops, names, found[:, 0], found[:, 1])
+    return StopPlaces(stops, names, found[:, 0], found[:, 1])

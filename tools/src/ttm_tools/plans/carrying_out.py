@@ -4,8 +4,10 @@ from dataclasses import dataclass
 
 from .action_list import ACTIONS
 from .base import Base
-from .plan_file import Entry, PlannedScenario, near
-from .state import Change, Counts, State
+from ..opening.kinds import near
+from ..opening.toml_file import Entry
+from .plan_file import PlannedScenario
+from .state import Change, StateCounts, State
 
 ABOUT = ("route", "trip", "stop")  # keys that say what an action is about
 
@@ -17,8 +19,8 @@ class Done:
     scenario: str
     number: int  # among the scenario's actions, from 1 on
     entry: Entry
-    before: Counts
-    after: Counts
+    before: StateCounts
+    after: StateCounts
     notes: list[str]  # sentences on what it chose
     changes: list[Change]
 
@@ -49,7 +51,7 @@ class Finished:
 
 
 def carried_out(base: Base, planned: PlannedScenario) -> Finished:
-    """Carries out all actions of a scenario; one that changes nothing is told by its line."""
+    """Carries out all actions of a scenario; one that changes nothing is reported by its line."""
     state, done = State(base, planned.name), list[Done]()
     for number, entry in enumerate(planned.actions, 1):
         what = entry.text("do")

@@ -4,7 +4,8 @@ from typing import Sequence
 
 from ..faults import BadInput
 from ..records import shown
-from .plan_file import Entry, near
+from ..opening.kinds import near, whole
+from ..opening.toml_file import Entry
 from .state import State, Trip
 
 
@@ -20,8 +21,8 @@ def routes_of(state: State, entry: Entry) -> list[str]:
 def unknown_route(state: State, entry: Entry, name: str) -> BadInput:
     """The fault that names the nearest route, by its identifier or by the name that people use."""
     by_name = state.base.short_names.get(name)
-    told = f"; the nearest is {by_name!r}, which bears this name" if by_name else near(name, state.routes())
-    return entry.fault(f"is no route of the feed or of the scenario{told}", "route", name)
+    nearest = f"; the nearest is {by_name!r}, which bears this name" if by_name else near(name, state.routes())
+    return entry.fault(f"is no route of the feed or of the scenario{nearest}", "route", name)
 
 
 def chosen(state: State, entry: Entry) -> list[Trip]:
@@ -30,7 +31,7 @@ def chosen(state: State, entry: Entry) -> list[Trip]:
     if not trips:
         raise entry.fault("has no trips in this scenario", "route", ", ".join(entry.texts("route")))
     if entry.has("direction"):
-        direction = str(entry.whole("direction", 0, 1))
+        direction = str(entry.read("direction", whole(0, 1)))
         trips = [trip for trip in trips if trip.direction.strip() == direction]
     if entry.has("pattern"):
         trips = same_pattern(state, entry, trips)
@@ -39,8 +40,8 @@ def chosen(state: State, entry: Entry) -> list[Trip]:
         entry.known("service", service, {trip.service for trip in trips}, "is no service of these trips")
         trips = [trip for trip in trips if trip.service == service]
     if not trips:
-        told = "no trip of the route has this direction_id, and this pattern and service where they are given"
-        raise entry.fault(told, "direction")
+        message = "no trip of the route has this direction_id, and this pattern and service where they are given"
+        raise entry.fault(message, "direction")
     return trips
 
 
@@ -49,8 +50,8 @@ def same_pattern(state: State, entry: Entry, trips: Sequence[Trip]) -> list[Trip
     name = entry.text("pattern")
     found = [trip for trip in trips if trip.label == name]
     if not found:
-        told = f"is no trip among these{near(name, [trip.label for trip in trips])}"
-        raise entry.fault(told, "pattern", name, "a trip that calls at the pattern's stops")
+        message = f"is no trip among these{near(name, [trip.label for trip in trips])}"
+        raise entry.fault(message, "pattern", name, "a trip that calls at the pattern's stops")
     return [trip for trip in trips if pattern_of(trip) == pattern_of(found[0])]
 
 
@@ -70,14 +71,14 @@ def directions_of(trips: Sequence[Trip]) -> list[list[Trip]]:
     by_pattern: dict[tuple[int, ...], list[Trip]] = {}
     for trip in trips:
         by_pattern.setdefault(pattern_of(trip), []).append(trip)
-    made: list[tuple[tuple[int, ...], list[Trip]]] = []
+    leads: list[tuple[tuple[int, ...], list[Trip]]] = []
     for pattern, some in sorted(by_pattern.items(), key=lambda item: (-len(item[1]), -len(item[0]))):
-        mine = next((group for lead, group in made if runs_along(pattern, lead)), None)
+        mine = next((group for lead, group in leads if runs_along(pattern, lead)), None)
         if mine is None:
-            made.append((pattern, list(some)))
+            leads.append((pattern, list(some)))
         else:
             mine.extend(some)
-    return [group for _, group in made]
+    return [group for _, group in leads]
 
 
 def runs_along(pattern: Sequence[int], lead: Sequence[int]) -> bool:
@@ -91,9 +92,11 @@ def stop_named(state: State, entry: Entry, key: str, name: str) -> int:
     """A stop of the feed or of the plan."""
     numbers = state.base.places.numbers
     if name not in numbers:
-        by_name = [stop for stop, told in zip(state.base.places.identifiers, state.base.places.names) if told == name]
-        told = f"; the nearest is {by_name[0]!r}, which bears this name" if by_name else near(name, numbers)
-        raise entry.fault(f"is no stop of the feed or of the plan{told}", key, name)
+        by_name = [
+            stop for stop, nearest in zip(state.base.places.identifiers, state.base.places.names) if nearest == name
+        ]
+        nearest = f"; the nearest is {by_name[0]!r}, which bears this name" if by_name else near(name, numbers)
+        raise entry.fault(f"is no stop of the feed or of the plan{nearest}", key, name)
     return numbers[name]
 
 
@@ -101,5 +104,5 @@ def stops_named(state: State, entry: Entry, key: str) -> list[int]:
     return [stop_named(state, entry, key, name) for name in entry.texts(key)]
 
 
-def told_stop(state: State, stop: int) -> str:
+def stop_shown(state: State, stop: int) -> str:
     return shown(state.base.places.identifiers[stop])

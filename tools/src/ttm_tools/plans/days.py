@@ -4,7 +4,7 @@ import numpy as np
 
 from ..gtfs.fields import WEEKDAYS, Mask
 from .base import Base
-from .plan_file import Entry
+from ..opening.toml_file import Entry
 
 EVERY = {"daily": WEEKDAYS, "weekdays": WEEKDAYS[:5], "weekend": WEEKDAYS[5:]}
 
@@ -16,8 +16,8 @@ def service_of(base: Base, entry: Entry, services: set[str]) -> str:
         return names[0]
     for name in names:
         if name in base.endless:
-            told = "has no end, and trips of other services run there too: choose one by service"
-            raise entry.fault(f"{told}, of {', '.join(names)}", "service", name)
+            message = "has no end, and trips of other services run there too: choose one by service"
+            raise entry.fault(f"{message}, of {', '.join(names)}", "service", name)
     rows = {name: runs_of(base, name) for name in names}
     union = np.any(list(rows.values()), axis=0)
     for name, runs in rows.items():
@@ -30,9 +30,9 @@ def runs_of(base: Base, name: str) -> Mask:
     """On which of the days that the calendars know a service runs."""
     if name not in base.new_services:
         return np.asarray(base.days.runs[base.service_numbers[name]], dtype=np.bool_)
-    made = np.zeros(base.days.runs.shape[1], dtype=np.bool_)
-    made[[day.toordinal() - base.days.first for day in base.new_services[name]]] = True
-    return made
+    days_run = np.zeros(base.days.runs.shape[1], dtype=np.bool_)
+    days_run[[day.toordinal() - base.days.first for day in base.new_services[name]]] = True
+    return days_run
 
 
 def new_service(base: Base, name: str, runs: Mask) -> str:

@@ -1,4 +1,4 @@
-"""What `ttm` takes, told before anything is written."""
+"""What `ttm` takes, reported before anything is written."""
 
 import datetime
 from dataclasses import dataclass
@@ -18,10 +18,10 @@ FEWER = "fewer scenarios, or actions on fewer trips"
 
 
 def refuse_limits(path: str, base: Base, states: Sequence[State]) -> None:
-    """Tells a feed that would have more trips or stop times than `ttm` takes."""
+    """Refuses a feed that would have more trips or stop times than `ttm` takes."""
     own = [trip for state in states for trip in state.own.values()]
     trips = len(base.trips) + len(own)
-    events = len(base.feed.tables["stop_times.txt"]) + sum(len(trip.stop) for trip in own)
+    events = base.records + sum(len(trip.stop) for trip in own)
     for count, most, what in ((trips, MOST_TRIPS, "trips"), (events, MOST_STOP_TIMES, "stop times")):
         if count > most:
             raise BadInput(
@@ -62,12 +62,12 @@ def most_of(base: Base, runs: Whole, events: Whole, days: int) -> Most | None:
     """The most of so many days in a row, an odd number; none where the calendars know no day."""
     if not len(runs):
         return None
-    both = [np.convolve(it, np.ones(days, dtype=np.int64), "same")[: len(runs)] for it in (runs, events)]
+    both = [np.convolve(counts, np.ones(days, dtype=np.int64), "same")[: len(runs)] for counts in (runs, events)]
     place = int(np.argmax(both[1]))
     return Most(base.days.day(place), int(both[0][place]), int(both[1][place]))
 
 
-def told_days(base: Base, states: Sequence[State]) -> Iterator[str]:
+def sentences_on_days(base: Base, states: Sequence[State]) -> Iterator[str]:
     """How much runs on a day at most, beside what `ttm` takes."""
     runs, events = by_day(base, states)
     one, three = (most_of(base, runs, events, days) for days in (1, 3))

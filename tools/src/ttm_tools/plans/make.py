@@ -9,8 +9,9 @@ from ..faults import BadInput
 from ..files import is_free, many_written_aside
 from .base import read_base
 from .carrying_out import Finished, carried_out
-from .limits import refuse_limits, told_days
-from .plan_file import Plan, near, read_plan
+from .limits import refuse_limits, sentences_on_days
+from ..opening.kinds import near
+from .plan_file import Plan, read_plan
 from .report import sentences, unused, write_lists
 from .scenario_files import write_scenarios
 from .writing import Written, write_all, written_of
@@ -19,44 +20,44 @@ FOLDER, WORDS, REPORT = "scenarios", "scenarios.words", "scenarios.md"
 
 
 @dataclass(frozen=True)
-class Made:
-    """What is told of a folder that was written."""
+class WrittenFolder:
+    """What is reported of a folder that was written."""
 
     lines: list[str]
-    words: str | None  # those of a run with all scenarios
+    arguments: str | None  # those of a run with all scenarios
 
 
-def make(feed: str, path: str, out: str, only: str | None = None) -> Made:
+def make(feed: str, path: str, out: str, only: str | None = None) -> WrittenFolder:
     """Writes the folder of all scenarios of a plan, or of one of them alone."""
     is_free(Path(out))
     plan = read_plan(path)
-    if only is not None and only not in [it.name for it in plan.scenarios]:
-        raise BadInput(path, f"no scenario {only}{near(only, [it.name for it in plan.scenarios])}")
+    if only is not None and only not in [scenario.name for scenario in plan.scenarios]:
+        raise BadInput(path, f"no scenario {only}{near(only, [scenario.name for scenario in plan.scenarios])}")
     base = read_base(feed, plan.stops)
-    finished = [carried_out(base, it) for it in plan.scenarios if only in (None, it.name)]
-    refuse_limits(path, base, [it.state for it in finished])
+    finished = [carried_out(base, scenario) for scenario in plan.scenarios if only in (None, scenario.name)]
+    refuse_limits(path, base, [scenario.state for scenario in finished])
     written = written_of(base, finished, alone=only is not None)
-    lines = [*sentences(finished), *([] if only else unused(written)), *told_days(base, written.states)]
+    lines = [*sentences(finished), *([] if only else unused(written)), *sentences_on_days(base, written.states)]
     with many_written_aside(out) as folder:
         write_all(written, folder)
         write_lists(written, folder)
-        words = write_words(written, folder, out) if only is None else None
+        arguments = write_arguments(written, folder, out) if only is None else None
         write_report(plan, finished, lines, folder)
-    return Made(lines, words)
+    return WrittenFolder(lines, arguments)
 
 
-def write_words(written: Written, folder: Path, out: str) -> str:
+def write_arguments(written: Written, folder: Path, out: str) -> str:
     """Writes the scenario files, and the arguments of a run with all of them."""
     names = write_scenarios(written, folder / FOLDER)
-    words = ["--feed", out, *(str(Path(out) / FOLDER / name) for name in names)]
-    text = " ".join(map(shlex.quote, words))
+    arguments = ["--feed", out, *(str(Path(out) / FOLDER / name) for name in names)]
+    text = " ".join(map(shlex.quote, arguments))
     (folder / WORDS).write_text(text + "\n", encoding="utf-8", errors="surrogateescape")
     return text
 
 
 def write_report(plan: Plan, finished: list[Finished], lines: list[str], folder: Path) -> None:
-    """Writes what is told as a page of Markdown."""
-    names = ", ".join(it.name for it in finished)
+    """Writes what is reported as a page of Markdown."""
+    names = ", ".join(scenario.name for scenario in finished)
     text = [f"# Scenarios of {as_text(Path(plan.path).name)}: {names}", ""]
     lines = [as_text(line) for line in lines]
     text += [f"{line[2:]}" if line.startswith("  ") else f"- {line}" for line in lines]

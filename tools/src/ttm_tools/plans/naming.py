@@ -38,7 +38,7 @@ class Names:
 
 def names_of(base: Base, finished: Sequence[Finished], alone: bool) -> Names:
     """The names of the feed of some scenarios."""
-    added = [route for it in finished for route in it.state.lines]
+    added = [route for scenario in finished for route in scenario.state.lines]
     return Names(base, frozenset(route for route in added if added.count(route) > 1), alone)
 
 

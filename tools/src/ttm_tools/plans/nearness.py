@@ -11,7 +11,7 @@ NEW_STOPS = "new_stops.csv"
 Leaving = dict[int, list[tuple[int, int]]]  # of each stop the stops that one walks to, and the seconds
 
 
-def told_nearer(folder: str, footpaths: str, walk: int = 0) -> Iterator[str]:
+def sentences_on_nearer(folder: str, footpaths: str, walk: int = 0) -> Iterator[str]:
     """A sentence where walks by way of new stops of a folder of scenarios are shorter than all others, within the
     longest of the footpaths or the walk of a run, in seconds; nothing where they aren't, or the folder has no new
     stops.
@@ -29,9 +29,9 @@ def told_nearer(folder: str, footpaths: str, walk: int = 0) -> Iterator[str]:
     if found:
         a, b, seconds, before = found[0]
         ends = f"{shown(stops.identifiers[a])} and {shown(stops.identifiers[b])}"
-        told = f"{seconds} seconds apart by way of them, and {'out of reach' if before is None else before} without"
+        times = f"{seconds} seconds apart by way of them, and {'out of reach' if before is None else before} without"
         pairs = f"{len(found):,} pairs of old stops nearer, so today isn't as it was"
-        yield f"walks to new stops bring {pairs}: {ends}, {told}"
+        yield f"walks to new stops bring {pairs}: {ends}, {times}"
 
 
 def nearer(walks: Leaving, new: set[int], walk: int = 0) -> list[tuple[int, int, int, int | None]]:
@@ -42,10 +42,10 @@ def nearer(walks: Leaving, new: set[int], walk: int = 0) -> list[tuple[int, int,
     limit = max(limit, walk)
     old = {a: [(b, seconds) for b, seconds in ways if b not in new] for a, ways in walks.items() if a not in new}
     beside = [a for a, ways in walks.items() if a not in new and any(b in new for b, _ in ways)]
-    made: list[tuple[int, int, int, int | None]] = []
+    sentences: list[tuple[int, int, int, int | None]] = []
     for a in beside:
         before = reached_from(a, old, limit)
         for b, seconds in reached_from(a, walks, limit).items():
             if b not in new and seconds < before.get(b, limit + 1):
-                made.append((a, b, seconds, before.get(b)))
-    return made
+                sentences.append((a, b, seconds, before.get(b)))
+    return sentences

@@ -5,13 +5,16 @@ from typing import Sequence
 
 import numpy as np
 
-from ..gtfs.columns import Column, behind, column_of, constant
+from ..gtfs.columns import Column, clocks, column_of
 from ..gtfs.fields import Whole, clock
-from ..gtfs.tables import Table, frame_of, table_of
+from ..gtfs.tables import Table, table_of
+from ..opening.kinds import whole
 from .base import Base
 from .naming import Names, own_routes, trips_written
 from .shapes import Shapes
 from .state import State, Trip
+
+ROUTE_TYPE = whole(0, 1_702)  # of the GTFS, extended ones too
 
 HEADSIGN = "trip_headsign"
 NEEDED = ("trip_id", "arrival_time", "departure_time", "stop_id", "stop_sequence")
@@ -29,27 +32,32 @@ class OwnTrip:
 
 def own_trips(states: Sequence[State], names: Names, shapes: Shapes | None) -> list[OwnTrip]:
     """The trips that are written, scenario by scenario."""
-    made = []
+    trips = []
     for state in states:
         for trip in trips_written(state, names.alone):
             route = names.route(state, trip.route)
             shape = "" if shapes is None else shapes.of(trip, route)
-            made.append(OwnTrip(trip, names.trip(state, trip.label), route, shape))
-    return made
+            trips.append(OwnTrip(trip, names.trip(state, trip.label), route, shape))
+    return trips
 
 
 def heads(base: Base, name: str, needed: Sequence[str]) -> list[str]:
     """The columns of a file, and those that new records need."""
-    return list(dict.fromkeys((*base.feed.get(name).columns, *needed)))
+    return list(dict.fromkeys((*base.feed.get(name).names, *needed)))
 
 
 def new_stops(base: Base, used: Sequence[int]) -> Table:
     """The plan's own stops at which some scenario calls."""
     places, needed = base.places, ("stop_id", "stop_name", "stop_lat", "stop_lon")
     rows = [
-        dict(zip(needed, (places.identifiers[it], places.names[it], degrees(places.latitudes[it]), degrees(east))))
-        for it in used
-        for east in [places.longitudes[it]]
+        dict(
+            zip(
+                needed,
+                (places.identifiers[place], places.names[place], degrees(places.latitudes[place]), degrees(east)),
+            )
+        )
+        for place in used
+        for east in [places.longitudes[place]]
     ]
     return table_of("stops.txt", heads(base, "stops.txt", needed if rows else ()), rows)
 
@@ -68,11 +76,11 @@ def new_routes(base: Base, states: Sequence[State], names: Names) -> Table:
             name = names.route(state, route)
             if route in state.lines:
                 entry, lined = state.lines[route], True
-                words = {
+                fields = {
                     "route_short_name": entry.text("name", route),
                     "agency_id": entry.text("agency", "") or base.first_agency,
                 }
-                rows.append({"route_id": name, "route_type": str(entry.whole("type", 0, 1_702, default=3)), **words})
+                rows.append({"route_id": name, "route_type": str(entry.read("type", ROUTE_TYPE, 3)), **fields})
             elif name != route:
                 rows.append({**records[route], "route_id": name})
     needed = ("route_id", "route_short_name", "route_type") if lined else ("route_id",)
@@ -81,19 +89,19 @@ def new_routes(base: Base, states: Sequence[State], names: Names) -> Table:
 
 def new_trips(base: Base, own: Sequence[OwnTrip]) -> Table:
     """The records of trips: those of their sources, but for what is another; they belong to no block."""
-    sources, rows = sorted({it.trip.source for it in own if it.trip.source >= 0}), list[dict[str, str]]()
+    sources, rows = (sorted({new.trip.source for new in own if new.trip.source >= 0}), list[dict[str, str]]())
     records = dict(zip(sources, base.feed.tables["trips.txt"].rows(sources)))
-    for it in own:
-        named = {"trip_id": it.name, "route_id": it.route, "service_id": it.trip.service}
-        old = records[it.trip.source] if it.trip.source >= 0 else {"direction_id": it.trip.direction}
-        shape = it.shape if it.trip.redrawn else old.get("shape_id", "")
+    for new in own:
+        named = {"trip_id": new.name, "route_id": new.route, "service_id": new.trip.service}
+        old = records[new.trip.source] if new.trip.source >= 0 else {"direction_id": new.trip.direction}
+        shape = new.shape if new.trip.redrawn else old.get("shape_id", "")
         headsign = (
-            {HEADSIGN: base.places.names[it.trip.stop[-1]]} if old.get(HEADSIGN) and ends_elsewhere(base, it) else {}
+            {HEADSIGN: base.places.names[new.trip.stop[-1]]} if old.get(HEADSIGN) and ends_elsewhere(base, new) else {}
         )
         rows.append({**old, **named, **headsign, "shape_id": shape, "block_id": ""})
     needed = ["route_id", "service_id", "trip_id"]
-    needed += ["shape_id"] if any(it.trip.redrawn and it.shape for it in own) else []
-    needed += ["direction_id"] if any(it.trip.source < 0 for it in own) else []
+    needed += ["shape_id"] if any(new.trip.redrawn and new.shape for new in own) else []
+    needed += ["direction_id"] if any(new.trip.source < 0 for new in own) else []
     return table_of("trips.txt", heads(base, "trips.txt", needed if rows else ()), rows)
 
 
@@ -105,59 +113,55 @@ def ends_elsewhere(base: Base, own: OwnTrip) -> bool:
 def new_stop_times(base: Base, own: Sequence[OwnTrip]) -> Table:
     """The calls of trips; other fields than places and times are those of the records that they come from."""
     table = base.feed.tables["stop_times.txt"]
-    counts = np.array([len(it.trip.stop) for it in own], dtype=np.int64)
+    counts = np.array([len(new.trip.stop) for new in own], dtype=np.int64)
     number = np.repeat(np.arange(len(own)), counts)
     sequence = np.arange(len(number)) - np.repeat(np.cumsum(counts) - counts, counts)
-    redrawn = np.array([it.trip.redrawn for it in own] or [False], dtype=np.bool_)[number]
-    elsewhere = np.array([ends_elsewhere(base, it) for it in own] or [False], dtype=np.bool_)[number]
+    redrawn = np.array([new.trip.redrawn for new in own] or [False], dtype=np.bool_)[number]
+    elsewhere = np.array([ends_elsewhere(base, new) for new in own] or [False], dtype=np.bool_)[number]
     none = np.zeros(len(number), dtype=np.bool_)
-    arrive, depart = (together([timed(it.trip, name) for it in own]) for name in ("arrive", "depart"))
-    row = together([it.trip.row for it in own])
-    made = {
-        "trip_id": column_of([it.name for it in own], number),
+    arrive, depart = (together([timed(new.trip, name) for new in own]) for name in ("arrive", "depart"))
+    row = together([new.trip.row for new in own])
+    columns = {
+        "trip_id": column_of([new.name for new in own], number),
         "arrival_time": clocks(arrive),
         "departure_time": clocks(depart),
-        "stop_id": column_of(base.places.identifiers, together([it.trip.stop for it in own])),
-        "stop_sequence": column_of([str(it) for it in range(int(counts.max(initial=0)))], sequence),
+        "stop_id": column_of(base.places.identifiers, together([new.trip.stop for new in own])),
+        "stop_sequence": column_of([str(number) for number in range(int(counts.max(initial=0)))], sequence),
     }
-    for name in table.columns:
-        if name not in made:
+    for name in table.names:
+        if name not in columns:
             lost = redrawn if name == "shape_dist_traveled" else elsewhere if name == "stop_headsign" else none
-            made[name] = taken_from(table[name], np.where(lost, -1, row))
-    ordered = {name: made[name] for name in heads(base, "stop_times.txt", NEEDED if own else ())}
-    return Table("stop_times.txt", frame_of(ordered, np.zeros(len(number), np.int64)))
+            columns[name] = taken_from(table[name], np.where(lost, -1, row))
+    ordered = {name: columns[name] for name in heads(base, "stop_times.txt", NEEDED if own else ())}
+    return Table("stop_times.txt", ordered, np.zeros(len(number), np.int64))
 
 
 def taken_from(column: Column, rows: Whole) -> Column:
     """The texts of some records of a column; empty for a record of -1."""
-    either = behind(column, constant("", 1))
-    return Column.from_codes(either.codes[rows], dtype=either.dtype)
+    known = {text: code for code, text in enumerate(column.categories)}
+    codes = np.full(len(rows), known.setdefault("", len(known)), np.int32)
+    codes[rows >= 0] = column.codes[rows[rows >= 0]]
+    return column_of(list(known), codes)
 
 
 def timed(trip: Trip, name: str) -> Whole:
     """Times of a trip that a feed can state: where headways say when it runs, from midnight on."""
-    made: Whole = getattr(trip, name)
-    return made - min(0, int(trip.arrive[0])) if trip.headways else made
+    column: Whole = getattr(trip, name)
+    return column - min(0, int(trip.arrive[0])) if trip.headways else column
 
 
 def together(columns: Sequence[Whole]) -> Whole:
     return np.concatenate([np.zeros(0, np.int64), *columns])
 
 
-def clocks(seconds: Whole) -> Column:
-    """Times as texts."""
-    found, codes = np.unique(seconds, return_inverse=True)
-    return column_of([clock(it) for it in found.tolist()], codes)
-
-
 def new_headways(base: Base, own: Sequence[OwnTrip]) -> Table:
     """The rows of frequencies.txt."""
     table, rows = base.feed.get("frequencies.txt"), list[dict[str, str]]()
     records = table.rows()
-    for it in own:
-        for headway in it.trip.headways:
+    for new in own:
+        for headway in new.trip.headways:
             times = {"start_time": clock(headway.start), "end_time": clock(headway.end)}
-            rows.append({**records[headway.row], "trip_id": it.name, **times})
+            rows.append({**records[headway.row], "trip_id": new.name, **times})
     return table_of("frequencies.txt", list(table.columns), rows)
 
 
@@ -174,7 +178,7 @@ def new_route_rows(base: Base, states: Sequence[State], names: Names, table: Tab
 
 def new_days(base: Base, own: Sequence[OwnTrip]) -> Table:
     """The days of new services, as days that are added."""
-    used = sorted({it.trip.service for it in own} & base.new_services.keys())
+    used = sorted({new.trip.service for new in own} & base.new_services.keys())
     rows = [
         {"service_id": name, "date": day.strftime("%Y%m%d"), "exception_type": "1"}
         for name in used

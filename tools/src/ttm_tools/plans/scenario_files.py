@@ -21,12 +21,12 @@ Record = tuple[str, str, str]
 
 def records_of(written: Written, mine: Finished | None) -> list[Record]:
     """What the file of a scenario says; of today, which changes nothing, where there is none."""
-    made = [] if mine is None else list(own_records(mine.state))
+    records = [] if mine is None else list(own_records(mine.state))
     for other in written.finished:
         if mine is None or other.name != mine.name:
             state = other.state
-            made += [("remove_route", written.names.route(state, route), "") for route in own_routes(state)]
-    return made
+            records += [("remove_route", written.names.route(state, route), "") for route in own_routes(state)]
+    return records
 
 
 def own_records(state: State) -> Iterator[Record]:
@@ -38,16 +38,18 @@ def own_records(state: State) -> Iterator[Record]:
         if not state.kept[places].any():
             yield ("remove_route", route, "")
             continue
-        yield from (("remove_trip", base.trips[it], "") for it in places[runs[places] & ~state.kept[places]])
+        yield from (("remove_trip", base.trips[place], "") for place in places[runs[places] & ~state.kept[places]])
     for place in np.flatnonzero(state.kept & (state.shift != 0)):
         yield ("shift_trip", base.trips[place], str(int(state.shift[place])))
 
 
-def refuse_long(mine: Finished, made: Sequence[Record]) -> None:
-    """Tells a scenario whose file is longer than `ttm` takes."""
-    if len(made) > MOST_RECORDS:
-        told = f"takes a scenario file of {len(made):,} records, and ttm {MOST_RECORDS:,}: fewer trips, or whole routes"
-        raise mine.planned.entry.fault(told, "name", mine.name)
+def refuse_long(mine: Finished, records: Sequence[Record]) -> None:
+    """Refuses a scenario whose file is longer than `ttm` takes."""
+    if len(records) > MOST_RECORDS:
+        what = (
+            f"takes a scenario file of {len(records):,} records, and ttm {MOST_RECORDS:,}: fewer trips, or whole routes"
+        )
+        raise mine.planned.entry.fault(what, "name", mine.name)
 
 
 def write_scenarios(written: Written, folder: Path) -> list[str]:
@@ -55,13 +57,13 @@ def write_scenarios(written: Written, folder: Path) -> list[str]:
     folder.mkdir()
     names = []
     for mine in (None, *written.finished):
-        made = records_of(written, mine)
+        records = records_of(written, mine)
         if mine is not None:
-            refuse_long(mine, made)
-        elif len(made) > MOST_RECORDS:
-            raise BadInput(f"{TODAY}.csv", f"would have {len(made):,} records, and ttm takes {MOST_RECORDS:,}")
+            refuse_long(mine, records)
+        elif len(records) > MOST_RECORDS:
+            raise BadInput(f"{TODAY}.csv", f"would have {len(records):,} records, and ttm takes {MOST_RECORDS:,}")
         name = f"{TODAY if mine is None else mine.name}.csv"
         with open(folder / name, "wb") as file:
-            write_rows(file, HEADER, made)
+            write_rows(file, HEADER, records)
         names.append(name)
     return names

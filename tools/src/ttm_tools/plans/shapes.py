@@ -24,7 +24,7 @@ class Shapes:
 
     base: Base
     old: dict[str, Points]
-    made: dict[str, Points] = field(default_factory=dict)
+    new: dict[str, Points] = field(default_factory=dict)
     known: dict[tuple[str, str, tuple[int, ...]], str] = field(default_factory=dict)
 
     def of(self, trip: Trip, route: str) -> str:
@@ -35,18 +35,18 @@ class Shapes:
         key = (route, source, tuple(trip.stop.tolist()))
         if key not in self.known:
             points = self.points_of(trip, self.old.get(source, []))
-            name = f"{route}-{len([it for it in self.known if it[0] == route]) + 1}"
+            name = f"{route}-{len([key for key in self.known if key[0] == route]) + 1}"
             while name in self.old:
                 name += "'"
             self.known[key] = name if len(points) > 1 else ""
             if len(points) > 1:
-                self.made[name] = points
+                self.new[name] = points
         return self.known[key]
 
     def places(self, stops: list[int]) -> Points:
         where = self.base.places
-        found = [(float(where.latitudes[it]), float(where.longitudes[it])) for it in stops]
-        return [it for it in found if not math.isnan(it[0])]
+        found = [(float(where.latitudes[stop]), float(where.longitudes[stop])) for stop in stops]
+        return [point for point in found if not math.isnan(point[0])]
 
     def points_of(self, trip: Trip, old: Points) -> Points:
         """The line of a trip: its source's as far as it has the source's stops, and straight ones beyond."""
@@ -65,7 +65,7 @@ class Shapes:
         """The shapes that were made, as records."""
         rows = [
             dict(zip(COLUMNS, (name, f"{north:.6f}", f"{east:.6f}", str(number))))
-            for name, points in self.made.items()
+            for name, points in self.new.items()
             for number, (north, east) in enumerate(points, 1)
         ]
         return table_of(NAME, list(dict.fromkeys((*columns, *(COLUMNS if rows else ())))), rows)
@@ -88,4 +88,4 @@ def read_shapes(base: Base, path: Path) -> Shapes:
         point = (number_of(number), number_of(north), number_of(east))
         if not any(map(math.isnan, point)):
             found.setdefault(name, []).append(point)
-    return Shapes(base, {name: [(north, east) for _, north, east in sorted(it)] for name, it in found.items()})
+    return Shapes(base, {name: [(north, east) for _, north, east in sorted(points)] for name, points in found.items()})

@@ -8,7 +8,8 @@ import numpy as np
 
 from ..gtfs.fields import Mask, Whole, clock
 from .base import Base, Headway
-from .plan_file import LAST_TIME, Entry
+from ..opening.kinds import LAST_TIME
+from ..opening.toml_file import Entry
 
 LAST_LABEL = 2_000_000  # seconds from which on `ttm` takes no times of a day
 
@@ -34,7 +35,7 @@ class Trip:
     def departures(self) -> list[int]:
         """When it leaves its first stop."""
         if self.headways:
-            return [time for it in self.headways for time in it.departures]
+            return [time for headway in self.headways for time in headway.departures]
         return [int(self.depart[0])]
 
     @property
@@ -45,12 +46,12 @@ class Trip:
     def moved(self, seconds: int) -> "Trip":
         """The same trip so many seconds later."""
         if self.headways:
-            return replace(self, headways=tuple(it.moved(seconds) for it in self.headways))
+            return replace(self, headways=tuple(headway.moved(seconds) for headway in self.headways))
         return replace(self, arrive=self.arrive + seconds, depart=self.depart + seconds)
 
     def leaving(self, seconds: int) -> "Trip":
         """The same trip, with headways that are so many seconds later; its own times stay."""
-        return replace(self, headways=tuple(it.moved(seconds) for it in self.headways))
+        return replace(self, headways=tuple(headway.moved(seconds) for headway in self.headways))
 
 
 @dataclass(frozen=True)
@@ -65,7 +66,7 @@ class Change:
 
 
 @dataclass(frozen=True)
-class Counts:
+class StateCounts:
     """How much a scenario has."""
 
     trips: int  # with calls
@@ -89,27 +90,30 @@ class State:
     def __post_init__(self) -> None:
         self.kept = self.base.lengths > 0
         self.shift = np.zeros(len(self.base.trips), dtype=np.int64)
-        self.calls = np.bincount(self.base.stop, minlength=len(self.base.places.identifiers))
+        self.calls = self.base.calls_at.copy()
         self.trips, self.events = int(self.kept.sum()), len(self.base.stop)
 
-    def counts(self) -> Counts:
-        return Counts(self.trips, int(np.count_nonzero(self.calls)), self.events)
+    def counts(self) -> StateCounts:
+        return StateCounts(self.trips, int(np.count_nonzero(self.calls)), self.events)
 
     def trip(self, place: int) -> Trip:
         """A trip of the feed as the scenario has it."""
         base = self.base
         span = slice(base.begins[place], base.begins[place + 1])
-        calls = (base.stop[span], base.arrive[span], base.depart[span], base.row[span])
+        stop, arrive, depart, row = (
+            np.array(column[span], dtype=np.int64) for column in (base.stop, base.arrive, base.depart, base.row)
+        )
         name, headways = base.trips[place], base.headways.get(place, ())
         direction = base.directions[place]
-        made = Trip(name, place, False, base.routes[place], base.services[place], direction, *calls, headways)
+        route, service = base.routes[place], base.services[place]
+        trip = Trip(name, place, False, route, service, direction, stop, arrive, depart, row, headways)
         seconds = int(self.shift[place])
-        return made.moved(seconds) if seconds else made
+        return trip.moved(seconds) if seconds else trip
 
     def of_route(self, route: str) -> list[Trip]:
         """The trips of a route, those of the feed first."""
         places = self.base.by_route.get(route, np.zeros(0, np.int64))
-        return self.some(places[self.kept[places]]) + [it for it in self.own.values() if it.route == route]
+        return self.some(places[self.kept[places]]) + [trip for trip in self.own.values() if trip.route == route]
 
     def some(self, places: Whole) -> list[Trip]:
         return [self.trip(place) for place in places.tolist()]
@@ -137,9 +141,9 @@ class State:
 
     def add(self, trip: Trip) -> None:
         """Puts a new trip in; its label becomes one that no other has."""
-        made = replace(trip, label=self.free(trip.label))
-        self.put(made)
-        self.changes.append(Change("added", "", made.label, made.route))
+        added = replace(trip, label=self.free(trip.label))
+        self.put(added)
+        self.changes.append(Change("added", "", added.label, added.route))
 
     def put(self, trip: Trip) -> None:
         self.used.add(trip.label)
@@ -174,8 +178,8 @@ def in_range(entry: Entry, trip: Trip) -> Trip:
     begin = first if trip.headways else int(trip.arrive.min())
     end = last if trip.headways else int(trip.depart.max())
     if begin < 0 or end > LAST_TIME or last + int(trip.depart[-1] - trip.depart[0]) >= LAST_LABEL:
-        told = f"trip {trip.label} would be under way at {signed(begin if begin < 0 else end)}"
-        raise entry.fault(f"{told}; times go from 0:00:00 to 167:59:59", "do", str(entry.values.get("do")))
+        message = f"trip {trip.label} would be under way at {signed(begin if begin < 0 else end)}"
+        raise entry.fault(f"{message}; times go from 0:00:00 to 167:59:59", "do", str(entry.values.get("do")))
     if (trip.depart < trip.arrive).any() or (trip.arrive[1:] < trip.depart[:-1]).any():
         raise entry.fault(f"makes times of trip {trip.label} go back", "do", str(entry.values.get("do")))
     return trip

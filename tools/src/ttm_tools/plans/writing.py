@@ -6,6 +6,7 @@ scenarios. The feed of one has its trips alone.
 
 import shutil
 from dataclasses import dataclass
+from functools import cached_property
 from pathlib import Path
 from typing import Sequence
 
@@ -14,7 +15,7 @@ import numpy as np
 from ..faults import BadInput
 from ..gtfs.columns import one_of
 from ..gtfs.fields import MOST_BYTES, Mask
-from ..gtfs.tables import Table, frame_of, joined, no_table, read_table, write_lines, write_table
+from ..gtfs.tables import Table, joined, no_table, read_table, write_lines, write_table
 from ..records import names_of as columns_of
 from ..records import records
 from . import new_records as new
@@ -25,7 +26,7 @@ from .shapes import NAME as SHAPES
 from .shapes import Shapes, read_shapes
 from .state import State
 
-BLOCK = 1 << 24
+BLOCK = 1 << 20
 OF_ROUTES = ("fare_rules.txt", "route_networks.txt")  # which say of a route what holds of its copies too
 OF_TRIPS = ("trip_id", "from_trip_id", "to_trip_id")  # columns that name trips
 
@@ -40,7 +41,19 @@ class Written:
 
     @property
     def states(self) -> list[State]:
-        return [it.state for it in self.finished]
+        return [scenario.state for scenario in self.finished]
+
+    @cached_property
+    def shapes(self) -> Shapes | None:
+        """The shapes of the feed with those of trips that run along another line; none where no trip does."""
+        path = self.base.feed.others.get(SHAPES)
+        redrawn = any(trip.redrawn for state in self.states for trip in state.own.values())
+        return read_shapes(self.base, path) if redrawn and path is not None else None
+
+    @cached_property
+    def own(self) -> list[new.OwnTrip]:
+        """The scenarios' own trips, scenario by scenario."""
+        return new.own_trips(self.states, self.names, self.shapes)
 
 
 def written_of(base: Base, finished: Sequence[Finished], alone: bool) -> Written:
@@ -56,10 +69,7 @@ def used_stops(written: Written) -> list[int]:
 
 def write_all(written: Written, folder: Path) -> None:
     """Writes the files of a feed."""
-    base, names = written.base, written.names
-    redrawn = any(trip.redrawn for state in written.states for trip in state.own.values())
-    shapes = read_shapes(base, base.feed.others[SHAPES]) if redrawn and SHAPES in base.feed.others else None
-    own = new.own_trips(written.states, names, shapes)
+    base, names, own = written.base, written.names, written.own
     tables = [
         new.new_stops(base, used_stops(written)),
         new.new_routes(base, written.states, names),
@@ -68,10 +78,10 @@ def write_all(written: Written, folder: Path) -> None:
         new.new_headways(base, own),
         new.new_days(base, own),
     ]
-    made = {table.name: table for table in tables}
+    written_tables = {table.name: table for table in tables}
     gone = taken_out(base, written.states[0]) if names.alone else None
-    write_tables(base, made, gone, folder)
-    write_others(base, shapes, gone, folder)
+    write_tables(base, written_tables, gone, folder)
+    write_others(base, written.shapes, gone, folder)
     for name in OF_ROUTES:
         if name in base.feed.others:
             table = read_table(name, base.feed.others[name])
@@ -84,11 +94,11 @@ def taken_out(base: Base, state: State) -> set[str]:
     return {base.trips[place] for place in np.flatnonzero(away)}
 
 
-def write_tables(base: Base, made: dict[str, Table], gone: set[str] | None, folder: Path) -> None:
+def write_tables(base: Base, tables: dict[str, Table], gone: set[str] | None, folder: Path) -> None:
     """Writes the files that `ttm` reads."""
-    lost = None if gone is None else gone - set(made["trips.txt"].texts("trip_id"))
-    for name in dict.fromkeys((*base.feed.tables, *made)):
-        old, more = base.feed.get(name), made.get(name)
+    lost = None if gone is None else gone - set(tables["trips.txt"].texts("trip_id"))
+    for name in dict.fromkeys((*base.feed.tables, *tables)):
+        old, more = base.feed.get(name), tables.get(name)
         if gone is not None and name in base.feed.tables:
             away = lost if name == "transfers.txt" else gone
             old = without_trips(old, away or set())
@@ -105,16 +115,16 @@ def without_trips(table: Table, gone: set[str]) -> Table:
     kept: Mask = np.ones(len(table), dtype=np.bool_)
     for name in OF_TRIPS:
         kept &= ~one_of(table[name], gone)
-    made = table.copy()
-    made.keep(kept)
-    return made
+    rest = table.copy()
+    rest.keep(kept)
+    return rest
 
 
 def put_together(old: Table, more: Table, path: Path) -> None:
     """Writes a table with further records behind: the file that it was read from as it is, where that can be."""
     if old.source is None or not can_go_on(old, more):
         with open(path, "wb") as file:
-            write_table(joined(old, more) if len(more) else old, file)
+            write_table(joined(old.whole(), more) if len(more) else old, file)
         return
     shutil.copyfile(old.source, path)
     if not len(more):
@@ -124,7 +134,7 @@ def put_together(old: Table, more: Table, path: Path) -> None:
         ended = file.read(1) in (b"\n", b"\r")
         file.write(b"" if ended else b"\n")
         ordered = {name: more[name] for name in columns_of(old.source)}
-        write_lines(Table(more.name, frame_of(ordered, more.records)), file)
+        write_lines(Table(more.name, ordered, more.records), file)
 
 
 def can_go_on(old: Table, more: Table) -> bool:

@@ -73,16 +73,16 @@ def areas_beside(points: str) -> dict[str, Area]:
     path = Path(points).with_name(AREAS_FILE)
     if not path.is_file():
         return {}
-    found, made = read_json(path, "GeoJSON"), dict[str, Area]()
+    found, areas = read_json(path, "GeoJSON"), dict[str, Area]()
     with as_one_line(path, "is no file of areas that ttm-tools points wrote"):
         for feature in found["features"]:
             geometry = feature["geometry"]
             parts = geometry["coordinates"] if geometry["type"] == KINDS[1] else [geometry["coordinates"]]
-            made[str(feature["properties"]["id"])] = [[ring_of(ring) for ring in polygon] for polygon in parts]
-    for identifier, area in made.items():
+            areas[str(feature["properties"]["id"])] = [[ring_of(ring) for ring in polygon] for polygon in parts]
+    for identifier, area in areas.items():
         if not all(is_ring(ring) for polygon in area for ring in polygon):
             raise BadInput(path, f"the area of {shown(identifier)} has a ring that is none")
-    return made
+    return areas
 
 
 def is_ring(ring: Floats) -> bool:

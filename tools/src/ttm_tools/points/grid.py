@@ -74,7 +74,7 @@ def grid_near(stops: Stops, side: float, metres: float) -> Grid:
     refuse_tried(((2 * reach / side) + 1) ** 2)
     found = np.zeros((0, 2), np.int64)
     for up, right in zip((north - south).tolist(), (east - west).tolist()):
-        rows, columns = (np.arange(int((it - reach) // side), int((it + reach) // side) + 1) for it in (up, right))
+        rows, columns = (np.arange(int((at - reach) // side), int((at + reach) // side) + 1) for at in (up, right))
         off = ((rows + 0.5) * side - up)[:, None] ** 2 + ((columns + 0.5) * side - right)[None, :] ** 2
         near = np.argwhere(off <= reach**2) + [rows[0], columns[0]]
         found = np.concatenate([found, near])
@@ -105,8 +105,10 @@ def grid_over(path: str, side: float) -> Grid:
     for row in range(counts[0]):
         if not inside.intersects(band(grid, row, counts[1])):
             continue
-        near = [it for it in range(counts[1]) if inside.intersects(grid.square(row, it))]
-        found += [(row, it) for it in near if area.intersection(grid.square(row, it)).area > 1e-9 * side**2]
+        near = [column for column in range(counts[1]) if inside.intersects(grid.square(row, column))]
+        found += [
+            (row, column) for column in near if area.intersection(grid.square(row, column)).area > 1e-9 * side**2
+        ]
         refuse_cells(len(found))
     return whole(Grid(projection, side, south, west, np.array(found, np.int64).reshape(-1, 2)))
 
@@ -147,8 +149,8 @@ def areas_of(path: str) -> Any:
 
 
 def filled(grid: Grid, paths: Sequence[str]) -> tuple[Points, list[str]]:
-    """The cells with the numbers of some files, and what is told of numbers outside of all cells."""
-    columns, found, told = list[str](), [np.zeros((len(grid.squares), 0))], list[str]()
+    """The cells with the numbers of some files, and what is reported of numbers outside of all cells."""
+    columns, found, sentences = list[str](), [np.zeros((len(grid.squares), 0))], list[str]()
     for path in paths:
         is_polygons = Path(path).suffix.lower() in AREAS and any(areas_of(path).geom_type.isin(POLYGONS))
         names, numbers, totals = from_polygons(grid, path) if is_polygons else from_points(grid, path)
@@ -157,11 +159,11 @@ def filled(grid: Grid, paths: Sequence[str]) -> tuple[Points, list[str]]:
             raise BadInput(path, f"a column {shown(twice)} is in another file too")
         columns += names
         found.append(numbers)
-        told += told_outside(path, names, totals - numbers.sum(axis=0), totals)
-    return grid.points(columns, np.concatenate(found, axis=1)), told
+        sentences += sentences_on_outside(path, names, totals - numbers.sum(axis=0), totals)
+    return grid.points(columns, np.concatenate(found, axis=1)), sentences
 
 
-def told_outside(path: str, names: Sequence[str], lost: Floats, totals: Floats) -> list[str]:
+def sentences_on_outside(path: str, names: Sequence[str], lost: Floats, totals: Floats) -> list[str]:
     """How much of each column lies in no cell."""
     return [
         f"{path}: {plain(round(outside, 3))} of {plain(round(total, 3))} {shown(name)} lie outside of all cells"
@@ -177,10 +179,10 @@ def from_points(grid: Grid, path: str) -> tuple[list[str], Floats, Floats]:
     up = grid.projection.north(points.latitudes) - grid.south
     right = grid.projection.east(points.longitudes) - grid.west
     cells = np.floor(np.stack([up, right], axis=1) / grid.side + 1e-9).astype(np.int64)
-    places, made = grid.places(), np.zeros((len(grid.squares), len(points.columns)))
+    places, sums = grid.places(), np.zeros((len(grid.squares), len(points.columns)))
     at = np.array([places.get((row, column), -1) for row, column in cells.tolist()], dtype=np.intp)
-    np.add.at(made, at[at >= 0], points.numbers[at >= 0])
-    return points.columns, made, points.numbers.sum(axis=0)
+    np.add.at(sums, at[at >= 0], points.numbers[at >= 0])
+    return points.columns, sums, points.numbers.sum(axis=0)
 
 
 def from_polygons(grid: Grid, path: str) -> tuple[list[str], Floats, Floats]:
@@ -188,15 +190,19 @@ def from_polygons(grid: Grid, path: str) -> tuple[list[str], Floats, Floats]:
     from shapely.ops import transform
 
     frame = areas_of(path)
-    names = [it for it in frame.columns if frame[it].dtype.kind in "iuf" and it not in ("id", "width", "height")]
+    names = [
+        column
+        for column in frame.columns
+        if frame[column].dtype.kind in "iuf" and column not in ("id", "width", "height")
+    ]
     refuse_none(path, names)
     numbers = numbers_of(path, frame, names)
-    places, made = grid.places(), np.zeros((len(grid.squares), len(names)))
+    places, sums = grid.places(), np.zeros((len(grid.squares), len(names)))
     for record, shape in enumerate(frame.geometry):
         own = transform(grid.projection.kilometres, shape)
         for place, part in shares_of(grid, places, own):
-            made[place] += numbers[record] * part
-    return list(map(str, names)), made, numbers.sum(axis=0)
+            sums[place] += numbers[record] * part
+    return list(map(str, names)), sums, numbers.sum(axis=0)
 
 
 def shares_of(grid: Grid, places: dict[tuple[int, int], int], shape: Any) -> list[tuple[int, float]]:
@@ -215,7 +221,7 @@ def shares_of(grid: Grid, places: dict[tuple[int, int], int], shape: Any) -> lis
     else:
         near = [(row, column) for row, column in places if row in rows and column in columns]
     inside, total = prep(shape), shape.area
-    squares = [(places[it], grid.square(*it)) for it in near]
+    squares = [(places[square], grid.square(*square)) for square in near]
     return [
         (place, (square.area if inside.contains(square) else shape.intersection(square).area) / total)
         for place, square in squares
@@ -225,14 +231,14 @@ def shares_of(grid: Grid, places: dict[tuple[int, int], int], shape: Any) -> lis
 
 def numbers_of(path: str, frame: Any, names: Sequence[str]) -> Floats:
     """The columns of a frame; nothing counts as 0, and no number is negative."""
-    made: Floats = np.nan_to_num(frame[list(names)].to_numpy(dtype=np.float64), nan=0.0, posinf=-1.0)
-    bad = np.argwhere(made < 0)
+    numbers: Floats = np.nan_to_num(frame[list(names)].to_numpy(dtype=np.float64), nan=0.0, posinf=-1.0)
+    bad = np.argwhere(numbers < 0)
     if len(bad):
         record, column = bad[0].tolist()
         value = text_of(frame[names[column]].iat[record])
         allowed = "a number from 0 on"
         raise BadInput(path, "is none", record=record + 1, column=names[column], value=value, allowed=allowed)
-    return made
+    return numbers
 
 
 def refuse_none(path: str, names: Sequence[str]) -> None:

@@ -28,10 +28,10 @@ def shown_of(matrix: Matrix, feed: str | None, points: str | None) -> tuple[Matr
     if path is None:
         return matrix, stops
     found = with_areas(read_points(path))
-    made = Chosen(matrix, found.identifiers)
-    if points is not None and not made.is_any:
+    chosen = Chosen(matrix, found.identifiers)
+    if points is not None and not chosen.is_any:
         raise BadInput(matrix.path, f"it has no point of {points}")
-    return made, with_points(stops, found) if stops is not None else found.as_stops()
+    return chosen, with_points(stops, found) if stops is not None else found.as_stops()
 
 
 def with_areas(points: Points) -> Points:

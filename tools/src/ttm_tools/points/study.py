@@ -20,7 +20,7 @@ from ..naming import file_names
 from ..opening.paths import inside
 from ..parts import write_stops
 from ..records import Rounded, places_of, records, shown, write_rows
-from ..walks import Walks, told as what_is_told
+from ..walks import Walks, summary as walks_summary
 from ..walks.counting import TooManyWalks
 from .areas import AREAS_FILE, write_areas
 from .table import Points, plain
@@ -39,8 +39,8 @@ class TooManyPlaces(BadInput):
 
 
 @dataclass(frozen=True)
-class Asked:
-    """What is asked for."""
+class PointsOptions:
+    """What a folder is made of."""
 
     feed: str  # the folder of an unpacked feed
     out: str  # the folder that is written
@@ -49,11 +49,11 @@ class Asked:
     ends: Sequence[bool]  # and whether they end there
     limit: int  # the longest walk, seconds
     leaves_out: bool  # points from which no stop is in reach
-    near: float  # metres to a street, for what is told
+    near: float  # metres to a street, for what is reported
 
 
 @dataclass(frozen=True)
-class Study:
+class PointStudy:
     """All points of a study, one file after the other, under identifiers that no stop has."""
 
     points: Points
@@ -64,53 +64,53 @@ class Study:
         kept = np.array(chosen, dtype=np.bool_)[self.file]
         return [self.points.identifiers[place] for place in np.flatnonzero(kept).tolist()]
 
-    def only(self, kept: Flags) -> "Study":
+    def only(self, kept: Flags) -> "PointStudy":
         places = np.flatnonzero(kept)
-        return Study(self.points.only(places), self.file[places])
+        return PointStudy(self.points.only(places), self.file[places])
 
 
-def make(asked: Asked, walker: Walker) -> list[str]:
+def make(options: PointsOptions, walker: Walker) -> list[str]:
     """Writes the folder, and says what was done, a sentence a line."""
-    is_free(Path(asked.out))
-    stops = read_stops(asked.feed)
-    prefixes = prefixes_of(asked.files, stops)
-    study = study_of(asked.files, prefixes)
-    helps = HELPS_AFTER if asked.leaves_out else HELPS + HELPS_AFTER
-    if not asked.leaves_out:
+    is_free(Path(options.out))
+    stops = read_stops(options.feed)
+    prefixes = prefixes_of(options.files, stops)
+    study = study_of(options.files, prefixes)
+    helps = HELPS_AFTER if options.leaves_out else HELPS + HELPS_AFTER
+    if not options.leaves_out:
         refuse_places(len(stops.identifiers), study, helps)
-    walks = walker(with_points(stops, study), len(stops.identifiers) if asked.leaves_out else None)
+    walks = walker(with_points(stops, study), len(stops.identifiers) if options.leaves_out else None)
     near = in_reach(stops, study, walks)
-    told = [*told_prefixes(asked.files, prefixes), *told_reach(study, near, asked.leaves_out)]
-    told += [what_is_told(walks, "stops", asked.near)] if walks.lost or walks.far or walks.apart else []
-    if asked.leaves_out:
+    sentences = [*sentences_on_prefixes(options.files, prefixes), *sentences_on_reach(study, near, options.leaves_out)]
+    sentences += [walks_summary(walks, "stops", options.near)] if walks.lost or walks.far or walks.apart else []
+    if options.leaves_out:
         study = study.only(near)
         refuse_places(len(stops.identifiers), study, helps)
         walks = walker(with_points(stops, study), None)
     refuse_pairs(walks, study, helps)
     rounded = Rounded()
-    with many_written_aside(asked.out) as folder:
-        write_feed(folder / FEED, asked.feed, study.points)
-        write_files(folder, asked, study, walks, rounded)
+    with many_written_aside(options.out) as folder:
+        write_feed(folder / FEED, options.feed, study.points)
+        write_files(folder, options, study, walks, rounded)
     count = f"{len(study.points.identifiers):,} points, {len(walks.seconds):,} footpaths"
     whole = [f"{rounded.count:,} numbers with decimals were rounded for ttm"] if rounded.count else []
-    return [*told, *whole, f"{asked.out}: {count}; the words of a run are in {Path(asked.out) / WORDS}"]
+    return [*sentences, *whole, f"{options.out}: {count}; the words of a run are in {Path(options.out) / WORDS}"]
 
 
 def prefixes_of(files: Sequence[Points], stops: Stops) -> list[str]:
     """What identifiers of each file begin with in the feed: nothing, or the file's name where one of them is a stop's
     already, or a point's of a file before.
     """
-    taken, made = set(stops.identifiers), list[str]()
+    taken, prefixes = set(stops.identifiers), list[str]()
     for points in files:
         prefix = ""
         while not taken.isdisjoint(prefix + own for own in points.identifiers):
             prefix += f"{Path(points.path).stem}:"
         taken.update(prefix + own for own in points.identifiers)
-        made.append(prefix)
-    return made
+        prefixes.append(prefix)
+    return prefixes
 
 
-def study_of(files: Sequence[Points], prefixes: Sequence[str]) -> Study:
+def study_of(files: Sequence[Points], prefixes: Sequence[str]) -> PointStudy:
     """The points of all files; those of one have 0 in the columns of another."""
     columns = list(dict.fromkeys(name for points in files for name in points.columns))
     numbers = np.zeros((sum(len(points.identifiers) for points in files), len(columns)))
@@ -132,10 +132,10 @@ def study_of(files: Sequence[Points], prefixes: Sequence[str]) -> Study:
             texts.extend(points.labels.get(name, [""] * len(points.identifiers)))
     areas = {prefix + own: area for points, prefix in zip(files, prefixes) for own, area in points.areas.items()}
     whole = Points(path, identifiers, names, north, east, wide, columns, numbers, labels, high, areas)
-    return Study(whole, np.repeat(np.arange(len(files)), [len(points.identifiers) for points in files]))
+    return PointStudy(whole, np.repeat(np.arange(len(files)), [len(points.identifiers) for points in files]))
 
 
-def with_points(stops: Stops, study: Study) -> Stops:
+def with_points(stops: Stops, study: PointStudy) -> Stops:
     """The locations of the feed with the points behind them."""
     added = study.points.as_stops()
     return Stops(
@@ -149,7 +149,7 @@ def with_points(stops: Stops, study: Study) -> Stops:
     )
 
 
-def in_reach(stops: Stops, study: Study, walks: Walks) -> Flags:
+def in_reach(stops: Stops, study: PointStudy, walks: Walks) -> Flags:
     """From which points one walks to a stop."""
     count = len(stops.identifiers)
     near = np.zeros(count + len(study.file), dtype=np.bool_)
@@ -157,28 +157,28 @@ def in_reach(stops: Stops, study: Study, walks: Walks) -> Flags:
     return near[count:]
 
 
-def refuse_places(stops: int, study: Study, helps: str) -> None:
-    """Tells more stops and points than `ttm` takes."""
+def refuse_places(stops: int, study: PointStudy, helps: str) -> None:
+    """Refuses more stops and points than `ttm` takes."""
     count = len(study.file)
     if stops + count > MOST_STOPS:
-        told = f"{stops:,} locations of the feed and {count:,} points are more than the {MOST_STOPS:,} that ttm takes"
-        raise TooManyPlaces(study.points.path, f"{told}: {helps}")
+        what = f"{stops:,} locations of the feed and {count:,} points are more than the {MOST_STOPS:,} that ttm takes"
+        raise TooManyPlaces(study.points.path, f"{what}: {helps}")
 
 
-def refuse_pairs(walks: Walks, study: Study, helps: str) -> None:
-    """Tells more walks than `ttm` takes."""
+def refuse_pairs(walks: Walks, study: PointStudy, helps: str) -> None:
+    """Refuses more walks than `ttm` takes."""
     if len(walks.seconds) > MOST_PAIRS:
-        told = f"{len(walks.seconds):,} walks are more than the {MOST_PAIRS:,} that ttm takes"
-        raise TooManyWalks(study.points.path, f"{told}: a shorter --limit, or fewer points; {helps}")
+        what = f"{len(walks.seconds):,} walks are more than the {MOST_PAIRS:,} that ttm takes"
+        raise TooManyWalks(study.points.path, f"{what}: a shorter --limit, or fewer points; {helps}")
 
 
-def told_prefixes(files: Sequence[Points], prefixes: Sequence[str]) -> Iterator[str]:
+def sentences_on_prefixes(files: Sequence[Points], prefixes: Sequence[str]) -> Iterator[str]:
     for points, prefix in zip(files, prefixes):
         if prefix:
             yield f"{points.path}: identifiers begin with {shown(prefix)} in the feed, since one of them was there"
 
 
-def told_reach(study: Study, near: Flags, left_out: bool) -> Iterator[str]:
+def sentences_on_reach(study: PointStudy, near: Flags, left_out: bool) -> Iterator[str]:
     """The points from which no stop is in reach."""
     lost = [shown(study.points.identifiers[place]) for place in np.flatnonzero(~near).tolist()]
     if lost:
@@ -186,7 +186,7 @@ def told_reach(study: Study, near: Flags, left_out: bool) -> Iterator[str]:
 
 
 def write_feed(folder: Path, feed: str, points: Points) -> None:
-    """Writes the feed with the points, and what is told of them; where it is that of a plan, with its scenarios."""
+    """Writes the feed with the points, and what is reported of them; where it is that of a plan, with its scenarios."""
     (folder / SCENARIOS).mkdir(parents=True)
     of_plan = [NEW_STOPS, f"{SCENARIOS}/*.csv"]
     for file in sorted(path for form in ("*.txt", *of_plan) for path in Path(feed).glob(form) if path.is_file()):
@@ -222,10 +222,10 @@ def padded(fields: list[str], width: int) -> list[str]:
 
 def spread(fields: Sequence[str], places: Sequence[int], width: int) -> list[str]:
     """A record with these fields at some places, and nothing elsewhere."""
-    made = [""] * width
+    cells = [""] * width
     for place, text in zip(places, fields):
-        made[place] = text
-    return made
+        cells[place] = text
+    return cells
 
 
 def lines_of(points: Points) -> Iterator[tuple[str, str, str, str]]:
@@ -247,9 +247,9 @@ def has_heights(points: Points) -> bool:
     return bool((sides[:, 0] != sides[:, 1])[~np.isnan(sides[:, 1])].any())
 
 
-def write_files(folder: Path, asked: Asked, study: Study, walks: Walks, rounded: Rounded) -> None:
+def write_files(folder: Path, options: PointsOptions, study: PointStudy, walks: Walks, rounded: Rounded) -> None:
     """Writes what stands beside the feed."""
-    ends = {"origins.csv": study.of_files(asked.begins), "destinations.csv": study.of_files(asked.ends)}
+    ends = {"origins.csv": study.of_files(options.begins), "destinations.csv": study.of_files(options.ends)}
     with open(folder / FOOTPATHS, "wb") as out:
         write_rows(out, ["from_stop_id", "to_stop_id", "seconds"], walks.rows())
     for name, stops in ends.items():
@@ -257,30 +257,32 @@ def write_files(folder: Path, asked: Asked, study: Study, walks: Walks, rounded:
             write_stops(out, stops)
     for column, name in file_names(study.points.columns).items():
         with open(folder / f"opportunities_{name}.csv", "wb") as out:
-            write_rows(out, ["stop_id", "opportunities"], opportunities(asked, study, column, rounded))
+            write_rows(out, ["stop_id", "opportunities"], opportunities(options, study, column, rounded))
     if study.points.labels:
         with open(folder / LABELS, "wb") as out:
             write_rows(out, ["id", *study.points.labels], zip(study.points.identifiers, *study.points.labels.values()))
     with open(folder / WORDS, "wb") as out:
-        out.write(words(asked).encode("utf-8", "surrogateescape"))
+        out.write(arguments_of(options).encode("utf-8", "surrogateescape"))
 
 
-def opportunities(asked: Asked, study: Study, column: str, rounded: Rounded) -> Iterator[tuple[str, int]]:
+def opportunities(
+    options: PointsOptions, study: PointStudy, column: str, rounded: Rounded
+) -> Iterator[tuple[str, int]]:
     """The points of the files that have a column, each with its number made whole."""
     place, points = study.points.columns.index(column), study.points
-    kept = np.flatnonzero(np.array([column in it.columns for it in asked.files])[study.file])
+    kept = np.flatnonzero(np.array([column in file.columns for file in options.files])[study.file])
     for point in kept.tolist():
         number = repr(float(points.numbers[point, place]))
         yield points.identifiers[point], rounded.whole(number, points.path, point + 2, column, up=False)
 
 
-def words(asked: Asked) -> str:
+def arguments_of(options: PointsOptions) -> str:
     """The arguments of a run, an option a line, as a shell reads them."""
-    folder = Path(asked.out)
-    options = {
+    folder = Path(options.out)
+    named = {
         "feed": folder / FEED,
         "footpaths": folder / FOOTPATHS,
-        "walk": asked.limit,
+        "walk": options.limit,
         "origins": folder / "origins.csv",
     }
-    return "".join(f"--{name} {shlex.quote(str(value))}\n" for name, value in options.items())
+    return "".join(f"--{name} {shlex.quote(str(value))}\n" for name, value in named.items())

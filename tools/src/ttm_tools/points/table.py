@@ -92,10 +92,10 @@ class Reader:
         return number
 
     def place(self, latitude: str, longitude: str, record: int) -> tuple[float, float]:
-        made = self.degrees(latitude, record, "lat", 90), self.degrees(longitude, record, "lon", 180)
-        if not any(made):
+        degrees = self.degrees(latitude, record, "lat", 90), self.degrees(longitude, record, "lon", 180)
+        if not any(degrees):
             raise BadInput(self.path, "lat and lon are 0 and 0, which is no place", record=record)
-        return made
+        return degrees
 
     def side(self, text: str, record: int, column: str) -> float:
         if not text.strip():
@@ -167,13 +167,13 @@ def read_table(path: str, called: Columns) -> Points:
     labels = {name: list[str]() for name in others if name not in columns}
     reader, taken = Reader(path, set()), Taken(path, columns)
     for record, (own, latitude, longitude, name, *fields) in rows(path, needed, (*WANTED, *others)):
-        identifier, told = reader.identifier(own, record), dict(zip(others, fields[2:]))
+        identifier, numbers_stated = reader.identifier(own, record), dict(zip(others, fields[2:]))
         sides = [reader.side(text, record, column) for text, column in zip(fields, WANTED[1:])]
         place = (*reader.place(latitude, longitude, record), *sides)
-        numbers = (reader.number(told[column], record, column) for column in columns)
+        numbers = (reader.number(numbers_stated[column], record, column) for column in columns)
         taken.take(identifier, shown(name.strip() or own), place, numbers)
         for column, texts in labels.items():
-            texts.append(shown(told[column]))
+            texts.append(shown(numbers_stated[column]))
     return replace(taken.points(), labels=labels)
 
 
@@ -198,12 +198,12 @@ def read_areas(path: str, called: Columns) -> Points:
     texts = [name for name in frame.columns if frame[name].dtype.kind == "O" and name not in (*NEEDED, *WANTED)]
     reader, taken = Reader(path, set()), Taken(path, kept)
     names = frame["name"] if "name" in frame.columns else frame["id"]
-    sides = [frame[it] if it in frame.columns else [None] * len(frame) for it in WANTED[1:]]
+    sides = [frame[column] if column in frame.columns else [None] * len(frame) for column in WANTED[1:]]
     for place, (own, point, name, *wide) in enumerate(zip(frame["id"], inside, names, *sides)):
         identifier = reader.identifier(text_of(own), place + 1)
         where = reader.place(repr(point.y), repr(point.x), place + 1)
         numbers = [reader.number(text_of(frame[column].iat[place]), place + 1, column) for column in kept]
-        given = [reader.side(text_of(it), place + 1, column) for it, column in zip(wide, WANTED[1:])]
+        given = [reader.side(text_of(side), place + 1, column) for side, column in zip(wide, WANTED[1:])]
         taken.take(identifier, text_of(name) or identifier, (*where, *given), numbers)
     labels = {str(name): [text_of(value) for value in frame[name]] for name in texts}
     areas = areas_of(taken.identifiers, frame.geometry.to_crs(4326))

@@ -27,14 +27,14 @@ LAST = 1 << 50  # ranks of what is found once all records are read
 
 @dataclass(frozen=True)
 class Fault:
-    """What one check of a file finds: the records that fail it, in the order in which `ttm` would tell them."""
+    """What one check of a file finds: the records that fail it, in the order in which `ttm` would report them."""
 
     table: Table
     what: str  # in the words of `ttm`
     column: str  # "" where it is none in particular
     allowed: str
     rows: Whole  # places of records in the table
-    ranks: Whole  # where each stands among all of the file, a lesser one being told first
+    ranks: Whole  # where each stands among all of the file, a lesser one being reported first
     missing: bool = False  # the file isn't there
 
     def __len__(self) -> int:
@@ -122,14 +122,14 @@ def faults_in(feed: Feed, name: str) -> list[Fault]:
         optional = ("calendar_dates.txt", "frequencies.txt", "transfers.txt")
         if name in optional or (name == "calendar.txt" and "calendar_dates.txt" in feed.tables):
             return []
-        told = "the file has to be there" + (", or calendar_dates.txt" if name == "calendar.txt" else "")
-        return [Fault(table, "missing file", "", told, none, none, missing=True)]
+        allowed = "the file has to be there" + (", or calendar_dates.txt" if name == "calendar.txt" else "")
+        return [Fault(table, "missing file", "", allowed, none, none, missing=True)]
     if table.source is not None and table.source.stat().st_size > fields.MOST_BYTES:
         return [Fault(table, TOO_LONG, "", "a file has at most 1,073,741,824 bytes", none, none)]
     lacking = [column for column in FILES[name].needed if column not in table]
     if lacking:
-        told = f"the header has to name {', '.join(lacking)}"
-        return [Fault(table, "missing column", "", told, none, none)]
+        allowed = f"the header has to name {', '.join(lacking)}"
+        return [Fault(table, "missing column", "", allowed, none, none)]
     checks = Checks(table)
     CHECKS[name](feed, checks)
     return [*checks.found, *WHOLE.get(name, lambda *_: iter(()))(feed, table)]
@@ -171,8 +171,8 @@ def check_calendar_dates(_: Feed, checks: Checks) -> None:
     checks.filled("service_id")
     dates(checks, "date")
     kinds = values_of(checks.table["exception_type"], number)
-    told = "it is 1 (the date is added) or 2 (it is removed)"
-    checks.add("exception_type", "bad number", told, ~np.isin(kinds, (1, 2)))
+    allowed = "it is 1 (the date is added) or 2 (it is removed)"
+    checks.add("exception_type", "bad number", allowed, ~np.isin(kinds, (1, 2)))
 
 
 def check_trips(feed: Feed, checks: Checks) -> None:
@@ -231,8 +231,8 @@ def too_many_footpaths(feed: Feed, table: Table) -> Iterator[Fault]:
     """The rows of transfers.txt from that one on with which they make more footpaths than `ttm` takes."""
     if not feed.has_columns("stops.txt"):
         return
-    made = np.where(used_transfers(table), footpaths_of(table, feed.tables["stops.txt"]), 0)
-    rows = np.flatnonzero((np.cumsum(made) > fields.MOST_FOOTPATHS) & (made > 0))
+    footpaths = np.where(used_transfers(table), footpaths_of(table, feed.tables["stops.txt"]), 0)
+    rows = np.flatnonzero((np.cumsum(footpaths) > fields.MOST_FOOTPATHS) & (footpaths > 0))
     if len(rows):
         allowed = f"at most {fields.MOST_FOOTPATHS:,} footpaths, one for each pair of stops of its two ends"
         yield Fault(table, TOO_MANY, "", allowed, rows, LAST + rows)
@@ -259,7 +259,7 @@ def footpaths_of(table: Table, stops: Table) -> Whole:
 
 def whole_trips(feed: Feed, table: Table) -> Iterator[Fault]:
     """The faults of whole trips, trip by trip in the order of trips.txt: ends without a time, and times that go back.
-    A field that is itself a fault isn't told again.
+    A field that is itself a fault isn't reported again.
     """
     trips = names_in(feed, "trips.txt", "trip_id")
     if trips is None:

@@ -48,42 +48,43 @@ class Clip:
         return self.is_region or bool(self.routes or self.agencies or self.days)
 
 
-def clip(feed: Feed, asked: Clip) -> list[str]:
+def clip(feed: Feed, options: Clip) -> list[str]:
     """Leaves out what isn't asked for, and what refers to it; what of which file, a sentence a line. The feed has no
     faults but limits.
     """
     before, counts = there(feed), {name: len(table) for name, table in feed.tables.items()}
     trips = feed.tables["trips.txt"]
-    trips.keep(of_routes(feed, asked) & on_days(feed, asked.days))
-    if asked.is_region:
-        kept = of_region(feed.tables["stops.txt"], asked)
+    trips.keep(of_routes(feed, options) & on_days(feed, options.days))
+    if options.is_region:
+        kept = of_region(feed.tables["stops.txt"], options)
         if not kept.any():
-            raise BadInput(asked.area or "--box", "no stop of the feed lies in it")
+            raise BadInput(options.area or "--box", "no stop of the feed lies in it")
         keep_calls(feed, kept)
         feed.tables["stops.txt"].keep(kept)
     keep_trips(feed)
-    if asked.routes or asked.agencies:
+    if options.routes or options.agencies:
         keep_called(feed)
-    if asked.is_region or asked.routes or asked.agencies:
+    if options.is_region or options.routes or options.agencies:
         named = names_in(feed, "trips.txt", "route_id") or []
         feed.tables["routes.txt"].keep(one_of(feed.tables["routes.txt"]["route_id"], named))
     keep_walks(feed)
     return [left_out_by(feed, list(FILES), counts), *leave_out_references(feed, before)]
 
 
-def of_routes(feed: Feed, asked: Clip) -> Mask:
+def of_routes(feed: Feed, options: Clip) -> Mask:
     """Which trips are of the routes and agencies."""
     routes, trips = feed.tables["routes.txt"], feed.tables["trips.txt"]
-    agencies = agencies_of(feed) if asked.agencies else [""] * len(routes)
+    agencies = agencies_of(feed) if options.agencies else [""] * len(routes)
     kept = routes.texts("route_id")
-    for name, wanted, known in (("route", asked.routes, kept), ("agency", asked.agencies, agencies)):
-        lost = [it for it in wanted if it not in set(known)]
+    for name, wanted, known in (("route", options.routes, kept), ("agency", options.agencies, agencies)):
+        lost = [name for name in wanted if name not in set(known)]
         if lost:
             raise BadInput("routes.txt", f"no {name} {shown(lost[0])}")
     chosen = {
         route
         for route, agency in zip(kept, agencies)
-        if (not asked.routes or route in set(asked.routes)) and (not asked.agencies or agency in set(asked.agencies))
+        if (not options.routes or route in set(options.routes))
+        and (not options.agencies or agency in set(options.agencies))
     }
     return one_of(trips["route_id"], chosen)
 
@@ -93,28 +94,28 @@ def agencies_of(feed: Feed) -> list[str]:
     path = feed.others.get("agency.txt")
     known = [agency for _, (agency,) in rows(path, [], ["agency_id"])] if path else []
     only = known[0] if len(known) == 1 else ""
-    return [it or only for it in feed.tables["routes.txt"].texts("agency_id")]
+    return [text or only for text in feed.tables["routes.txt"].texts("agency_id")]
 
 
-def near(stops: Table, asked: Clip) -> set[str] | None:
+def near(stops: Table, options: Clip) -> set[str] | None:
     """The locations of a region, faults or not; none where no region is asked for, or nothing can be said of it."""
-    if not asked.is_region or "stop_id" not in stops:
+    if not options.is_region or "stop_id" not in stops:
         return None
-    return set(distinct(stops["stop_id"], of_region(stops, asked)))
+    return set(distinct(stops["stop_id"], of_region(stops, options)))
 
 
-def of_region(stops: Table, asked: Clip) -> Mask:
+def of_region(stops: Table, options: Clip) -> Mask:
     """Which locations stay: the stops inside, where a stop without a place is at its station; the stations of these;
     and what belongs to a station or stop that stays.
     """
     kinds = np.maximum(values_of(stops["location_type"], number), 0)
     where = {name: row for row, name in enumerate(stops.texts("stop_id"))}
-    parents = np.array([where.get(it.strip(" "), -1) for it in stops.texts("parent_station")], dtype=np.int64)
+    parents = np.array([where.get(text.strip(" "), -1) for text in stops.texts("parent_station")], dtype=np.int64)
     latitudes, longitudes = places_of(stops)
     lost = np.isnan(latitudes) & (parents >= 0)
-    latitudes, longitudes = (np.where(lost, it[parents], it) for it in (latitudes, longitudes))
+    latitudes, longitudes = (np.where(lost, degrees[parents], degrees) for degrees in (latitudes, longitudes))
     inside = np.zeros(len(stops), dtype=np.bool_)
-    inside[within(latitudes, longitudes, asked)] = True
+    inside[within(latitudes, longitudes, options)] = True
     kept = inside & (kinds == 0)
     stations = np.zeros(len(stops) + 1, dtype=np.bool_)
     stations[parents[kept & (parents >= 0)]] = True
@@ -124,16 +125,16 @@ def of_region(stops: Table, asked: Clip) -> Mask:
     return np.asarray(kept, dtype=np.bool_)
 
 
-def within(latitudes: fields.Floats, longitudes: fields.Floats, asked: Clip) -> fields.Whole:
+def within(latitudes: fields.Floats, longitudes: fields.Floats, options: Clip) -> fields.Whole:
     """Which places lie in the box and the area, their edges too."""
     found = np.flatnonzero(~np.isnan(latitudes))
-    if asked.box is not None:
-        west, south, east, north = asked.box
+    if options.box is not None:
+        west, south, east, north = options.box
         x, y = longitudes[found], latitudes[found]
         across = (x >= west) & (x <= east) if west <= east else (x >= west) | (x <= east)
         found = found[across & (y >= south) & (y <= north)]
-    if asked.area is not None:
-        found = found[in_area(longitudes[found], latitudes[found], asked.area)]
+    if options.area is not None:
+        found = found[in_area(longitudes[found], latitudes[found], options.area)]
     return found
 
 
@@ -143,7 +144,7 @@ def in_area(x: fields.Floats, y: fields.Floats, path: str) -> Mask:
     from shapely.geometry import Point, shape
     from shapely.prepared import prep
 
-    made = np.zeros(len(x), dtype=np.bool_)
+    inside = np.zeros(len(x), dtype=np.bool_)
     for geometry in polygons_of(path):
         try:
             polygon = shape(geometry)
@@ -154,17 +155,17 @@ def in_area(x: fields.Floats, y: fields.Floats, path: str) -> Mask:
             raise BadInput(path, "coordinates that are no degrees", allowed="longitude and latitude, WGS 84")
         near = np.flatnonzero((x >= west) & (x <= east) & (y >= south) & (y <= north))
         ready = prep(polygon)
-        made[near] |= np.array([ready.intersects(Point(x[it], y[it])) for it in near], dtype=np.bool_)
-    return made
+        inside[near] |= np.array([ready.intersects(Point(x[place], y[place])) for place in near], dtype=np.bool_)
+    return inside
 
 
 def polygons_of(path: str) -> list[dict[str, Any]]:
     read = read_json(path, "GeoJSON")
     with as_one_line(path, "is no GeoJSON"):
-        made = list(geometries(read))
-    if not made:
+        polygons = list(geometries(read))
+    if not polygons:
         raise BadInput(path, "no polygon in it", allowed="a GeoJSON Polygon or MultiPolygon, or features of these")
-    return made
+    return polygons
 
 
 def geometries(read: Any) -> Iterator[dict[str, Any]]:
@@ -208,7 +209,7 @@ def write_open_times(feed: Feed, calls: Calls, stays: Mask) -> None:
     arrival, departure = calls.filled()
     table = feed.tables["stop_times.txt"]
     for name, values in (("arrival_time", arrival), ("departure_time", departure)):
-        table.put(name, calls.rows[open_ones], [clock(int(it)) for it in values[open_ones]])
+        table.put(name, calls.rows[open_ones], [clock(int(value)) for value in values[open_ones]])
 
 
 def shift_headways(feed: Feed, calls: Calls, stays: Mask, order: Sequence[str]) -> None:
@@ -224,16 +225,16 @@ def shift_headways(feed: Feed, calls: Calls, stays: Mask, order: Sequence[str]) 
     for start, place in zip(first, found):
         if place < len(staying) and calls.trip[staying[place]] == calls.trip[start]:
             moved[order[calls.trip[start]]] = int(departure[staying[place]] - departure[start])
-    by_row = np.array([moved.get(it, 0) for it in table.texts("trip_id")], dtype=np.int64)
+    by_row = np.array([moved.get(text, 0) for text in table.texts("trip_id")], dtype=np.int64)
     changed = np.flatnonzero(by_row)
     for name in ("start_time", "end_time"):
-        made = values_of(table[name], time)[changed] + by_row[changed]
-        late = changed[made >= 168 * 3600]
+        times = values_of(table[name], time)[changed] + by_row[changed]
+        late = changed[times >= 168 * 3600]
         if len(late):
             raise BadInput(
                 "frequencies.txt", "is past 167:59:59 once calls go", record=int(table.records[late[0]]), column=name
             )
-        table.put(name, changed, [clock(int(it)) for it in made])
+        table.put(name, changed, [clock(int(time)) for time in times])
 
 
 def keep_trips(feed: Feed) -> None:
@@ -254,7 +255,7 @@ def keep_called(feed: Feed) -> None:
     stops = feed.tables["stops.txt"]
     called = one_of(stops["stop_id"], names_in(feed, "stop_times.txt", "stop_id") or [])
     where = {name: row for row, name in enumerate(stops.texts("stop_id"))}
-    parents = np.array([where.get(it.strip(" "), -1) for it in stops.texts("parent_station")], dtype=np.int64)
+    parents = np.array([where.get(text.strip(" "), -1) for text in stops.texts("parent_station")], dtype=np.int64)
     needed = np.zeros(len(stops) + 1, dtype=np.bool_)
     needed[parents[called]] = True
     needed[-1] = False

@@ -16,13 +16,13 @@ def feed_info_of(paths: Sequence[Path | None]) -> Table | None:
     records = [table.rows()[0] for table in tables if len(table)]
     if not records:
         return None
-    made = {name: text for record in reversed(records) for name, text in record.items()}
-    publishers = dict.fromkeys(it for record in records if (it := record.get("feed_publisher_name")))
-    made["feed_publisher_name"] = ", ".join(publishers)
+    info = {name: text for record in reversed(records) for name, text in record.items()}
+    publishers = dict.fromkeys(stated for record in records if (stated := record.get("feed_publisher_name")))
+    info["feed_publisher_name"] = ", ".join(publishers)
     if len({record.get("feed_lang", "") for record in records}) > 1:
-        made["feed_lang"] = MANY
+        info["feed_lang"] = MANY
     for name, chosen in (("feed_start_date", max), ("feed_end_date", min)):
-        days = [it for record in records if date(it := record.get(name, "")) > 0]
-        if name in made:
-            made[name] = chosen(days) if days else ""
-    return table_of(NAME, list(made), [made])
+        days = [stated for record in records if date(stated := record.get(name, "")) > 0]
+        if name in info:
+            info[name] = chosen(days) if days else ""
+    return table_of(NAME, list(info), [info])

@@ -13,27 +13,29 @@ from ..records import shown
 from .likely import PLACES, plain
 from .mends import A_DATE, MENDED, agreed_dates
 from .repair import Repair
-from .report import Change
+from .report import Repaired
 
 
 def mend_columns(repair: Repair, table: Table) -> None:
     """Rule `column`: a column that is read has its name again where only capitals, spaces or signs differ."""
     layout = FILES[table.name]
     right = (*layout.needed, *layout.taken, *(PLACES if table.name == "stops.txt" else ()))
-    lacking = {plain(it): it for it in right if it not in table}
+    lacking = {plain(column): column for column in right if column not in table}
     names = {name: lacking.pop(plain(name), name) if name not in right else name for name in table.columns}
     for old, new in names.items():
         if old != new:
-            repair.changes.append(Change(repair.label + table.name, 1, new, old, "column", f"now {new}"))
+            repair.changes.append(Repaired(repair.label + table.name, 1, new, old, "column", f"now {new}"))
             table.source = None
-    table.frame = table.frame.rename(columns=names, copy=False)
+    table.rename(names)
 
 
 def mend_texts(repair: Repair, table: Table) -> None:
     """Rule `text`: what isn't UTF-8, but for identifiers, which are bytes, is read as Windows-1252."""
     for name in table.columns:
         if not name.endswith("_id") and name != "parent_station":
-            repair.put_for(table, name, "text", {it: shown(it) for it in table[name].categories if shown(it) != it})
+            repair.put_for(
+                table, name, "text", {text: shown(text) for text in table[name].categories if shown(text) != text}
+            )
 
 
 def mend_fields(repair: Repair, table: Table) -> None:
@@ -43,8 +45,8 @@ def mend_fields(repair: Repair, table: Table) -> None:
     agreed = agreed_dates([text for name in names if MENDED[name] is A_DATE for text in used(table[name])])
     for name in names:
         rule, read, mend = MENDED[name]
-        wrong = [it for it in table[name].categories if read(it) == fields.NONE]
-        right = {it: made_text for it in wrong if (made_text := mend(it)) is not None and read(made_text) >= 0}
+        wrong = [text for text in table[name].categories if read(text) == fields.NONE]
+        right = {text: made_text for text in wrong if (made_text := mend(text)) is not None and read(made_text) >= 0}
         repair.put_for(table, name, rule, {**(agreed if MENDED[name] is A_DATE else {}), **right})
 
 
@@ -52,7 +54,9 @@ def mend_names(repair: Repair, table: Table) -> None:
     """Rule `spaces`: an identifier that is known without the spaces round it."""
     feed = repair.feed
     stops = names_in(feed, "stops.txt", "stop_id") or []
-    services = dict.fromkeys(it for name in ("calendar.txt", "calendar_dates.txt") for it in services_in(feed, name))
+    services = dict.fromkeys(
+        service for name in ("calendar.txt", "calendar_dates.txt") for service in services_in(feed, name)
+    )
     named: dict[str, dict[str, Iterable[str]]] = {
         "trips.txt": {"route_id": names_in(feed, "routes.txt", "route_id") or [], "service_id": services},
         "stop_times.txt": {"trip_id": names_in(feed, "trips.txt", "trip_id") or [], "stop_id": stops},
@@ -62,8 +66,10 @@ def mend_names(repair: Repair, table: Table) -> None:
     for column, names in named.get(table.name, {}).items():
         known = set(names)
         bare = {name.strip(): name for name in reversed(list(names))}
-        lost = [it for it in table[column].categories if it not in known and it.strip() in bare and it.strip()]
-        repair.put_for(table, column, "spaces", {it: bare[it.strip()] for it in lost})
+        lost = [
+            text for text in table[column].categories if text not in known and text.strip() in bare and text.strip()
+        ]
+        repair.put_for(table, column, "spaces", {name: bare[name.strip()] for name in lost})
 
 
 def services_in(feed: Feed, name: str) -> list[str]:
@@ -78,7 +84,7 @@ def mend_stations(repair: Repair, table: Table) -> None:
         return
     stops = repair.feed.tables["stops.txt"]
     kinds, known = values_of(stops["location_type"], number), set(stops_of(repair.feed) or [])
-    identifiers, parents = stops.texts("stop_id"), [it.strip(" ") for it in stops.texts("parent_station")]
+    identifiers, parents = stops.texts("stop_id"), [text.strip(" ") for text in stops.texts("parent_station")]
     children: dict[str, str] = {}
     for name, parent in zip(identifiers, parents):
         if name in known:

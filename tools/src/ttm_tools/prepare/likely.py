@@ -22,8 +22,8 @@ WEEK = ("Mondays", "Tuesdays", "Wednesdays", "Thursdays", "Fridays", "Saturdays"
 PLACES = ("stop_lat", "stop_lon", "stop_name")
 
 
-def told(feed: Feed, with_days: bool = True) -> Iterator[str]:
-    """What is told of a feed beside its faults; its days where it has none."""
+def sentences(feed: Feed, with_days: bool = True) -> Iterator[str]:
+    """What is reported of a feed beside its faults; its days where it has none."""
     yield from misspelt(feed)
     if feed.has_columns("stops.txt"):
         yield from unplaced(feed.tables["stops.txt"])
@@ -45,11 +45,11 @@ def misspelt(feed: Feed) -> Iterator[str]:
     """Columns whose names are nearly those that are read, where the right ones aren't there."""
     for name, table in feed.tables.items():
         right = (*FILES[name].needed, *FILES[name].taken, *(PLACES if name == "stops.txt" else ()))
-        lacking = [it for it in right if it not in table]
+        lacking = [column for column in right if column not in table]
         for column in table.columns:
             near = difflib.get_close_matches(plain(column), map(plain, lacking), 1, 0.85) if column not in right else []
             if near:
-                meant = next(it for it in lacking if plain(it) == near[0])
+                meant = next(column for column in lacking if plain(column) == near[0])
                 yield f"{name}: the column {column!r} isn't read; {meant} is meant?"
 
 
@@ -59,8 +59,8 @@ def plain(name: str) -> str:
 
 def places_of(table: Table) -> tuple[fields.Floats, fields.Floats]:
     """Latitudes and longitudes of all locations, NaN where one has no place."""
-    made = np.array(list(map(place_of, table.texts("stop_lat"), table.texts("stop_lon"))), np.float64).reshape(-1, 2)
-    return made[:, 0], made[:, 1]
+    places = np.array(list(map(place_of, table.texts("stop_lat"), table.texts("stop_lon"))), np.float64).reshape(-1, 2)
+    return places[:, 0], places[:, 1]
 
 
 def unplaced(table: Table) -> Iterator[str]:
@@ -102,7 +102,7 @@ def of_days(feed: Feed) -> Iterator[str]:
     weekday = (days.first + covered - 1) % 7
     counts = [runs[covered][weekday == day] for day in range(7)]
     yield "runs on " + ", ".join(
-        f"{name} {int(np.median(it)):,}" for name, it in zip(WEEK, counts) if len(it)
+        f"{name} {int(np.median(count)):,}" for name, count in zip(WEEK, counts) if len(count)
     ) + " (medians)"
 
 
@@ -125,7 +125,7 @@ def too_fast(table: Table, stops: Table, calls: Calls) -> Iterator[str]:
     """Calls that a vehicle reaches at more than 300 km/h; a minute at least is taken for each way, as times are often
     in whole minutes.
     """
-    latitudes, longitudes = (np.radians(np.append(it, np.nan)) for it in places_of(stops))
+    latitudes, longitudes = (np.radians(np.append(degrees, np.nan)) for degrees in places_of(stops))
     known = {stop: row for row, stop in reversed(list(enumerate(stops.texts("stop_id"))))}
     place = positions_of(table["stop_id"], known)[calls.rows]
     follows = np.flatnonzero(calls.timed & (calls.before >= 0))

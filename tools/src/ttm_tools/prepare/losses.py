@@ -12,7 +12,7 @@ from ..gtfs.service_days import days_of, on_days, runs_by_day, runs_of_trips
 from . import likely
 from .check import check
 from .repair import repair
-from .report import Change
+from .report import Repaired
 
 MOST_LOST = 0.1  # of a file's records, that one rule may leave out
 CALENDARS = ("calendar.txt", "calendar_dates.txt")
@@ -33,17 +33,17 @@ def left(before: Mapping[str, int], feed: Feed) -> str:
     return "records left: " + ", ".join(f"{name} {after[name]:,} of {count:,}" for name, count in before.items())
 
 
-def taken(changes: Sequence[Change]) -> dict[tuple[str, str], int]:
+def taken(changes: Sequence[Repaired]) -> dict[tuple[str, str], int]:
     """How many records each rule left out of each file."""
-    made: dict[tuple[str, str], int] = {}
+    counts: dict[tuple[str, str], int] = {}
     for change in changes:
         whole = "trips.txt" if change.done.startswith("trip ") else change.file.rpartition("/")[2]
         if change.done.endswith("left out") and change.rule != NO_LOSS:
-            made[change.rule, whole] = made.get((change.rule, whole), 0) + 1
-    return made
+            counts[change.rule, whole] = counts.get((change.rule, whole), 0) + 1
+    return counts
 
 
-def losses(before: Mapping[str, int], changes: Sequence[Change], feed: Feed) -> Iterator[str]:
+def losses(before: Mapping[str, int], changes: Sequence[Repaired], feed: Feed) -> Iterator[str]:
     """Why what a repair leaves isn't the feed any more: a file that is empty, or a rule that took a lot of one."""
     for (rule, name), count in taken(changes).items():
         if count > MOST_LOST * before[name]:
@@ -56,7 +56,7 @@ def losses(before: Mapping[str, int], changes: Sequence[Change], feed: Feed) -> 
 
 
 def no_runs(feed: Feed, day: datetime.date | None = None) -> str | None:
-    """What is told where no trip runs: on a day, or on any."""
+    """What is reported where no trip runs: on a day, or on any."""
     days = days_of(feed)
     busy = np.flatnonzero(runs_by_day(feed, days)).tolist()
     if day is None:
@@ -68,11 +68,9 @@ def no_runs(feed: Feed, day: datetime.date | None = None) -> str | None:
     )
 
 
-def told(feed: Feed, has_faults: bool) -> Iterator[str]:
-    """What is told of a feed beside its faults; where it has some, the feed is mended, and its days are those that this
-    leaves.
-    """
-    yield from likely.told(feed, with_days=not has_faults)
+def sentences(feed: Feed, has_faults: bool) -> Iterator[str]:
+    """What is reported of a feed beside its faults; where it has some, its days are those that a repair leaves."""
+    yield from likely.sentences(feed, with_days=not has_faults)
     if not has_faults:
         return
     before = counts_of(feed)
@@ -83,15 +81,15 @@ def told(feed: Feed, has_faults: bool) -> Iterator[str]:
     yield from (f"after --repair: {line}" for line in lines)
 
 
-def refuse_losses(path: str, before: Mapping[str, int], changes: Sequence[Change], feed: Feed) -> None:
+def refuse_losses(path: str, before: Mapping[str, int], changes: Sequence[Repaired], feed: Feed) -> None:
     """Ends a repair that takes a lot of a feed, or leaves nothing that runs."""
-    told = [*losses(before, changes, feed), *filter(None, [no_runs(feed)])]
-    if told:
-        raise BadInput(path, f"{'; '.join(told)} {HELP}")
+    sentences = [*losses(before, changes, feed), *filter(None, [no_runs(feed)])]
+    if sentences:
+        raise BadInput(path, f"{'; '.join(sentences)} {HELP}")
 
 
 def refuse_day(path: str, feed: Feed, day: datetime.date | None) -> None:
     """Ends where no trip runs on the day of the departures."""
-    told = no_runs(feed, day) if day is not None else None
-    if told:
-        raise BadInput(path, f"{told} {HELP}")
+    sentence = no_runs(feed, day) if day is not None else None
+    if sentence:
+        raise BadInput(path, f"{sentence} {HELP}")

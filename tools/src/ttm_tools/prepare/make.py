@@ -21,7 +21,7 @@ from .likely import of_days
 from .losses import counts_of, left, no_runs, refuse_day, refuse_losses
 from .merge import merge
 from .repair import repair
-from .report import CHANGE_COLUMNS, Change, fault_lines
+from .report import CHANGE_COLUMNS, Repaired, fault_lines
 
 MOST_RUNS = 1_000_000
 PREPARED = "prepared.csv"
@@ -34,8 +34,8 @@ HELP, HELP_AFTER = "--check tells all, --repair mends what rules can", "--check 
 
 
 @dataclass(frozen=True)
-class Asked:
-    """What is asked of a feed that is made ready."""
+class PrepareOptions:
+    """What is made ready, and how."""
 
     paths: Sequence[str]  # zip files or folders
     out: str  # the folder that is written
@@ -46,45 +46,45 @@ class Asked:
     same_clock: bool = False  # whether feeds of several time zones are merged
 
 
-def make(asked: Asked, room: Path) -> list[str]:
+def make(options: PrepareOptions, room: Path) -> list[str]:
     """Writes the folder, and says what was done, a sentence a line."""
-    is_free(Path(asked.out))
-    changes, lines, feeds = list[Change](), list[str](), list[Feed]()
-    for number, path in enumerate(asked.paths):
-        feed = read_feed(path, room / str(number), lambda stops: near(stops, asked.clip))
+    is_free(Path(options.out))
+    changes, lines, feeds = list[Repaired](), list[str](), list[Feed]()
+    for number, path in enumerate(options.paths):
+        feed = read_feed(path, room / str(number), lambda stops: near(stops, options.clip))
         before = counts_of(feed)
-        found = repair(feed, f"{feed.name}/" if len(asked.paths) > 1 else "") if asked.mends else []
-        done = sorted(found, key=lambda it: (ORDER[it.file.rpartition("/")[2]], it.record))
-        refuse_faults(path, feed, HELP_AFTER if asked.mends else HELP)
-        if done and not asked.allows_loss:
+        found = repair(feed, f"{feed.name}/" if len(options.paths) > 1 else "") if options.mends else []
+        done = sorted(found, key=lambda fault: (ORDER[fault.file.rpartition("/")[2]], fault.record))
+        refuse_faults(path, feed, HELP_AFTER if options.mends else HELP)
+        if done and not options.allows_loss:
             refuse_losses(path, before, done, feed)
         changes += done
         lines += [*mended_lines(done), *([left(before, feed)] if done else [])]
         feeds.append(feed)
-    feed, merged = merge(feeds, asked.same_clock) if len(feeds) > 1 else (feeds[0], [])
+    feed, merged = merge(feeds, options.same_clock) if len(feeds) > 1 else (feeds[0], [])
     lines += [*merged, *(of_days(feed) if changes else [])]
-    if not asked.allows_loss:
-        refuse_day(asked.paths[0] if len(feeds) == 1 else "the feeds", feed, asked.day)
-    if asked.clip.is_any:
-        lines += clip(feed, asked.clip)
-        refuse_empty(asked, feed)
+    if not options.allows_loss:
+        refuse_day(options.paths[0] if len(feeds) == 1 else "the feeds", feed, options.day)
+    if options.clip.is_any:
+        lines += clip(feed, options.clip)
+        refuse_empty(options, feed)
     refuse_limits(feed)
-    with many_written_aside(asked.out) as folder:
+    with many_written_aside(options.out) as folder:
         write_feed(feed, folder)
         with open(folder / PREPARED, "wb") as file:
             write_rows(file, CHANGE_COLUMNS, [change.row() for change in changes])
-    return [*lines, *run_lines(feed, asked.clip.days), counted(asked.out, feed)]
+    return [*lines, *run_lines(feed, options.clip.days), counted(options.out, feed)]
 
 
-def refuse_empty(asked: Asked, feed: Feed) -> None:
+def refuse_empty(options: PrepareOptions, feed: Feed) -> None:
     """Ends where no trip of what was clipped runs on the day of the departures."""
-    found = None if asked.allows_loss or asked.day is None else no_runs(feed, asked.day)
+    found = None if options.allows_loss or options.day is None else no_runs(feed, options.day)
     if found:
-        raise BadInput(asked.out, f"clipped to nothing that runs: {found} (--allow-loss takes what is left)")
+        raise BadInput(options.out, f"clipped to nothing that runs: {found} (--allow-loss takes what is left)")
 
 
 def refuse_faults(path: str, feed: Feed, help: str) -> None:
-    """Tells the first fault of a feed, limits aside, and how many there are."""
+    """Reports the first fault of a feed, limits aside, and how many there are."""
     faults = [fault for fault in check(feed) if not fault.is_limit]
     if faults:
         first = next(fault_lines(faults)).removeprefix("ttm: ")
@@ -93,13 +93,13 @@ def refuse_faults(path: str, feed: Feed, help: str) -> None:
 
 
 def refuse_limits(feed: Feed) -> None:
-    """Tells a file that is longer than `ttm` takes."""
+    """Refuses a file that is longer than `ttm` takes."""
     for fault in check(feed):
         name = fault.table.name
         raise BadInput(name, f"{len(feed.tables[name]):,} records; ttm takes {fault.allowed}; {LESS[name]}")
 
 
-def mended_lines(changes: Sequence[Change]) -> list[str]:
+def mended_lines(changes: Sequence[Repaired]) -> list[str]:
     """How often each rule was applied, and what it did."""
     counts: dict[tuple[str, str, str], int] = {}
     for change in changes:
@@ -119,12 +119,12 @@ def run_lines(feed: Feed, days: Sequence[datetime.date]) -> Iterator[str]:
     calls = np.bincount(positions_of(table["trip_id"], names) + 1, minlength=len(names) + 1)[1:]
     on = np.sum([on_days(feed, [day]) for day in days], axis=0, dtype=np.int64)
     total, events = int(on @ runs), int(on @ (runs * calls))
-    told = f"runs from {days[0]} to {days[-1]}: {total:,} with {events:,} stop times"
+    sentence = f"runs from {days[0]} to {days[-1]}: {total:,} with {events:,} stop times"
     most = f"{MOST_RUNS:,} and {fields.MOST_STOP_TIMES:,}"
     few = total <= MOST_RUNS and events <= fields.MOST_STOP_TIMES
-    yield told if few else f"{told}, of which ttm takes {most}; fewer by --back 0 --ahead 0, or by a region"
+    yield sentence if few else f"{sentence}, of which ttm takes {most}; fewer by --back 0 --ahead 0, or by a region"
 
 
 def counted(out: str, feed: Feed) -> str:
     names = {"stops.txt": "stops and stations", "trips.txt": "trips", "stop_times.txt": "stop times"}
-    return f"{out}: " + ", ".join(f"{len(feed.get(name)):,} {told}" for name, told in names.items())
+    return f"{out}: " + ", ".join(f"{len(feed.get(name)):,} {noun}" for name, noun in names.items())

@@ -46,15 +46,15 @@ def date_of(text: str, reading: str) -> str | None:
     if found is None or reading not in READINGS[found[2]]:
         return None
     day, month = (found[1], found[3]) if reading == "dmy" else (found[3], found[1])
-    made = f"{found[4]}{int(month):02}{int(day):02}"
-    return made if date(made) >= 0 else None
+    agreed = f"{found[4]}{int(month):02}{int(day):02}"
+    return agreed if date(agreed) >= 0 else None
 
 
 def agreed_dates(texts_of_dates: Sequence[str]) -> dict[str, str]:
     """Dates with the year last, by the one reading on which all agree; none where there are two or none."""
     loose = [text for text in texts_of_dates if YEAR_LAST.fullmatch(text.strip())]
-    made = [{text: date_of(text, reading) for text in loose} for reading in ("dmy", "mdy")]
-    whole = [{text: it for text, it in by.items() if it is not None} for by in made]
+    readings = [{text: date_of(text, reading) for text in loose} for reading in ("dmy", "mdy")]
+    whole = [{text: date for text, date in by.items() if date is not None} for by in readings]
     fitting = [by for by in whole if len(by) == len(set(loose))]
     return fitting[0] if fitting and all(by == fitting[0] for by in fitting) else {}
 

@@ -14,7 +14,7 @@ from ..gtfs.tables import Table, joined, read_table
 from ..records import shown
 from .feed_info import feed_info_of
 
-ALSO = (  # beside what `ttm` reads, files that are merged; all others are left out, and told
+ALSO = (  # beside what `ttm` reads, files that are merged; all others are left out, and reported
     *("agency.txt", "shapes.txt", "fare_attributes.txt", "fare_rules.txt", "pathways.txt", "levels.txt"),
     *("translations.txt", "attributions.txt", "areas.txt", "stop_areas.txt", "networks.txt", "route_networks.txt"),
 )
@@ -31,20 +31,20 @@ def merge(feeds: Sequence[Feed], same_clock: bool = False) -> tuple[Feed, list[s
     refuse_clocks(feeds, same_clock)
     lines += left_out(feeds)
     info = feed_info_of([feed.others.get(INFO) for feed in feeds])
-    made = feeds[0]
-    lines += name_agency(made)
+    merged = feeds[0]
+    lines += name_agency(merged)
     for feed in feeds[1:]:
         lines += name_agency(feed)
-        prefix = f"{free_name(feed.name, made)}:"
-        collided = [kind for kind in KINDS if identifiers(made, kind) & identifiers(feed, kind) - {""}]
+        prefix = f"{free_name(feed.name, merged)}:"
+        collided = [kind for kind in KINDS if identifiers(merged, kind) & identifiers(feed, kind) - {""}]
         for kind in collided:
             add_prefix(feed, kind, prefix)
             lines.append(f"{feed.name}: each {kind}'s identifier begins with {prefix}")
-        made = Feed(made.name, all_joined(made, feed))
-    made.others = {}
+        merged = Feed(merged.name, all_joined(merged, feed))
+    merged.others = {}
     if info is not None:
-        made.tables[INFO] = info
-    return made, lines
+        merged.tables[INFO] = info
+    return merged, lines
 
 
 def read_also(feed: Feed) -> None:
@@ -55,19 +55,19 @@ def read_also(feed: Feed) -> None:
 
 
 def refuse_clocks(feeds: Sequence[Feed], same_clock: bool) -> None:
-    """Tells feeds of different time zones, whose times aren't those of one clock."""
+    """Refuses feeds of different time zones, whose times aren't those of one clock."""
     zones: dict[str, str] = {}
     for feed in feeds:
-        zones |= {it.strip(): feed.name for it in feed.get("agency.txt").texts("agency_timezone") if it.strip()}
+        zones |= {text.strip(): feed.name for text in feed.get("agency.txt").texts("agency_timezone") if text.strip()}
     if len(zones) > 1 and not same_clock:
-        told = ", ".join(f"{shown(zone)} ({name})" for zone, name in zones.items())
-        raise BadInput("agency.txt", f"the feeds have several time zones, {told}: {HELP}")
+        zones_stated = ", ".join(f"{shown(zone)} ({name})" for zone, name in zones.items())
+        raise BadInput("agency.txt", f"the feeds have several time zones, {zones_stated}: {HELP}")
 
 
 def left_out(feeds: Sequence[Feed]) -> list[str]:
     """Which files of the feeds are left out."""
-    told = [f"{feed.name}/{name}" for feed in feeds for name in sorted(feed.others) if name not in (*ALSO, INFO)]
-    return [f"left out, since no rule merges them: {', '.join(told)}"] if told else []
+    names = [f"{feed.name}/{name}" for feed in feeds for name in sorted(feed.others) if name not in (*ALSO, INFO)]
+    return [f"left out, since no rule merges them: {', '.join(names)}"] if names else []
 
 
 def name_agency(feed: Feed) -> list[str]:
@@ -81,22 +81,22 @@ def name_agency(feed: Feed) -> list[str]:
     name, count = own or feed.name, 0
     for file in OF_AGENCIES:
         if file in feed.tables:
-            empty = np.array([row for row, it in enumerate(feed.tables[file].texts("agency_id")) if not it.strip()])
+            empty = np.array([row for row, text in enumerate(feed.tables[file].texts("agency_id")) if not text.strip()])
             feed.tables[file].put("agency_id", empty.astype(np.intp), [name] * len(empty))
             count += len(empty)
     return [f"{feed.name}: {count:,} records name its agency, {shown(name)}"] if count else []
 
 
-def free_name(name: str, made: Feed) -> str:
+def free_name(name: str, merged: Feed) -> str:
     """The name of a feed, with a number where identifiers begin with it already."""
-    known = [text for kind in KINDS for text in identifiers(made, kind)]
+    known = [text for kind in KINDS for text in identifiers(merged, kind)]
     names = [name, *(f"{name}{number}" for number in range(2, 2 + len(known)))]
-    return next(it for it in names if not any(text.startswith(f"{it}:") for text in known))
+    return next(name for name in names if not any(text.startswith(f"{name}:") for text in known))
 
 
 def add_prefix(feed: Feed, kind: str, prefix: str) -> None:
     for table in feed.tables.values():
-        rename(table, kind, lambda it: prefix + it)
+        rename(table, kind, lambda name: prefix + name)
 
 
 def all_joined(first: Feed, second: Feed) -> dict[str, Table]:

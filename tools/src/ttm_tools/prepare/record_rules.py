@@ -24,7 +24,9 @@ LEFT_OUT = {
 
 def mend_faults(repair: Repair, table: Table) -> None:
     """Empties the fields, or leaves out the records, that are still refused."""
-    while faults := [it for it in faults_in(repair.feed, table.name) if len(it.rows) and is_of_a_record(it)]:
+    while faults := [
+        fault for fault in faults_in(repair.feed, table.name) if len(fault.rows) and is_of_a_record(fault)
+    ]:
         fault = faults[0]
         rows = np.asarray(fault.rows, dtype=np.intp)
         if fault.column in OPTIONAL:
@@ -54,10 +56,10 @@ def leave_out_repeats(repair: Repair, table: Table, rows: Rows, column: str) -> 
     for row in maybe:
         first.setdefault(key_of(table, keys, int(row)), int(row))
     firsts = [first[key_of(table, keys, int(row))] for row in rows]
-    same = np.array([all(it[a] == it[b] for it in columns) for a, b in zip(rows, firsts)], dtype=np.bool_)
+    same = np.array([all(column[a] == column[b] for column in columns) for a, b in zip(rows, firsts)], dtype=np.bool_)
     repair.leave_out_both(table, rows, column, same, ("same", "duplicate"))
 
 
 def key_of(table: Table, keys: Sequence[str], row: int) -> tuple[object, ...]:
-    """What tells a record from others: its identifier, or its trip and its number along it."""
-    return tuple(number(table.text(it, row)) if it == "stop_sequence" else table.text(it, row) for it in keys)
+    """What distinguishes a record from others: its identifier, or its trip and its number along it."""
+    return tuple(number(table.text(key, row)) if key == "stop_sequence" else table.text(key, row) for key in keys)

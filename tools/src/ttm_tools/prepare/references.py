@@ -55,8 +55,8 @@ def leave_out_references(feed: Feed, before: There) -> list[str]:
             feed.tables[name] = table
             del feed.others[name]
     counts |= leave_out_fares(feed)
-    told = ", ".join(f"{name} {count:,} records" for name, count in counts.items() if count)
-    return [*lines, *([f"left out with what they name: {told}"] if told else [])]
+    counts_stated = ", ".join(f"{name} {count:,} records" for name, count in counts.items() if count)
+    return [*lines, *([f"left out with what they name: {counts_stated}"] if counts_stated else [])]
 
 
 def named_still(table: Table, gone: Gone, feed: Feed) -> Mask:
@@ -97,5 +97,5 @@ def leave_out_fares(feed: Feed) -> dict[str, int]:
 def left_out_by(feed: Feed, names: Sequence[str], counts: Mapping[str, int]) -> str:
     """How many records of some files were left out."""
     lost = {name: counts[name] - len(feed.get(name)) for name in names if name in counts}
-    told = [f"{name} {count:,} of {counts[name]:,}" for name, count in lost.items() if count]
-    return f"left out: {', '.join(told)}" if told else "nothing is left out"
+    counts_stated = [f"{name} {count:,} of {counts[name]:,}" for name, count in lost.items() if count]
+    return f"left out: {', '.join(counts_stated)}" if counts_stated else "nothing is left out"

@@ -11,7 +11,7 @@ from ..gtfs.columns import one_of, texts_at
 from ..gtfs.feeds import Feed
 from ..gtfs.fields import FILES
 from ..gtfs.tables import Table
-from .report import Change
+from .report import Repaired
 from .rules import RULES
 
 Rows = npt.NDArray[np.intp]
@@ -23,7 +23,7 @@ class Repair:
 
     feed: Feed
     label: str = ""  # before the names of files, where there are several feeds
-    changes: list[Change] = field(default_factory=list)
+    changes: list[Repaired] = field(default_factory=list)
     gone: set[str] = field(default_factory=set)  # trips that were removed
 
     def note(self, table: Table, rows: Rows, column: str, rule: str, done: Sequence[str]) -> None:
@@ -31,7 +31,7 @@ class Repair:
         values = texts_at(table[column], table[column].codes[rows]) if column else [""] * len(rows)
         file, records = self.label + table.name, table.records[rows].tolist()
         self.changes += [
-            Change(file, record, column, *what) for record, *what in zip(records, values, [rule] * len(rows), done)
+            Repaired(file, record, column, *what) for record, *what in zip(records, values, [rule] * len(rows), done)
         ]
 
     def put(self, table: Table, column: str, rows: Rows, texts: Sequence[str], rule: str) -> None:
@@ -76,7 +76,7 @@ class Repair:
             part.keep(~one_of(part["trip_id"], why))
 
 
-def repair(feed: Feed, label: str = "") -> list[Change]:
+def repair(feed: Feed, label: str = "") -> list[Repaired]:
     """Repairs a feed, and gives what was done."""
     repaired = Repair(feed, label)
     for table in feed.tables.values():

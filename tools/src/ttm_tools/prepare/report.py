@@ -13,7 +13,7 @@ FEW = 8
 
 
 @dataclass(frozen=True)
-class Change:
+class Repaired:
     """A rule applied to a record."""
 
     file: str
@@ -28,7 +28,7 @@ class Change:
 
 
 def escaped(text: str) -> str:
-    """A text in UTF-8: bytes that aren't are read as Windows-1252, and what no file can hold is told by its number."""
+    """A text in UTF-8: bytes that aren't are read as Windows-1252, and what no file can hold is shown by its number."""
     return shown(text).encode("utf-8", "backslashreplace").decode("utf-8")
 
 
@@ -44,24 +44,24 @@ def fault_lines(faults: Sequence[Fault]) -> Iterator[str]:
         yield fault.line()
         value = fault.value()
         found = f'column {fault.column} is "{one_line(shown(value))}"; ' if value is not None else ""
-        often = f"; {len(fault):,} times: records {records_told(fault)}" if len(fault) > 1 else ""
+        often = f"; {len(fault):,} times: records {records_shown(fault)}" if len(fault) > 1 else ""
         yield f"  {found}{fault.allowed}{often}"
 
 
-def records_told(fault: Fault) -> str:
-    """The first of the records, in the order in which they would be told."""
-    told = ", ".join(map(str, fault.records[:FEW].tolist()))
-    return told + (", .." if len(fault) > FEW else "")
+def records_shown(fault: Fault) -> str:
+    """The first of the records, in the order in which they would be reported."""
+    records = ", ".join(map(str, fault.records[:FEW].tolist()))
+    return records + (", .." if len(fault) > FEW else "")
 
 
 def fault_rows(faults: Sequence[Fault]) -> Iterator[list[object]]:
-    """Every single fault, file by file in the order in which `ttm` would tell them."""
+    """Every single fault, file by file in the order in which `ttm` would report them."""
     files = list(dict.fromkeys(fault.table.name for fault in faults))
     for name in files:
         some = [fault for fault in faults if fault.table.name == name]
-        which = np.concatenate([np.full(len(it), place) for place, it in enumerate(some)])
-        within = np.concatenate([np.arange(len(it)) for it in some])
-        ranks = np.concatenate([it.ranks if len(it.ranks) else np.full(1, -1) for it in some])
+        which = np.concatenate([np.full(len(fault), place) for place, fault in enumerate(some)])
+        within = np.concatenate([np.arange(len(fault)) for fault in some])
+        ranks = np.concatenate([fault.ranks if len(fault.ranks) else np.full(1, -1) for fault in some])
         for place in np.argsort(ranks, kind="stable"):
             fault, row = some[which[place]], int(within[place])
             record = "" if fault.missing else int(fault.records[row])

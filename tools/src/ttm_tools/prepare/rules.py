@@ -2,8 +2,7 @@
 module, so that `--help` needs no package.
 
 Fields are repaired first, in all files; then, file by file in the order of `ttm`, so that what refers to a removed
-record is found in turn, identifiers, what is still refused, and whole trips. `--help` and the table of
-docs/howto/feed.md come from these entries.
+record is found in turn, identifiers, what is still refused, and whole trips. `--help` lists these entries.
 """
 
 import textwrap
@@ -100,7 +99,9 @@ def help_table() -> str:
     """The rules as `--help` lists them."""
     lines = list[str]()
     for rule in RULES:
-        columns = [rule.name], *(textwrap.wrap(it.replace("`", ""), of) for it, of in zip(texts_of(rule), WIDTHS[1:]))
+        columns = [rule.name], *(
+            textwrap.wrap(text.replace("`", ""), of) for text, of in zip(texts_of(rule), WIDTHS[1:])
+        )
         for row in range(max(map(len, columns))):
             cells = [column[row] if row < len(column) else "" for column in columns]
             lines.append("  " + "  ".join(cell.ljust(width) for cell, width in zip(cells, WIDTHS)).rstrip())
@@ -109,9 +110,3 @@ def help_table() -> str:
 
 def texts_of(rule: Rule) -> tuple[str, str]:
     return rule.finds, rule.does
-
-
-def markdown_table() -> str:
-    """The rules as docs/howto/feed.md lists them."""
-    rows = [f"| `{rule.name}` | {rule.finds} | {rule.does} |" for rule in RULES]
-    return "\n".join(["| Rule | What it finds | What it does |", "|---|---|---|", *rows])

@@ -27,11 +27,11 @@ def cache_folder() -> Path:
 
 def key_of(*parts: object) -> str:
     """The checksum of what an entry is made from."""
-    made = hashlib.sha256()
+    digest = hashlib.sha256()
     for part in (FORM, __version__, *parts):
         text = part if isinstance(part, bytes) else str(part).encode("utf-8", "surrogateescape")
-        made.update(str(len(text)).encode() + b":" + text)
-    return made.hexdigest()[:32]
+        digest.update(str(len(text)).encode() + b":" + text)
+    return digest.hexdigest()[:32]
 
 
 def sum_of_source(path: str) -> str:
@@ -39,8 +39,8 @@ def sum_of_source(path: str) -> str:
     if not os.path.isdir(path):
         regular(path)
         return sum_of(path)
-    files: Iterable[Path] = sorted(it for it in Path(path).rglob("*") if it.is_file())
-    return key_of(*[text for it in files for text in (it.relative_to(path), sum_of(it))])
+    files: Iterable[Path] = sorted(file for file in Path(path).rglob("*") if file.is_file())
+    return key_of(*[text for file in files for text in (file.relative_to(path), sum_of(file))])
 
 
 def kept(kind: str, key: str, make: Callable[[Path], None]) -> Path:

@@ -3,25 +3,29 @@
 import contextlib
 import csv
 import datetime
-from dataclasses import dataclass
+from dataclasses import dataclass, replace
+from functools import cached_property, partial
 from pathlib import Path
 from typing import Iterator, Sequence
 
 import numpy as np
 import numpy.typing as npt
 
-from ..gtfs.stops import Stops
+from ..files import remove
 from ..network import Network
 from ..points import study
+from ..records import rows
 from ..threads import processors
-from ..walks import Walks, points_of
+from ..walks import points_of
 from ..walks.counting import TooManyWalks
-from ..walks.streets import Ends, street_walks
+from ..walks.streets import street_walks
 from ..walks.ways import Ways
 from .cache import kept, key_of
+from .long_walks import ALIGHTS, LongWalks, reached_directly
 from .network import Prepared, TransportNetwork
-from .places import GRID, Places
+from .places import GRID, FramePlaces
 from .refusals import NotAvailable
+from .split import LONGEST
 from .task import NEAR, RegionalTask
 
 Seconds = npt.NDArray[np.float64]  # NaN where a place isn't reached
@@ -36,9 +40,25 @@ class Doors:
     key: str
     walk: int  # the longest walk, seconds
 
+    @cached_property
+    def ends(self) -> tuple[Sequence[str], Sequence[str]]:
+        """The stops that are origins, and those that are destinations."""
+        return stops_in(self.folder / "origins.csv"), stops_in(self.folder / "destinations.csv")
+
+    @cached_property
+    def direct(self) -> Seconds | None:
+        """The walks from origins to destinations, where `ttm` doesn't have them."""
+        return reached_directly(self.folder)
+
+    @cached_property
+    def alights(self) -> dict[str, str]:
+        """Of each stop where you alight the one where you board, where these are two."""
+        path = self.folder / ALIGHTS
+        return {stop: other for _, (stop, other) in rows(path, ["stop_id", "of"])} if path.exists() else {}
+
 
 def seconds_between(
-    network: TransportNetwork, task: RegionalTask, origins: Places, destinations: Places
+    network: TransportNetwork, task: RegionalTask, origins: FramePlaces, destinations: FramePlaces
 ) -> dict[int, Seconds]:
     """The travel times of each percentile, a row for each origin and a column for each destination."""
     shape = len(origins.identifiers), len(destinations.identifiers)
@@ -49,16 +69,19 @@ def seconds_between(
         found = dict.fromkeys(task.percentiles, walked(network, task, origins, destinations))
     else:
         found = ridden(network, task, feed, origins, destinations)
-    made = {}
+    whole = {}
     for percentile, seconds in found.items():
-        made[percentile] = np.full(shape, np.nan)
-        made[percentile][np.ix_(origins.placed, destinations.placed)] = seconds
-    return made
+        whole[percentile] = np.full(shape, np.nan)
+        whole[percentile][np.ix_(origins.placed, destinations.placed)] = seconds
+    return whole
 
 
-def walked(network: TransportNetwork, task: RegionalTask, origins: Places, destinations: Places) -> Seconds:
+def walked(network: TransportNetwork, task: RegionalTask, origins: FramePlaces, destinations: FramePlaces) -> Seconds:
     """Walks along streets between the places that lie anywhere."""
-    begins, ends = (points_of(it.latitudes[it.placed], it.longitudes[it.placed]) for it in (origins, destinations))
+    begins, ends = (
+        points_of(places.latitudes[places.placed], places.longitudes[places.placed])
+        for places in (origins, destinations)
+    )
     found = Ways(network.streets, begins, ends, task.pace(), NEAR).seconds()
     if origins is destinations:
         np.fill_diagonal(found, 0)
@@ -66,7 +89,7 @@ def walked(network: TransportNetwork, task: RegionalTask, origins: Places, desti
 
 
 def ridden(
-    network: TransportNetwork, task: RegionalTask, feed: Prepared, origins: Places, destinations: Places
+    network: TransportNetwork, task: RegionalTask, feed: Prepared, origins: FramePlaces, destinations: FramePlaces
 ) -> dict[int, Seconds]:
     """Travel times by `ttm` between the places that lie anywhere."""
     doors = doors_of(network, task, feed, origins, destinations)
@@ -79,8 +102,11 @@ def ridden(
         workers=min(processors(), MOST_WORKERS),
     )
     named = {name: place for place, name in enumerate(answer.origins)}
-    rows = [named[name] for name in stops_in(doors.folder / "origins.csv")]
-    return {it: answer.array("base", it)[rows].astype(np.float64) for it in task.percentiles}
+    chosen = [named[name] for name in doors.ends[0]]
+    found = {percentile: answer.array("base", percentile)[chosen].astype(np.float64) for percentile in task.percentiles}
+    if doors.direct is not None:
+        found = {percentile: np.fmin(seconds, doors.direct) for percentile, seconds in found.items()}
+    return found
 
 
 def network_at(network: TransportNetwork, task: RegionalTask, doors: Doors) -> Network:
@@ -89,52 +115,56 @@ def network_at(network: TransportNetwork, task: RegionalTask, doors: Doors) -> N
 
 
 def doors_of(
-    network: TransportNetwork, task: RegionalTask, feed: Prepared, origins: Places, destinations: Places
+    network: TransportNetwork, task: RegionalTask, feed: Prepared, origins: FramePlaces, destinations: FramePlaces
 ) -> Doors:
     """The folder of these places, made once."""
-    same = origins is destinations
-    files = [origins] if same else [origins, destinations]
-    pace = task.pace()
-    key = key_of("doors", feed.key, network.streets_key, pace, NEAR, same, *[it.content() for it in files])
+    files = [origins] if origins is destinations else [origins, destinations]
+    pace, merges = task.pace(), task.max_time_walking >= task.max_time
+    key = key_of("doors", feed.key, network.streets_key, pace, merges, NEAR, *[places.content() for places in files])
 
     def make(folder: Path) -> None:
-        points = [it.points() for it in files]
-        begins, ends = ([True], [True]) if same else ([True, False], [False, True])
-        first = len(points[0].identifiers)
-        asked = study.Asked(feed.folder, str(folder / "doors"), points, begins, ends, int(pace.limit), False, NEAR)
-
-        def walker(stops: Stops, only: int | None) -> Walks:
-            count = sum(len(it.identifiers) for it in points)
-            ends = None if same else ends_of(stops, len(stops.identifiers) - count, first)
-            return street_walks(stops, pace, network.streets, NEAR, only, ends)
-
+        walks = LongWalks(feed.folder, [places.points() for places in files], network.streets, pace, NEAR)
         with named_limits(task, files[-1]):
-            study.make(asked, walker)
+            write_doors(folder / "doors", walks, merges)
 
-    return Doors(kept("doors", key, make) / "doors", key, int(pace.limit))
+    doors = Doors(kept("doors", key, make) / "doors", key, int(pace.limit))
+    return doors if doors.direct is None else replace(doors, walk=LONGEST)
+
+
+def write_doors(folder: Path, walks: LongWalks, merges: bool) -> None:
+    """Writes the folder, where there are many walks with those alone that journeys need."""
+    study.refuse_places(len(walks.own.identifiers), walks.study, "")
+    whole, needed = partial(write_whole, folder, walks), partial(walks.write, folder, merges)
+    first, second = (needed, whole) if walks.are_many() else (whole, needed)
+    try:
+        first()
+    except TooManyWalks:
+        remove(folder)
+        second()
+
+
+def write_whole(folder: Path, walks: LongWalks) -> None:
+    """Writes the folder with all walks."""
+    count = len(walks.files)
+    begins, ends = ([True], [True]) if count == 1 else ([True, False], [False, True])
+    limit, only = int(walks.pace.limit), None if count == 1 else walks.ends
+    options = study.PointsOptions(walks.feed, str(folder), walks.files, begins, ends, limit, False, walks.near)
+    study.make(options, lambda stops, first: street_walks(stops, walks.pace, walks.streets, walks.near, first, only))
 
 
 @contextlib.contextmanager
-def named_limits(task: RegionalTask, places: Places) -> Iterator[None]:
+def named_limits(task: RegionalTask, places: FramePlaces) -> Iterator[None]:
     """Names the argument where there are more walks or places than `ttm` takes."""
     try:
         yield
     except TooManyWalks:
         limit = datetime.timedelta(seconds=task.pace().limit)
-        told = f"{limit} gives more than the {study.MOST_PAIRS:,} walks that ttm takes"
-        raise NotAvailable("max_time_walking", told, "ask for less, such as 20 minutes, or for fewer places") from None
+        what = f"{limit} gives more than the {study.MOST_PAIRS:,} walks that ttm takes"
+        raise NotAvailable("max_time_walking", what, "ask for less, such as 20 minutes, or for fewer places") from None
     except study.TooManyPlaces as fault:
         argument = "point_grid_resolution" if places.name == GRID else places.name
         instead = "ask for a larger one" if places.name == GRID else "ask for some of them at a time"
         raise NotAvailable(argument, fault.what.partition(":")[0], instead) from None
-
-
-def ends_of(stops: Stops, own: int, origins: int) -> Ends:
-    """Where walks may begin and end: no journey walks to an origin or from a destination. Places come behind the feed's
-    own stops, origins first.
-    """
-    place = np.arange(len(stops.identifiers))
-    return Ends(place < own + origins, (place < own) | (place >= own + origins))
 
 
 def stops_in(path: Path) -> Sequence[str]:

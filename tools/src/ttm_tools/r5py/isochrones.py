@@ -14,7 +14,7 @@ from ..walks.osm import Streets
 from .doors import seconds_between
 from .matrix import ends_of
 from .network import network_from
-from .places import DEGREES, GRID, Places, moved
+from .places import DEGREES, GRID, FramePlaces, moved
 from .refusals import NotAvailable
 from .task import RegionalTask
 
@@ -24,14 +24,19 @@ Cells = npt.NDArray[np.int64]  # columns and rows of a grid
 
 def limits_of(isochrones: Iterable[Any]) -> list[datetime.timedelta]:
     """The limits, ascending; whole numbers are minutes, and 0 bounds no area."""
-    made = {it if isinstance(it, datetime.timedelta) else datetime.timedelta(minutes=int(it)) for it in isochrones}
-    found = sorted(datetime.timedelta(seconds=it.total_seconds()) for it in made if it > datetime.timedelta())
+    limits = {
+        limit if isinstance(limit, datetime.timedelta) else datetime.timedelta(minutes=int(limit))
+        for limit in isochrones
+    }
+    found = sorted(
+        datetime.timedelta(seconds=limit.total_seconds()) for limit in limits if limit > datetime.timedelta()
+    )
     if not found:
         raise NotAvailable("isochrones", "no limit above 0", "minutes, or a pandas.timedelta_range")
     return found
 
 
-class Grid:
+class StreetGrid:
     """Squares of a metric projection through which a street goes; in the middle of each is a destination."""
 
     def __init__(self, streets: Streets, crs: Any, side: float) -> None:
@@ -39,9 +44,9 @@ class Grid:
         xy = np.stack(moved(DEGREES, crs, streets.longitudes, streets.latitudes), axis=1)
         self.cells = cells_along(xy[streets.begin], xy[streets.end], side)
 
-    def places(self) -> Places:
+    def places(self) -> FramePlaces:
         """The middles as destinations."""
-        return Places(
+        return FramePlaces(
             GRID, list(range(len(self.cells))), *moved(self.crs, DEGREES, *((self.cells + 0.5) * self.side).T)
         )
 
@@ -61,8 +66,8 @@ def cells_along(begin: Floats, end: Floats, side: float) -> Cells:
     piece = np.repeat(np.arange(len(counts)), counts)
     along = (np.arange(len(piece)) - np.repeat(np.cumsum(counts) - counts, counts)) / counts[piece]
     points = np.concatenate([begin[piece] + (end - begin)[piece] * along[:, None], end])
-    made: Cells = np.unique(np.floor(points / side).astype(np.int64), axis=0)
-    return made
+    cells: Cells = np.unique(np.floor(points / side).astype(np.int64), axis=0)
+    return cells
 
 
 def frame_of(
@@ -75,7 +80,7 @@ def frame_of(
     if len(task.percentiles) != 1:
         raise NotAvailable("percentiles", f"{task.percentiles} are several", "ask for one at a time")
     begins, *_, frame, _ = ends_of(network, as_frame(origins), None, False)
-    grid = Grid(network.streets, frame.estimate_utm_crs(), resolution)
+    grid = StreetGrid(network.streets, frame.estimate_utm_crs(), resolution)
     found = seconds_between(network, task, begins, grid.places())[task.percentiles[0]]
     least = np.fmin.reduce(found, axis=0)
     with np.errstate(invalid="ignore"):
@@ -104,8 +109,8 @@ class Isochrones(geopandas.GeoDataFrame):  # type: ignore[misc]
         **kwargs: Any,
     ) -> None:
         if point_grid_sample_ratio != 1:
-            told = f"{point_grid_sample_ratio!r} isn't to be had, since all points are computed"
-            raise NotAvailable("point_grid_sample_ratio", told, "leave it out, or give a larger point_grid_resolution")
+            what = f"{point_grid_sample_ratio!r} isn't to be had, since all points are computed"
+            raise NotAvailable("point_grid_sample_ratio", what, "leave it out, or give a larger point_grid_resolution")
         super().__init__(frame_of(transport_network, origins, isochrones, point_grid_resolution, **kwargs))
 
     @property

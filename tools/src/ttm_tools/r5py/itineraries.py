@@ -10,13 +10,13 @@ from shapely.geometry import LineString
 
 from ..walks import points_of
 from ..walks.ways import Ways, degrees_of
-from .doors import doors_of, network_at, stops_in
+from .doors import doors_of, network_at
 from .journeys import Journeys
-from .legs import Drawn, Row
+from .legs import DrawnLegs, Row
 from .matrix import ends_of
 from .modes import TransportMode
 from .network import Prepared, TransportNetwork, network_from
-from .places import DEGREES, Places
+from .places import DEGREES, FramePlaces
 from .task import NEAR, RegionalTask
 
 COLUMNS = (
@@ -26,27 +26,26 @@ COLUMNS = (
 Pairs = Sequence[tuple[int, int]]  # places among the origins and the destinations
 
 
-def pairs_of(origins: Places, destinations: Places, all_to_all: bool) -> list[tuple[int, int]]:
+def pairs_of(origins: FramePlaces, destinations: FramePlaces, all_to_all: bool) -> list[tuple[int, int]]:
     """Between which places: the first with the first and so on where there are as many, else all with all."""
     begins, ends = range(len(origins.identifiers)), range(len(destinations.identifiers))
     if origins is destinations or len(begins) != len(ends) or all_to_all:
-        made = [(begin, end) for begin in begins for end in ends]
+        pairs = [(begin, end) for begin in begins for end in ends]
     else:
-        made = list(zip(begins, ends))
+        pairs = list(zip(begins, ends))
     placed = set(origins.placed.tolist()), set(destinations.placed.tolist())
-    return [(begin, end) for begin, end in made if begin in placed[0] and end in placed[1]]
+    return [(begin, end) for begin, end in pairs if begin in placed[0] and end in placed[1]]
 
 
 def ridden(
-    network: TransportNetwork, task: RegionalTask, feed: Prepared, ends: tuple[Places, Places], pairs: Pairs
+    network: TransportNetwork, task: RegionalTask, feed: Prepared, ends: tuple[FramePlaces, FramePlaces], pairs: Pairs
 ) -> Iterator[Row]:
     """The journeys of each pair, which take vehicles or walk."""
     doors = doors_of(network, task, feed, *ends)
     found = Journeys(doors, network_at(network, task, doors), task)
-    names = [stops_in(doors.folder / name) for name in ("origins.csv", "destinations.csv")]
-    numbers = [dict(zip(places.placed.tolist(), own)) for places, own in zip(ends, names)]
+    numbers = [dict(zip(places.placed.tolist(), own)) for places, own in zip(ends, doors.ends)]
     options = {(one, other): found.between(numbers[0][one], numbers[1][other]) for one, other in pairs}
-    drawn = Drawn(network, found)
+    drawn = DrawnLegs(network, found)
     drawn.walk_along([leg for journeys in options.values() for journey in journeys for leg in journey.legs])
     for (one, other), journeys in options.items():
         ids = {"from_id": ends[0].identifiers[one], "to_id": ends[1].identifiers[other]}
@@ -55,9 +54,11 @@ def ridden(
                 yield {**ids, "option": option, **row}
 
 
-def walked(network: TransportNetwork, task: RegionalTask, ends: tuple[Places, Places], pairs: Pairs) -> Iterator[Row]:
+def walked(
+    network: TransportNetwork, task: RegionalTask, ends: tuple[FramePlaces, FramePlaces], pairs: Pairs
+) -> Iterator[Row]:
     """The walk of each pair, where there is one."""
-    begins, others = (points_of(np.nan_to_num(it.latitudes), np.nan_to_num(it.longitudes)) for it in ends)
+    begins, others = (points_of(np.nan_to_num(places.latitudes), np.nan_to_num(places.longitudes)) for places in ends)
     ways = Ways(network.streets, begins, others, task.pace(), NEAR)
     seconds = ways.seconds()
     for one, other in pairs:
@@ -110,8 +111,8 @@ class DetailedItineraries(geopandas.GeoDataFrame):  # type: ignore[misc]
         force_all_to_all: bool = False,
         **kwargs: Any,
     ) -> None:
-        made = frame_of(transport_network, origins, destinations, snap_to_network, force_all_to_all, **kwargs)
-        super().__init__(made)
+        frame = frame_of(transport_network, origins, destinations, snap_to_network, force_all_to_all, **kwargs)
+        super().__init__(frame)
 
     @property
     def _constructor(self) -> Any:
@@ -130,8 +131,8 @@ class DetailedItinerariesComputer:
         force_all_to_all: bool = False,
         **kwargs: Any,
     ) -> None:
-        told = "DetailedItineraries replaces DetailedItinerariesComputer in r5py 1.0"
-        warnings.warn(told, DeprecationWarning, stacklevel=2)
+        text = "DetailedItineraries replaces DetailedItinerariesComputer in r5py 1.0"
+        warnings.warn(text, DeprecationWarning, stacklevel=2)
         self.arguments = (transport_network, origins, destinations, snap_to_network, force_all_to_all)
         self.kwargs = kwargs
         RegionalTask(transport_network, **kwargs)

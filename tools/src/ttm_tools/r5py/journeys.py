@@ -14,7 +14,7 @@ from ..gtfs.stops import read_stops
 from ..measures import journeys as search
 from ..measures.journeys import Leg
 from ..network import Network
-from ..gtfs.footpaths import read_walks
+from ..gtfs.footpaths import Footpaths, read_walks
 from ..gtfs.timetable import DAY, Edits, Runs, Timetable, read_timetable, runs_of
 from .doors import Doors
 from .network import FEED
@@ -41,10 +41,12 @@ class Journeys:
         self.timetable: Timetable = read_timetable(read_stops(str(folder)))
         self.runs: Runs = runs_of(self.timetable, task.times.date, (BACK, AHEAD), Edits(set(), set(), {}))
         walks, changes = read_walks(self.timetable, str(doors.folder / "footpaths.csv"), doors.walk)
+        self.places = {name: place for place, name in enumerate(self.timetable.stops)}
+        self.boards = {self.places[name]: self.places[stop] for name, stop in doors.alights.items()}
         first = DAY * BACK + 60 * task.times.first
         self.departures = [first + 60 * minute for minute in range(task.times.count)]
-        self.whole = search.network_of(self.timetable.events, self.runs, walks, changes, first)
-        self.places = {name: place for place, name in enumerate(self.timetable.stops)}
+        walks = with_direct(walks, doors, self.places)
+        self.whole = search.Schedule(self.timetable.events, self.runs, walks, changes, first)
 
     def between(self, origin: str, destination: str) -> list[Journey]:
         """The journeys from one place to another, by their departures."""
@@ -52,27 +54,45 @@ class Journeys:
             return []
         begin, end = self.places[origin], self.places[destination]
         seconds = search.durations(self.whole, begin, end, self.departures, self.task.rides)
-        made = dict[tuple[tuple[int, int, int], ...], Journey]()
+        journeys = dict[tuple[tuple[int, int, int], ...], Journey]()
         for minute, taken in last_to_arrive(seconds):
             if taken < self.task.max_time:
                 self.check(origin, destination, minute, taken)
-                legs = self.legs(begin, end, minute, taken)
+                legs = [leg for leg in self.legs(begin, end, minute, taken) if not self.is_change(leg)]
                 key = tuple((-1 if leg.run is None else leg.run, leg.start, leg.end) for leg in legs)
-                made.setdefault(key, Journey(minute, taken, legs))
-        return sorted(made.values(), key=lambda it: it.minute)
+                journeys.setdefault(key, Journey(minute, taken, legs))
+        return sorted(journeys.values(), key=lambda journey: journey.minute)
 
     def legs(self, begin: int, end: int, minute: int, taken: int) -> list[Leg]:
         departure = self.departures[minute]
         within = self.whole.within(departure, departure + taken)
         return search.journey(search.Search(within, begin, departure, self.task.rides), end)
 
+    def is_change(self, leg: Leg) -> bool:
+        """Whether a walk is a change between two vehicles at a stop, in a feed with two stops for one."""
+        return leg.run is None and self.boards.get(leg.start) == leg.end
+
     def check(self, origin: str, destination: str, minute: int, taken: int) -> None:
         """Refuses a journey that doesn't take as long as `ttm` says."""
         at = self.task.times.at(minute).strftime("%H:%M")
         answer = self.network.matrix((at, at), trips=self.task.rides, origins=[origin], destinations=[destination])
-        told = answer.array("base", 50)[0, 0]
-        if np.isnan(told) or int(told) != taken:
-            raise BadInput("the travel times differ", f"at {at}: ttm has {told} seconds, and this search {taken}")
+        expected = answer.array("base", 50)[0, 0]
+        if self.doors.direct is not None:
+            begins, ends = self.doors.ends
+            expected = np.fmin(expected, self.doors.direct[begins.index(origin), ends.index(destination)])
+        if np.isnan(expected) or int(expected) != taken:
+            raise BadInput("the travel times differ", f"at {at}: ttm has {expected} seconds, and this search {taken}")
+
+
+def with_direct(walks: Footpaths, doors: Doors, places: dict[str, int]) -> Footpaths:
+    """Walks and those from origins to destinations, where `ttm` doesn't have them."""
+    if doors.direct is None:
+        return walks
+    begins, ends = (np.array([places[name] for name in names], np.int64) for names in doors.ends)
+    one, other = np.nonzero(~np.isnan(doors.direct))
+    seconds = doors.direct[one, other].astype(np.int64)
+    columns = (walks.begin, begins[one]), (walks.end, ends[other]), (walks.seconds, seconds)
+    return Footpaths(*(np.concatenate(some) for some in columns))
 
 
 def last_to_arrive(seconds: list[int | None]) -> Iterator[tuple[int, int]]:

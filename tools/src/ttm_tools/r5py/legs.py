@@ -12,7 +12,6 @@ from ..measures.journeys import Leg
 from ..records import rows
 from ..walks import distances, points_of
 from ..walks.ways import Ways, degrees_of
-from .doors import stops_in
 from .journeys import BACK, Journey, Journeys
 from .modes import TransportMode, mode_of
 from .network import TransportNetwork
@@ -22,21 +21,21 @@ Row = dict[str, Any]
 
 
 @dataclass(frozen=True)
-class Routes:
+class LegRoutes:
     """Of each route its agency and its mode."""
 
     agencies: dict[str, str | None]
     modes: dict[str, TransportMode | None]
 
 
-def routes_of(folder: str) -> Routes:
+def routes_of(folder: str) -> LegRoutes:
     """The routes of a feed."""
     found = [fields for _, fields in rows(f"{folder}/routes.txt", ["route_id"], ["agency_id", "route_type"])]
     agencies = {route: agency or None for route, agency, _ in found}
-    return Routes(agencies, {route: mode_of(int(kind.strip() or -1)) for route, _, kind in found})
+    return LegRoutes(agencies, {route: mode_of(int(kind.strip() or -1)) for route, _, kind in found})
 
 
-class Drawn:
+class DrawnLegs:
     """The rows of journeys: what each leg is called, how long its way is, and how it goes."""
 
     def __init__(self, network: TransportNetwork, found: Journeys) -> None:
@@ -45,8 +44,7 @@ class Drawn:
         chosen = [stops.places[name] for name in timetable.stops]
         self.points = points_of(stops.latitudes[chosen], stops.longitudes[chosen])
         self.placed, self.routes = stops.placed[chosen], routes_of(timetable.folder)
-        ends = (stops_in(found.doors.folder / name) for name in ("origins.csv", "destinations.csv"))
-        self.no_stops = {name for names in ends for name in names}
+        self.no_stops = {name for names in found.doors.ends for name in names}
         self.ways: Ways | None = None
         self.numbers = dict[int, int]()
 
@@ -77,8 +75,8 @@ class Drawn:
         own = np.arange(events.begins[trip], events.begins[trip + 1])
         begin = own[(events.stop[own] == leg.start) & (events.depart[own] + shift == leg.begin)][0]
         ends = own[(events.stop[own] == leg.end) & (events.arrive[own] + shift == leg.finish) & (own > begin)]
-        made: list[int] = events.stop[begin : ends[0] + 1].tolist()
-        return made
+        called = [self.found.boards.get(stop, stop) for stop in events.stop[begin : ends[0] + 1].tolist()]
+        return [stop for stop, before in zip(called, [-1, *called]) if stop != before]
 
     def rows_of(self, journey: Journey) -> Iterator[Row]:
         """A row for each leg."""
@@ -98,14 +96,17 @@ class Drawn:
 
     def names_of(self, leg: Leg) -> Row:
         """What a leg is called by the feed."""
-        stops = self.found.timetable.stops
-        ends = {"start_stop_id": stops[leg.start], "end_stop_id": stops[leg.end]}
-        made: Row = {column: None if name in self.no_stops else name for column, name in ends.items()}
+        stops, boards = self.found.timetable.stops, self.found.boards
+        ends = {
+            name: stops[boards.get(stop, stop)]
+            for name, stop in (("start_stop_id", leg.start), ("end_stop_id", leg.end))
+        }
+        names: Row = {column: None if name in self.no_stops else name for column, name in ends.items()}
         if leg.run is None:
-            return {"transport_mode": TransportMode.WALK, "feed": None, "agency_id": None, "route_id": None, **made}
+            return {"transport_mode": TransportMode.WALK, "feed": None, "agency_id": None, "route_id": None, **names}
         route = self.found.timetable.routes[int(self.found.runs.trip[leg.run])]
         mode, agency = self.routes.modes[route], self.routes.agencies[route]
-        return {"transport_mode": mode, "feed": self.network.feed_name, "agency_id": agency, "route_id": route, **made}
+        return {"transport_mode": mode, "feed": self.network.feed_name, "agency_id": agency, "route_id": route, **names}
 
     def at(self, seconds: int) -> datetime.datetime:
         """A time of the axis on the date."""

@@ -8,7 +8,7 @@ import pandas
 
 from .doors import Seconds, seconds_between
 from .network import TransportNetwork, network_from
-from .places import Places, places_of
+from .places import FramePlaces, places_of
 from .refusals import NotAvailable
 from .task import NEAR, RegionalTask
 
@@ -16,21 +16,21 @@ from .task import NEAR, RegionalTask
 def minutes_of(seconds: Seconds, most: int) -> Seconds:
     """Whole minutes, rounded down as R5 does it; NaN where a place isn't reached in less than the most seconds."""
     with np.errstate(invalid="ignore"):
-        made: Seconds = np.where(seconds < most, np.floor(seconds / 60), np.nan)
-    return made
+        minutes: Seconds = np.where(seconds < most, np.floor(seconds / 60), np.nan)
+    return minutes
 
 
 def ends_of(
     network: TransportNetwork, origins: Any, destinations: Any, snaps: bool | float
-) -> tuple[Places, Places, Any, Any]:
+) -> tuple[FramePlaces, FramePlaces, Any, Any]:
     """Where journeys begin and end, and the frames of these; without destinations they end at the origins."""
     if origins is None:
         raise NotAvailable("origins", "None isn't to be had", "a GeoDataFrame with the columns id and geometry")
     frames = [origins] if destinations is None or destinations is origins else [origins, destinations]
     if snaps is not False:
         radius = NEAR if snaps is True else float(snaps)
-        frames = [it.assign(geometry=network.snap_to_network(it.geometry, radius)) for it in frames]
-    places = [places_of(name, it) for name, it in zip(("origins", "destinations"), frames)]
+        frames = [frame.assign(geometry=network.snap_to_network(frame.geometry, radius)) for frame in frames]
+    places = [places_of(name, frame) for name, frame in zip(("origins", "destinations"), frames)]
     return places[0], places[-1], frames[0], frames[-1]
 
 
@@ -38,7 +38,10 @@ def columns_of(task: RegionalTask, seconds: dict[int, Seconds]) -> dict[str, Sec
     """A column for each percentile, in minutes; the median alone has no number in its name."""
     if task.percentiles == [50]:
         return {"travel_time": minutes_of(seconds[50], task.max_time).ravel()}
-    return {f"travel_time_p{it}": minutes_of(seconds[it], task.max_time).ravel() for it in task.percentiles}
+    return {
+        f"travel_time_p{percentile}": minutes_of(seconds[percentile], task.max_time).ravel()
+        for percentile in task.percentiles
+    }
 
 
 def table_of(

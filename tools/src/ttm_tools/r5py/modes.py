@@ -35,7 +35,7 @@ class ElevationCostFunction(enum.Enum):
 
 
 LACKING = (TransportMode.BICYCLE, TransportMode.CAR, TransportMode.BICYCLE_RENT, TransportMode.CAR_PARK)
-VEHICLES = tuple(it for it in TransportMode if it not in (*LACKING, TransportMode.TRANSIT, TransportMode.WALK))
+VEHICLES = tuple(mode for mode in TransportMode if mode not in (*LACKING, TransportMode.TRANSIT, TransportMode.WALK))
 BASIC = [
     TransportMode.TRAM,
     TransportMode.SUBWAY,
@@ -72,17 +72,19 @@ def mode_of(route_type: int) -> TransportMode | None:
 
 def modes_of(argument: str, given: Iterable[object]) -> list[TransportMode]:
     """Modes that are to be had; names count as r5py takes them."""
-    made = [it if isinstance(it, TransportMode) else TransportMode(str(getattr(it, "value", it))) for it in given]
-    for mode in made:
+    modes = [
+        mode if isinstance(mode, TransportMode) else TransportMode(str(getattr(mode, "value", mode))) for mode in given
+    ]
+    for mode in modes:
         if mode in LACKING:
             instead = "ask for TransportMode.TRANSIT or WALK here, and for this mode in r5py itself"
             raise NotAvailable(argument, f"{mode} isn't to be had, since ttm knows no streets for it", instead)
-    return made
+    return modes
 
 
 def only_walks(argument: str, given: Iterable[object]) -> None:
     """Refuses all ways to and from a stop but walking."""
-    other = [it for it in modes_of(argument, given) if it is not TransportMode.WALK]
+    other = [mode for mode in modes_of(argument, given) if mode is not TransportMode.WALK]
     if other:
         raise NotAvailable(argument, f"{other[0]} isn't to be had", "one walks to and from stops: [TransportMode.WALK]")
 

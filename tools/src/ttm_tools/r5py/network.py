@@ -15,7 +15,7 @@ from ..faults import needs
 from ..files import scratch
 from ..network import Network
 from ..prepare.clip import Clip
-from ..prepare.make import PREPARED, Asked, make
+from ..prepare.make import PREPARED, PrepareOptions, make
 from ..records import rows
 from ..walks.osm import Streets, read_streets
 from .cache import kept, key_of, sum_of_source
@@ -110,8 +110,8 @@ class TransportNetwork:
         degrees = points.to_crs(DEGREES)
         found, metres = on_streets(self.streets, degrees.y.to_numpy(), degrees.x.to_numpy())
         found[metres > radius] = np.nan
-        made = geopandas.GeoSeries(geopandas.points_from_xy(*found.T), index=points.index, crs=DEGREES)
-        return made.to_crs(points.crs)
+        series = geopandas.GeoSeries(geopandas.points_from_xy(*found.T), index=points.index, crs=DEGREES)
+        return series.to_crs(points.crs)
 
     def feed_with(self, vehicles: frozenset[TransportMode]) -> Prepared | None:
         """The feed with the routes of some modes alone; none where it has no such routes."""
@@ -130,8 +130,8 @@ class TransportNetwork:
         with self.lock:
             if name not in self.networks:
                 walks = folder / "footpaths.csv"
-                made = Network(folder / FEED, times.date, walk=walk, footpaths=walks, program=self.program)
-                self.networks[name] = made
+                network = Network(folder / FEED, times.date, walk=walk, footpaths=walks, program=self.program)
+                self.networks[name] = network
             self.networks.move_to_end(name)
             old = [self.networks.popitem(last=False)[1] for _ in range(len(self.networks) - MOST_NETWORKS)]
             found = self.networks[name]
@@ -173,12 +173,12 @@ def made_feed(key: str, paths: list[str], clip: Clip, repair: bool, allow_errors
 
     def prepare(folder: Path) -> None:
         with scratch("feed") as room:
-            told = make(Asked(paths, str(folder / FEED), repair, clip, allow_errors), room)
+            text = make(PrepareOptions(paths, str(folder / FEED), repair, clip, allow_errors), room)
         mended = next(rows(str(folder / FEED / PREPARED), ["file"]), None) is not None
-        (folder / TOLD).write_text("".join(f"{line}\n" for line in told[:-1]) if mended else "", encoding="utf-8")
+        (folder / TOLD).write_text("".join(f"{line}\n" for line in text[:-1]) if mended else "", encoding="utf-8")
 
     entry = kept("feeds", key, prepare)
-    told = (entry / TOLD).read_text(encoding="utf-8")
-    if told:
-        warnings.warn(f"{', '.join(paths)} mended:\n{told}", stacklevel=4)
+    text = (entry / TOLD).read_text(encoding="utf-8")
+    if text:
+        warnings.warn(f"{', '.join(paths)} mended:\n{text}", stacklevel=4)
     return str(entry / FEED)

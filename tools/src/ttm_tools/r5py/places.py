@@ -15,7 +15,7 @@ GRID = "grid"  # the name of places that no frame has: those of an isochrone
 
 
 @dataclass(frozen=True)
-class Places:
+class FramePlaces:
     """The places of a frame, in its order."""
 
     name: str  # which argument they are
@@ -45,11 +45,11 @@ def moved(crs: Any, target: Any, east: Floats, north: Floats) -> tuple[Floats, F
     """Coordinates of one projection in another one."""
     from pyproj import Transformer
 
-    made = Transformer.from_crs(crs, target, always_xy=True).transform(east, north)
-    return np.asarray(made[0], np.float64), np.asarray(made[1], np.float64)
+    projected = Transformer.from_crs(crs, target, always_xy=True).transform(east, north)
+    return np.asarray(projected[0], np.float64), np.asarray(projected[1], np.float64)
 
 
-def places_of(name: str, frame: Any) -> Places:
+def places_of(name: str, frame: Any) -> FramePlaces:
     """The places of a frame; a point inside of each polygon."""
     import geopandas
 
@@ -69,4 +69,4 @@ def places_of(name: str, frame: Any) -> Places:
         where[:, there] = moved(frame.crs, DEGREES, *np.array([(point.x, point.y) for point in inside]).T)
     if (np.abs(where[1, there]) > 90).any() or (np.abs(where[0, there]) > 180).any():
         raise BadInput(name, "a place lies off the globe: is its projection the right one?")
-    return Places(name, frame["id"].tolist(), where[0], where[1])
+    return FramePlaces(name, frame["id"].tolist(), where[0], where[1])

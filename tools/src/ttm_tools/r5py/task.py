@@ -72,21 +72,25 @@ class RegionalTask:
         self.max_time_walking = seconds_of("max_time_walking", max_time_walking, HOURS)
         self.speed_walking = speed_of(speed_walking)
         self.rides = rides_of(max_public_transport_rides)
-        of_others = {
-            "max_time_cycling": (max_time_cycling, HOURS),
-            "max_time_driving": (max_time_driving, HOURS),
-            "speed_cycling": (speed_cycling, 12.0),
-            "max_bicycle_traffic_stress": (max_bicycle_traffic_stress, 3),
-            "breakdown": (breakdown, False),
-        }
-        for name, (value, usual) in of_others.items():
-            if value != usual:
-                raise NotAvailable(name, f"{value!r} isn't to be had", "leave it out")
+        refuse_unusual(
+            max_time_cycling=(max_time_cycling, HOURS),
+            max_time_driving=(max_time_driving, HOURS),
+            speed_cycling=(speed_cycling, 12.0),
+            max_bicycle_traffic_stress=(max_bicycle_traffic_stress, 3),
+            breakdown=(breakdown, False),
+        )
 
     def pace(self, longest: int | None = None) -> Pace:
         """How one walks, as long as a walk may last, or the seconds that are said."""
         limit = min(self.max_time_walking, self.max_time) if longest is None else longest
         return Pace(float(limit), self.speed_walking / 3.6, DETOUR)
+
+
+def refuse_unusual(**arguments: tuple[object, object]) -> None:
+    """Refuses an argument that isn't as r5py has it where it is left out: each has its value, and the usual one."""
+    for name, (value, usual) in arguments.items():
+        if value != usual:
+            raise NotAvailable(name, f"{value!r} isn't to be had", "leave it out")
 
 
 def times_of(departure: datetime.datetime | None, window: datetime.timedelta) -> Times:
@@ -108,13 +112,17 @@ def times_of(departure: datetime.datetime | None, window: datetime.timedelta) ->
 
 def percentiles_of(given: Sequence[int]) -> list[int]:
     """The percentiles as they are given."""
-    made = [int(it) for it in given]
-    if not made or len(set(made)) > MOST_PERCENTILES or any(it != whole for it, whole in zip(given, made)):
-        told = f"one to {MOST_PERCENTILES} whole numbers"
-        raise NotAvailable("percentiles", f"{list(given)!r} isn't to be had", told)
-    if not all(1 <= it <= 100 for it in made):
-        raise NotAvailable("percentiles", f"{made} isn't to be had", "each is from 1 to 100")
-    return made
+    percentiles = [int(number) for number in given]
+    if (
+        not percentiles
+        or len(set(percentiles)) > MOST_PERCENTILES
+        or any(number != whole for number, whole in zip(given, percentiles))
+    ):
+        allowed = f"one to {MOST_PERCENTILES} whole numbers"
+        raise NotAvailable("percentiles", f"{list(given)!r} isn't to be had", allowed)
+    if not all(1 <= number <= 100 for number in percentiles):
+        raise NotAvailable("percentiles", f"{percentiles} isn't to be had", "each is from 1 to 100")
+    return percentiles
 
 
 def seconds_of(argument: str, given: datetime.timedelta, most: datetime.timedelta) -> int:

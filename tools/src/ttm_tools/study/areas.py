@@ -7,20 +7,19 @@ from ..files import output
 from ..naming import file_names
 from ..points.shown import points_in
 from ..views import isochrones
-from ..views.isochrones import Ground, Walking
-from .results import Whole
+from ..views.isochrones import AreaGround, Walking
+from .results import Records, Whole
 from .sources import Sources
-from .stages import Folder, Record, Stage
+from .stages import Stage
 
 AREAS = "isochrones"
 
 
-def make_areas(whole: Whole, folder: Folder) -> dict[str, Record]:
-    """Writes the areas, where some are asked for."""
-    return {AREAS: folder.do(areas_stage(whole))} if whole.study.results.isochrones else {}
+def areas_stages(whole: Whole, known: Records) -> list[Stage]:
+    return [areas_stage(whole)] if whole.study.results.isochrones else []
 
 
-def ground_for(whole: Whole) -> tuple[Ground, Walking]:
+def ground_for(whole: Whole) -> tuple[AreaGround, Walking]:
     """Where the places of the matrix lie, and how one walks on from them."""
     study, (matrix, stops) = whole.study, whole.open()
     there = stops.of(matrix.stops)
@@ -33,14 +32,14 @@ def ground_for(whole: Whole) -> tuple[Ground, Walking]:
 
 def streets_of(whole: Whole) -> Sources:
     """The streets along which one walks on."""
-    return Sources(whole.study.at, [it for it in [whole.study.walks.streets] if it])
+    return Sources(whole.study.at, [path for path in [whole.study.walks.streets] if path])
 
 
 def areas_stage(whole: Whole) -> Stage:
     """A file for each origin, with all scenarios and bands."""
     study, inputs = whole.study, whole.inputs
-    wish = study.results
-    names = file_names(list(wish.isochrones), ("",))
+    settings = study.results
+    names = file_names(list(settings.isochrones), ("",))
 
     def make() -> list[str]:
         matrix, _ = whole.open()
@@ -48,7 +47,7 @@ def areas_stage(whole: Whole) -> Stage:
         Path(AREAS).mkdir()
         for origin, name in names.items():
             bands = isochrones.Bands(
-                origin, matrix.compared, [matrix.share(study.share)], wish.isochrone_bands, walking
+                origin, matrix.compared, [matrix.share(study.share)], settings.isochrone_bands, walking
             )
             found = isochrones.isochrones_of(matrix, ground, bands, whole.counts(matrix))
             with output(f"{AREAS}/{name}.geojson") as file:
@@ -58,11 +57,11 @@ def areas_stage(whole: Whole) -> Stage:
     pace = [study.walks.speed, study.walks.detour, study.walk_limit, study.walks.near]
     sources = streets_of(whole)
     counted = inputs.records["counted"].outputs if "counted" in inputs.records else {}
-    words: dict[str, Any] = {
-        "origins": list(wish.isochrones),
-        "bands": list(wish.isochrone_bands),
+    options: dict[str, Any] = {
+        "origins": list(settings.isochrones),
+        "bands": list(settings.isochrone_bands),
         "pace": pace,
         "counted": counted,
     }
-    facts = {**whole.depends, **words, "streets": sources.sums}
+    facts = {**whole.depends, **options, "streets": sources.sums}
     return Stage(AREAS, facts, [AREAS], make, refuse_changed=sources.refuse_changed)

@@ -21,12 +21,12 @@ from .ttm import aside_of, fault_of, with_origins
 OF_THE_NETWORK = ("footpaths",)  # files that `ttm` reads once; the others are of a question
 
 
-def kept_words(run: Run) -> list[str]:
+def kept_arguments(run: Run) -> list[str]:
     """The words of the network, which all questions of its day share."""
     files = {name: path for name, path in run.files.items() if name in OF_THE_NETWORK}
     back, ahead, paths = run.back, run.ahead, run.scenarios
     kept = Run(run.feed, run.date, MIDNIGHT, 4, run.walk, scenarios=paths, back=back, ahead=ahead, files=files)
-    return kept.words()
+    return kept.arguments()
 
 
 def question_of(run: Run) -> list[str]:
@@ -39,14 +39,14 @@ def question_of(run: Run) -> list[str]:
 
 
 @dataclass(frozen=True)
-class Asked:
+class PartQuestion:
     """A part that is asked for, and its words."""
 
     part: Part
-    words: list[str]
+    arguments: list[str]
 
 
-class Kept:
+class KeptNetwork:
     """The network of a day: its processes begin with the first question, and end with the block."""
 
     def __init__(self, run: Run) -> None:
@@ -55,7 +55,7 @@ class Kept:
         self.seconds: dict[str, float] = {}  # that the part of a matrix took
         self.is_ending = False  # whether no more parts begin, since somebody pressed Ctrl-C
 
-    def __enter__(self) -> "Kept":
+    def __enter__(self) -> "KeptNetwork":
         return self
 
     def __exit__(
@@ -64,23 +64,28 @@ class Kept:
         if self.processes is not None:
             self.processes.close()
 
-    def ask(self, asked: Asked) -> Answer:
+    def ask(self, question: PartQuestion) -> Answer:
         """What the network answers; nothing is asked any more once somebody pressed Ctrl-C."""
         if self.is_ending or self.processes is None:
             raise Interrupted(signal.SIGINT)
         begin = time.monotonic()
-        answer = self.processes.ask(asked.words)
-        self.seconds[str(asked.part.matrix)] = time.monotonic() - begin
+        answer = self.processes.ask(question.arguments)
+        self.seconds[str(question.part.matrix)] = time.monotonic() - begin
         return answer
 
     def run_parts(self, run: Run, parts: Sequence[Part], shape: Shape) -> list[Failed]:
-        """Asks for the parts of a window that aren't done; one that fails is told at once, and the others go on."""
+        """Asks for the parts of a window that aren't done; one that fails is reported at once, and the others go on."""
         missing = missing_of(parts)
         if missing and self.processes is None:
-            self.processes = Processes(command_of(program_at(None), kept_words(self.run)), shape.at_once)
-        asked = [Asked(it, question_of(with_origins(run, str(it.origins_file), shape.threads))) for it in missing]
+            self.processes = Processes(
+                command_of(program_at(self.run.program), kept_arguments(self.run)), shape.at_once
+            )
+        questions = [
+            PartQuestion(part, question_of(with_origins(run, str(part.origins_file), shape.threads)))
+            for part in missing
+        ]
         with ends_gently(self.end):
-            failed = [it for it in shown(self.answered(asked, shape.at_once), len(missing)) if it is not None]
+            failed = [part for part in shown(self.answered(questions, shape.at_once), len(missing)) if part is not None]
         if self.is_ending:
             raise Interrupted(signal.SIGINT)
         return failed
@@ -89,20 +94,20 @@ class Kept:
         """Has no more parts begin."""
         self.is_ending = True
 
-    def answered(self, asked: Sequence[Asked], at_once: int) -> Iterator[Failed | None]:
+    def answered(self, questions: Sequence[PartQuestion], at_once: int) -> Iterator[Failed | None]:
         """What became of each part, as answers come; all processes end where this is left."""
-        for it in asked:
-            it.part.begin()
+        for question in questions:
+            question.part.begin()
         with ThreadPoolExecutor(at_once) as pool:
-            begun = {pool.submit(self.ask, it): it.part for it in asked}
-            waiting, told = set(begun), False
+            begun = {pool.submit(self.ask, question): question.part for question in questions}
+            waiting, is_reported = set(begun), False
             try:
                 while waiting:
                     over, waiting = wait(waiting, SECONDS_BETWEEN_LOOKS, FIRST_COMPLETED)
-                    if self.is_ending and not told:
-                        told = True
-                        tell_ending(sum(it.running() for it in waiting))
-                    yield from (self.ended(begun[it], it) for it in over if not is_left(it))
+                    if self.is_ending and not is_reported:
+                        is_reported = True
+                        tell_ending(sum(future.running() for future in waiting))
+                    yield from (self.ended(begun[future], future) for future in over if not is_left(future))
             except BaseException:
                 pool.shutdown(wait=False, cancel_futures=True)
                 self.__exit__(None, None, None)
@@ -115,13 +120,13 @@ class Kept:
         except EngineFault as fault:
             answer = Answer(fault.ended, fault.line.encode("utf-8", "replace"))
         if answer.status != 0:
-            told = fault_of(answer.body, answer.status)
-            say(f"part {part.number}: {told}")
-            return Failed(part, told)
-        made = aside_of(part.matrix)
-        made.write_bytes(answer.body)
-        settle(made)
-        os.replace(made, part.matrix)
+            message = fault_of(answer.body, answer.status)
+            say(f"part {part.number}: {message}")
+            return Failed(part, message)
+        aside = aside_of(part.matrix)
+        aside.write_bytes(answer.body)
+        settle(aside)
+        os.replace(aside, part.matrix)
         part.finish()
         log("part", part.folder.name, round(self.seconds[str(part.matrix)], 3))
         return None

@@ -13,23 +13,23 @@ from ..prepare.losses import refuse_day
 from ..gtfs.feeds import read_feed
 from ..records import rows, shown
 from .stages import room
-from .wishes import Study
+from .settings import Study
 
 OF_STUDY, OF_ORIGINS = "point of the study", "point at which journeys begin"
 
 
 def check_points(study: Study) -> None:
     """Looks at the points of a study, and at what other files say of them; without points at the columns alone."""
-    wish = study.points
-    read = {path: read_points(study.at(path)) for path in wish.all}
+    settings = study.points
+    read = {path: read_points(study.at(path)) for path in settings.all}
     columns = [name for points in read.values() for name in points.columns]
     check_columns(study, columns)
-    if not wish.all:
+    if not settings.all:
         return
     names = names_of({path: points.identifiers for path, points in read.items()})
     for path in study.opportunities.files:
         check_names(study.at(path), names, OF_STUDY)
-    origins = names_of({path: read[path].identifiers for path in (*wish.files, *wish.origins)})
+    origins = names_of({path: read[path].identifiers for path in (*settings.files, *settings.origins)})
     if study.opportunities.people:
         check_names(study.at(study.opportunities.people), origins, OF_ORIGINS)
     check_map_origins(study, origins)
@@ -55,47 +55,47 @@ def check_runs(study: Study, folder: str, days: Sequence[datetime.date]) -> None
     """
     if study.feed.allow_loss or not days:
         return
-    with room() as made:
-        feed = read_feed(folder, made)
+    with room() as aside:
+        feed = read_feed(folder, aside)
         for day in days if not check(feed) else ():
             refuse_day(study.at(study.feed.files[0]), feed, day)
 
 
 def names_of(files: dict[str, list[str]]) -> set[str]:
     """The points of some files by their names in the feed, which may begin with that of their file."""
-    return {name for path, own in files.items() for it in own for name in (it, f"{Path(path).stem}:{it}")}
+    return {name for path, own in files.items() for point in own for name in (point, f"{Path(path).stem}:{point}")}
 
 
 def check_columns(study: Study, own: Sequence[str]) -> None:
     """Looks at the columns of opportunities and people that a study names."""
-    wish = study.opportunities
-    found = [*own, *(called(name, study.at(path)) for path in wish.files for name in columns_of(study.at(path)))]
-    for name in (*wish.columns, *([wish.column] if wish.column else [])):
+    settings = study.opportunities
+    found = [*own, *(called(name, study.at(path)) for path in settings.files for name in columns_of(study.at(path)))]
+    for name in (*settings.columns, *([settings.column] if settings.column else [])):
         if name not in found:
             there = ", ".join(map(shown, found)) or "no columns of numbers"
             raise BadInput(study.path, f"[opportunities] names a column {shown(name)}; there are {there}")
-    groups = columns_of(study.at(wish.people)) if wish.people else []
-    for name in wish.groups:
+    groups = columns_of(study.at(settings.people)) if settings.people else []
+    for name in settings.groups:
         if name not in groups:
-            told = f"[opportunities] names a group {shown(name)}; there are {', '.join(map(shown, groups))}"
-            raise BadInput(study.path, told)
+            message = f"[opportunities] names a group {shown(name)}; there are {', '.join(map(shown, groups))}"
+            raise BadInput(study.path, message)
 
 
 def check_names(path: str, known: Collection[str], kind: str) -> None:
-    """Tells the first record that names what isn't known, or has no number."""
+    """Refuses the first record that names what isn't known, or has no number."""
     numbers_of(path, columns_of(path), {name: place for place, name in enumerate(known)}, kind)
 
 
 def check_origins(path: str, stops: Collection[str]) -> None:
-    """Tells the first origin that is no stop."""
+    """Refuses the first origin that is no stop."""
     for number, (name,) in rows(path, ["stop_id"]):
         if name not in stops:
             raise BadInput(path, f"{shown(name)} is no stop of the feed", record=number)
 
 
 def check_map_origins(study: Study, origins: Collection[str]) -> None:
-    """Tells an origin of a map that is none of the study."""
+    """Refuses an origin of a map that is none of the study."""
     shows = study.results.maps or study.results.page
-    lost = next((it for it in study.results.map_origins if it not in origins), None) if shows else None
+    lost = next((origin for origin in study.results.map_origins if origin not in origins), None) if shows else None
     if lost is not None:
         raise BadInput(study.path, f"map_origins of [results]: {lost} is no origin of the study")

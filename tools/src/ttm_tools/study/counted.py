@@ -14,7 +14,7 @@ from ..points.table import plain
 from ..records import Rounded, rows as table_rows, shown, write_rows
 from .sources import Sources
 from .stages import Record, Stage
-from .wishes import Study
+from .settings import Study
 
 ORIGINS, OPPORTUNITIES = "inputs/origins.csv", "inputs/opportunities.csv"
 COUNTED, PEOPLE = "inputs/counted/opportunities.csv", "inputs/people.csv"
@@ -47,14 +47,14 @@ def counted_columns(study: Study, tables: Sequence[str], own: Sequence[str]) -> 
     """The columns that are counted, in the order of the files; of the points' own file, which is the first, those that
     say something of a destination, or that are named.
     """
-    wish = study.opportunities
-    named = (*wish.columns, *([wish.column] if wish.column else []))
+    settings = study.opportunities
+    named = (*settings.columns, *([settings.column] if settings.column else []))
     found = [called(name, path) for path in tables for name in columns_of(path)]
     lost = next((name for name in named if name not in found), None)
     if lost is not None:
         there = ", ".join(map(shown, found)) or "no columns of numbers"
         raise BadInput(study.path, f"[opportunities] names a column {shown(lost)}; there are {there}")
-    if wish.columns:
+    if settings.columns:
         return [name for name in found if name in named]
     idle = set(columns_or_none(tables[0])) - set(own) if study.points.all and tables else set()
     return [name for name in found if name not in idle or name in named]
@@ -65,16 +65,16 @@ def all_points(study: Study) -> list[str]:
     if not study.points.leave_out:
         return []
     named = [(Path(path).stem, read_points(study.at(path)).identifiers) for path in study.points.all]
-    return [name for stem, own in named for it in own for name in (it, f"{stem}:{it}")]
+    return [name for stem, own in named for point in own for name in (point, f"{stem}:{point}")]
 
 
-def told_lost(whole: Counts, chosen: Counts, what: str) -> list[str]:
+def sentences_on_lost(whole: Counts, chosen: Counts, what: str) -> list[str]:
     """How much of what is counted is at places that don't count."""
     lost = (whole.numbers.sum(axis=0) - chosen.numbers.sum(axis=0)).tolist()
-    told = [
+    numbers = [
         f"{plain(round(number, 6))} {shown(name)}" for name, number in zip(whole.names, lost) if round(number, 6) > 0
     ]
-    return [f"{what}: {', '.join(told)}"] if told else []
+    return [f"{what}: {', '.join(numbers)}"] if numbers else []
 
 
 def counts_stage(
@@ -95,7 +95,7 @@ def counts_stage(
         whole = read_counts(tables, every, kind, columns)
         counts = at(every, stops, whole)
         write_counts(COUNTED, stops, counts)
-        lost = told_lost(whole, counts, "not counted, at places where no journey ends")
+        lost = sentences_on_lost(whole, counts, "not counted, at places where no journey ends")
         return [f"{COUNTED}: {', '.join(map(shown, counts.names))} at {len(stops):,} places", *lost]
 
     facts = {"stops": stops_sum, "columns": list(columns), "ends": list(stops), "own": own, "inputs": sources.sums}
@@ -114,7 +114,7 @@ def people_stage(study: Study, origins: Record, path: str) -> Stage:
         whole = read_counts([path], every, "origin of the study", groups)
         counts = at(every, names, whole)
         write_counts(PEOPLE, names, counts)
-        lost = told_lost(whole, counts, "not counted, at points that are left out")
+        lost = sentences_on_lost(whole, counts, "not counted, at points that are left out")
         return [f"{PEOPLE}: {', '.join(map(shown, counts.names))} at {len(names):,} origins", *lost]
 
     facts = {"origins": origins.outputs, "groups": groups, "inputs": sources.sums}

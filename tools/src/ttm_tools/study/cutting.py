@@ -8,7 +8,7 @@ import resource
 import socket
 from dataclasses import asdict, dataclass, replace
 from pathlib import Path
-from typing import Any, Sequence
+from typing import Any, Collection, Sequence
 
 from ..files import is_running, output, remove, sum_of
 from ..parts import origins_in, parts_of, write_stops
@@ -16,7 +16,7 @@ from .counted import ORIGINS
 from .inputs import Inputs
 from .stages import as_text, key_of, settle, write_settled
 from .ttm import Report, report_of, with_origins
-from .wishes import PartWish
+from .settings import PartSettings
 
 PARTS = "parts"
 CUT = "stages/cut.json"
@@ -24,7 +24,8 @@ FEW = 8  # origins of the longer trial
 MOST_PARTS = 1000  # of those that are cut by time: as many as arrays of clusters have
 OF_THE_FREE = 0.8  # of the machine's memory
 MB = 1_000_000
-OWN_FOLDER = re.compile("[0-9]{4}")
+FIRST = ""  # window, whose parts lie in no folder of their own
+OWN_FOLDER, OF_A_WINDOW = re.compile("[0-9]{4}"), re.compile("[0-9]{8}_.+")
 ASIDE = r"\.part\.[0-9]+\..*"
 OF_A_PART = re.compile(rf"key|matrix\.csv|origins\.csv|told\.txt|{ASIDE}")
 OF_ALL = re.compile(rf"run\.json|one_part\.sh|job|log|hosts\.txt|slurm_[0-9]+\.txt|{ASIDE}")
@@ -57,10 +58,11 @@ class Part:
     number: int
     origins: Sequence[str]
     key: str  # the sum of all that the matrix depends on
+    window: str = FIRST
 
     @property
     def folder(self) -> Path:
-        return Path(PARTS) / f"{self.number:04}"
+        return Path(PARTS) / self.window / f"{self.number:04}"
 
     @property
     def matrix(self) -> Path:
@@ -71,14 +73,14 @@ class Part:
         return self.folder / "origins.csv"
 
     @property
-    def told_file(self) -> Path:
+    def errors_file(self) -> Path:
         """Why it failed where another machine ran it."""
         return self.folder / "told.txt"
 
     def begin(self) -> None:
         """Makes the folder of a part that isn't done, with its origins and nothing else."""
         self.folder.mkdir(parents=True, exist_ok=True)
-        for path in (self.folder / "key", self.told_file, self.matrix):
+        for path in (self.folder / "key", self.errors_file, self.matrix):
             remove(path)
         for path in self.folder.glob(f".part.*.{socket.gethostname()}.*"):
             if not is_running(int(path.name.split(".")[2])):
@@ -94,8 +96,8 @@ class Part:
 
     def noted(self) -> dict[str, Any]:
         try:
-            made: dict[str, Any] = dict(json.loads((self.folder / "key").read_text(encoding="utf-8")))
-            return made
+            key: dict[str, Any] = dict(json.loads((self.folder / "key").read_text(encoding="utf-8")))
+            return key
         except (OSError, ValueError, TypeError):
             return {}
 
@@ -116,13 +118,13 @@ def study_key(inputs: Inputs, version: Sequence[str]) -> str:
     """The sum of all that rows depend on but their origins."""
     run = replace(inputs.run, workers=1, files={**inputs.run.files, "origins": ""})
     sums = {name: was for name, was in inputs.sums.items() if name != ORIGINS}
-    return key_of({"words": run.words(), "inputs": sums, "ttm": list(version)})
+    return key_of({"words": run.arguments(), "inputs": sums, "ttm": list(version)})
 
 
-def parts_for(origins: Sequence[str], count: int, key: str) -> list[Part]:
+def parts_for(origins: Sequence[str], count: int, key: str, window: str = FIRST) -> list[Part]:
     """So many parts of the origins."""
-    cut = parts_of(origins, count)
-    return [Part(number, some, key_of({"study": key, "origins": list(some)})) for number, some in enumerate(cut, 1)]
+    keys = [(some, key_of({"study": key, "origins": list(some)})) for some in parts_of(origins, count)]
+    return [Part(number, some, own, window) for number, (some, own) in enumerate(keys, 1)]
 
 
 def processor_time() -> float:
@@ -159,19 +161,19 @@ def fitting(memory: int, costs: Costs, rows: int, workers: int) -> int:
     return max(1, min(workers, memory // each if memory and each else workers))
 
 
-def shape_of(wish: PartWish, costs: Costs, origins: int, workers: int, known: int | None = None) -> Shape:
+def shape_of(settings: PartSettings, costs: Costs, origins: int, workers: int, known: int | None = None) -> Shape:
     """Parts of about so many minutes, of which so many run at once as memory allows: where fewer do than there are
     processors, each takes several. Parts that are known, or counted by hand, stay so many.
     """
-    memory = wish.memory * MB if wish.memory else int(OF_THE_FREE * costs.free)
-    count = known or wish.count
+    memory = settings.memory * MB if settings.memory else int(OF_THE_FREE * costs.free)
+    count = known or settings.count
     if count is not None:
         at_once = fitting(memory, costs, math.ceil(origins / count), workers)
         return Shape(min(count, origins), at_once, max(1, workers // at_once))
     at_once = fitting(memory, costs, 1, workers)
     threads = max(1, workers // at_once)
     by_memory = (memory // at_once - costs.network) // max(1, costs.row) if memory else origins
-    by_time = threads * (60 * wish.minutes - costs.setup) / costs.each if costs.each else origins
+    by_time = threads * (60 * settings.minutes - costs.setup) / costs.each if costs.each else origins
     largest = max(1, min(int(min(by_time, origins)), int(min(by_memory, origins))))
     parts = max(math.ceil(origins / largest), min(at_once, origins))
     if parts > at_once:
@@ -180,10 +182,10 @@ def shape_of(wish: PartWish, costs: Costs, origins: int, workers: int, known: in
     return Shape(parts, at_once, threads)
 
 
-def cut_of(wish: PartWish, inputs: Inputs, key: str, workers: int, room: Path) -> tuple[list[Part], Shape]:
+def cut_of(settings: PartSettings, inputs: Inputs, key: str, workers: int, room: Path) -> tuple[list[Part], Shape]:
     """The parts as they were cut before, or as they are cut now; parts of another study are removed."""
     origins = origins_in(str(inputs.run.files["origins"]))
-    facts = key_of([key, origins, asdict(wish) | {"keep": False}])
+    facts = key_of([key, origins, asdict(settings) | {"keep": False}])
     try:
         noted = json.loads(Path(CUT).read_text(encoding="utf-8"))
         known = noted["key"] == facts and noted["workers"] == workers
@@ -192,11 +194,12 @@ def cut_of(wish: PartWish, inputs: Inputs, key: str, workers: int, room: Path) -
         known, shape = False, None
     if shape is None or not known:
         costs = costs_of(inputs, origins, room)
-        shape = shape_of(wish, costs, len(origins), workers, shape.parts if shape else None)
+        shape = shape_of(settings, costs, len(origins), workers, shape.parts if shape else None)
         noted = {"key": facts, "workers": workers, "shape": asdict(shape), "costs": asdict(costs)}
         write_settled(Path(CUT), as_text(noted))
     parts = parts_for(origins, shape.parts, key)
-    remove_others({part.folder.name for part in parts})
+    Path(PARTS).mkdir(exist_ok=True)
+    remove_others(FIRST, {part.folder.name for part in parts})
     return parts, shape
 
 
@@ -208,18 +211,29 @@ def parts_noted() -> int:
         return 1
 
 
-def remove_others(names: set[str]) -> None:
-    """Removes the folders of parts that the study doesn't have."""
-    Path(PARTS).mkdir(exist_ok=True)
-    for path in Path(PARTS).iterdir():
+def remove_others(window: str, names: Collection[str] = ()) -> None:
+    """Removes the folders of a window's parts but for some."""
+    folder = Path(PARTS) / window
+    for path in folder.iterdir() if folder.is_dir() else ():
         if path.is_dir() and OWN_FOLDER.fullmatch(path.name) and path.name not in names:
             remove_own(path, OF_A_PART)
+    if window != FIRST:
+        with contextlib.suppress(OSError):  # it isn't there, or isn't empty
+            folder.rmdir()
+
+
+def remove_windows(names: Collection[str] = ()) -> None:
+    """Removes the parts of all windows but some, and of the first."""
+    for path in Path(PARTS).iterdir() if Path(PARTS).is_dir() else ():
+        if path.is_dir() and OF_A_WINDOW.fullmatch(path.name) and path.name not in names:
+            remove_others(path.name)
 
 
 def remove_parts() -> None:
     """Removes all parts, and what was noted of them, but nothing else."""
     if Path(PARTS).is_dir():
-        remove_others(set())
+        remove_others(FIRST)
+        remove_windows()
         remove_own(Path(PARTS), OF_ALL)
 
 

@@ -65,9 +65,9 @@ class Document:
         self.body.append(f"<p>{html.escape(text)}</p>")
 
     def items(self, texts: Iterable[str]) -> None:
-        made = list(texts)
-        self.markdown.append("\n".join(f"- {plain(text)}" for text in made))
-        self.body.append("<ul>" + "".join(f"<li>{html.escape(text)}</li>" for text in made) + "</ul>")
+        listed = list(texts)
+        self.markdown.append("\n".join(f"- {plain(text)}" for text in listed))
+        self.body.append("<ul>" + "".join(f"<li>{html.escape(text)}</li>" for text in listed) + "</ul>")
 
     def code(self, lines: Sequence[str]) -> None:
         """Lines as they stand."""

@@ -47,7 +47,7 @@ class Means:
         return self.workers or processors()
 
     @property
-    def words(self) -> list[str]:
+    def arguments(self) -> list[str]:
         """The options as they are handed on, such as --partition=long."""
         return [f"--{option.lstrip('-')}" for option in self.options]
 
@@ -56,24 +56,24 @@ def run_elsewhere(run: Run, parts: Sequence[Part], key: str, version: Sequence[s
     """Computes the parts that aren't done, and waits until other machines have done so."""
     missing = still(parts)
     if missing:
-        write_task(run, len(parts), key, version)
+        write_task(run, parts, key, version)
     job = job_that_goes_on() if means.slurm and missing else None
     if job is not None:
         say(f"parts: job {job} of this study goes on, and is waited for")
         wait(missing, end_of(job))
         missing = still(missing)
     for part in missing:
-        remove(part.told_file)
+        remove(part.errors_file)
     if missing and means.slurm:
-        wait(missing, end_of(submit(missing, means.words)))
+        wait(missing, end_of(submit(missing, means.arguments)))
     elif missing:
-        with by_parallel(missing, means.hosts or ":", means.words) as work, ends_gently(work.end):
+        with by_parallel(missing, means.hosts or ":", means.arguments) as work, ends_gently(work.end):
             wait(missing, work.is_over, work.may_come)
         if work.is_ending:
             raise Interrupted(signal.SIGINT)
-    failed = [Failed(part, told_of(part)) for part in still(missing)]
-    for it in failed:
-        say(f"part {it.part.number}: {it.told}")
+    failed = [Failed(part, message_of(part)) for part in still(missing)]
+    for failure in failed:
+        say(f"part {failure.part.number}: {failure.message}")
     return failed
 
 
@@ -98,14 +98,14 @@ def ends_of(missing: Sequence[Part], is_over: Callable[[], bool], may_come: Chos
         waiting = left
         if over:
             end, waiting = end or time.monotonic() + SECONDS_FOR_FILES, may_come(waiting)
-            if time.monotonic() > end or all(part.told_file.exists() for part in waiting):
+            if time.monotonic() > end or all(part.errors_file.exists() for part in waiting):
                 return
         if waiting:
             time.sleep(SECONDS_BETWEEN_LOOKS)
 
 
-def told_of(part: Part) -> str:
+def message_of(part: Part) -> str:
     try:
-        return one_line(part.told_file.read_text(encoding="utf-8"))
+        return one_line(part.errors_file.read_text(encoding="utf-8"))
     except OSError:
         return f"{NO_LINE}{PARTS}"

@@ -10,7 +10,7 @@ from ..records import write_rows
 from ..walks import Pace
 from .sources import Sources
 from .stages import Stage
-from .wishes import Study
+from .settings import Study
 
 GRID = "inputs/grid.csv"
 
@@ -26,23 +26,23 @@ def with_grid(study: Study) -> Study:
     points = replace(points, **{place: (*getattr(points, place), GRID)})
     if opportunities.groups and opportunities.people is None:
         opportunities = replace(opportunities, people=GRID)
-    return replace(study, points=points, opportunities=opportunities, made=(*study.made, GRID))
+    return replace(study, points=points, opportunities=opportunities, generated=(*study.generated, GRID))
 
 
 def grid_stage(study: Study, feed: str, stops_sum: str | None, reads: Callable[..., Sources]) -> Stage:
     """The cells with the numbers of people, jobs and the like that lie in them."""
-    wish = study.points
-    width = wish.grid or 0.0
+    settings = study.points
+    width = settings.grid or 0.0
     pace = Pace(study.walk_limit, study.walks.speed, study.walks.detour)
-    sources = reads(wish.grid_area, *wish.grid_people)
+    sources = reads(settings.grid_area, *settings.grid_people)
 
     def make() -> list[str]:
-        area = study.at(wish.grid_area) if wish.grid_area else None
+        area = study.at(settings.grid_area) if settings.grid_area else None
         cells = grids.grid_over(area, width) if area else grids.grid_near(read_stops(feed), width, pace.metres)
-        made, told = grids.filled(cells, [study.at(path) for path in wish.grid_people])
+        points, sentences = grids.filled(cells, [study.at(path) for path in settings.grid_people])
         with open(GRID, "wb") as file:
-            write_rows(file, ["id", "name", "lat", "lon", "width", *made.columns], point_lines(made))
-        return [f"{GRID}: {len(made.identifiers):,} cells of {width:g} metres", *told]
+            write_rows(file, ["id", "name", "lat", "lon", "width", *points.columns], point_lines(points))
+        return [f"{GRID}: {len(points.identifiers):,} cells of {width:g} metres", *sentences]
 
-    facts = {"width": width, "metres": pace.metres, "area": wish.grid_area is not None, "inputs": sources.sums}
+    facts = {"width": width, "metres": pace.metres, "area": settings.grid_area is not None, "inputs": sources.sums}
     return Stage("grid", {"stops": stops_sum, **facts}, [GRID], make, refuse_changed=sources.refuse_changed)

@@ -26,12 +26,12 @@ def command(folder: str) -> str:
 class Hosts:
     """GNU parallel at work on some parts. It has a session of its own, so that Ctrl-C reaches this process alone."""
 
-    def __init__(self, missing: Sequence[Part], hosts: str, words: Sequence[str]) -> None:
-        own = ["parallel", "--sshlogin", hosts, "--joblog", LOG, *words]
+    def __init__(self, missing: Sequence[Part], hosts: str, options: Sequence[str]) -> None:
+        own = ["parallel", "--sshlogin", hosts, "--joblog", LOG, *options]
         called = [*own, command(os.getcwd()), ":::", *[str(part.number) for part in missing]]
         self.missing, self.is_ending, self.has_said_so = missing, False, False
-        with open(f"{PARTS}/hosts.txt", "wb") as told:
-            how: dict[str, Any] = {"stdin": subprocess.DEVNULL, "stdout": told, "stderr": told}
+        with open(f"{PARTS}/hosts.txt", "wb") as file:
+            how: dict[str, Any] = {"stdin": subprocess.DEVNULL, "stdout": file, "stderr": file}
             self.process = subprocess.Popen(called, **how, start_new_session=True)
 
     def end(self) -> None:
@@ -67,11 +67,11 @@ class Hosts:
 
 
 @contextlib.contextmanager
-def by_parallel(missing: Sequence[Part], hosts: str, words: Sequence[str]) -> Iterator[Hosts]:
+def by_parallel(missing: Sequence[Part], hosts: str, options: Sequence[str]) -> Iterator[Hosts]:
     """Runs the parts on hosts by GNU parallel, and ends what runs where this is left."""
     needs_program("parallel", "parallel")
     Path(LOG).unlink(missing_ok=True)
-    work = Hosts(missing, hosts, words)
+    work = Hosts(missing, hosts, options)
     try:
         yield work
     finally:

@@ -4,7 +4,7 @@ points, walks, origins, opportunities. All paths of what is made are from that f
 
 import datetime
 import shlex
-from dataclasses import asdict, dataclass
+from dataclasses import asdict, dataclass, replace
 from pathlib import Path
 from typing import Any
 
@@ -35,7 +35,7 @@ from .run import name_of, run_of, shown_names
 from .sources import Sources
 from .stages import Folder, Record, Stage, room
 from .walking import FOOTPATHS, POINTS, points_stage, walks_stage
-from .wishes import FeedWish, Study
+from .settings import FeedSettings, Study
 
 FEED, PLANNED, SCENARIOS = "inputs/feed", "inputs/planned", "inputs/scenarios"
 DESTINATIONS = f"{POINTS}/destinations.csv"
@@ -91,12 +91,12 @@ class Maker:
 
     def reads(self, *given: str | None) -> Sources:
         """Files and folders that the study's file names, with their sums."""
-        made = Sources(self.study.at, [path for path in given if path])
-        self.sources |= {name: was for name, was in made.stated.items() if name not in self.study.made}
-        return made
+        sources = Sources(self.study.at, [path for path in given if path])
+        self.sources |= {name: was for name, was in sources.stated.items() if name not in self.study.generated}
+        return sources
 
     def do(self, stage: Stage) -> Record:
-        self.sources |= {name: was for name, was in stage.stated.items() if name not in self.study.made}
+        self.sources |= {name: was for name, was in stage.stated.items() if name not in self.study.generated}
         self.records[stage.name] = self.folder.do(stage)
         return self.records[stage.name]
 
@@ -115,8 +115,8 @@ class Maker:
         if self.study.scenarios.plan:
             self.do(plan_stage(self))
             self.feed = PLANNED
-            words = shlex.split((Path(PLANNED) / plans.WORDS).read_text(encoding="utf-8", errors="surrogateescape"))
-            return words[2:]
+            arguments = shlex.split((Path(PLANNED) / plans.WORDS).read_text(encoding="utf-8", errors="surrogateescape"))
+            return arguments[2:]
         if self.study.scenarios.files:
             self.do(scenarios_stage(self))
         return [f"{SCENARIOS}/{Path(path).name}" for path in self.study.scenarios.files]
@@ -145,24 +145,24 @@ class Maker:
 
     def counts(self) -> None:
         """What is counted, by the tools and by `ttm`, and for whom."""
-        study, wish, known = self.study, self.study.opportunities, origins_of_feed(self.feed)
+        study, settings, known = self.study, self.study.opportunities, origins_of_feed(self.feed)
         ends = self.destinations() or known
         path = f"{self.feed}/{points.POINTS}" if study.points.all else None
         own = own_columns(path, known, ends) if path else []
-        tables = [*([path] if path and columns_or_none(path) else []), *map(study.at, wish.files)]
+        tables = [*([path] if path and columns_or_none(path) else []), *map(study.at, settings.files)]
         columns = counted_columns(study, tables, own)
         if columns:
             self.do(counts_stage(study, self.stops_sum, tables, columns, known, ends))
-            column = wish.column or (columns[0] if len(columns) == 1 else None)
+            column = settings.column or (columns[0] if len(columns) == 1 else None)
             if column is not None:
                 self.do(opportunities_stage(self.records["counted"], column))
                 self.files["opportunities"] = OPPORTUNITIES
-        if wish.people:
-            self.do(people_stage(study, self.records["origins"], study.at(wish.people)))
+        if settings.people:
+            self.do(people_stage(study, self.records["origins"], study.at(settings.people)))
 
 
-def make_inputs(study: Study, folder: Folder) -> Inputs:
-    """Does all stages that come before the run."""
+def make_inputs(study: Study, folder: Folder, program: str) -> Inputs:
+    """Does all stages that come before the run, which is by a program."""
     maker = Maker(study, folder)
     if study.points.grid is None:
         check_points(study)
@@ -179,14 +179,14 @@ def make_inputs(study: Study, folder: Folder) -> Inputs:
     base = TODAY if any(name_of(path) == TODAY for path in scenarios) else BASE
     shown_as = shown_names(scenarios, study.results.csv) if base == TODAY else {}
     own = [path for path in scenarios if shown_as.get(name_of(path)) != BASE]
-    run = run_of(study, maker.feed, maker.files, own)
+    run = replace(run_of(study, maker.feed, maker.files, own), program=program)
     return Inputs(run, base, tuple(scenarios), shown_as, maker.destinations(), maker.records, maker.sources)
 
 
 def dates_of(study: Study) -> list[datetime.date]:
     """The days of the departures, of which there may be several."""
     named = study.run.dates or (study.run.date,)
-    return [day_of(it) for it in named]
+    return [day_of(text) for text in named]
 
 
 def days_of(study: Study) -> list[datetime.date]:
@@ -197,43 +197,45 @@ def days_of(study: Study) -> list[datetime.date]:
 
 def feed_stage(maker: Maker) -> Stage:
     """The feed, made ready or as it is."""
-    study, wish = maker.study, maker.study.feed
-    sources = maker.reads(*wish.files, wish.area)
-    paths = [study.at(path) for path in wish.files]
-    area = study.at(wish.area) if wish.area else None
+    study, settings = maker.study, maker.study.feed
+    sources = maker.reads(*settings.files, settings.area)
+    paths = [study.at(path) for path in settings.files]
+    area = study.at(settings.area) if settings.area else None
     dates, days = dates_of(study), days_of(study)
-    clip = Clip(wish.box, area, wish.routes, wish.agencies, days)
+    clip = Clip(settings.box, area, settings.routes, settings.agencies, days)
 
     def make() -> list[str]:
-        if wish.ready:
-            told = taken(paths[0])
+        if settings.ready:
+            sentences = taken(paths[0])
             check_runs(study, FEED, dates)
-            return told
-        from ..prepare.make import Asked, make as make_ready
+            return sentences
+        from ..prepare.make import PrepareOptions, make as make_ready
 
-        with room() as made:
-            asked = Asked(paths, FEED, wish.repair, clip, wish.allow_loss, dates[0], wish.same_clock)
-            told = make_ready(asked, made)
+        with room() as folder:
+            options = PrepareOptions(
+                paths, FEED, settings.repair, clip, settings.allow_loss, dates[0], settings.same_clock
+            )
+            sentences = make_ready(options, folder)
         check_runs(study, FEED, dates[1:])
-        return told
+        return sentences
 
-    depends = {"wish": facts_of(wish), "days": [str(day) for day in [*dates, *days]], "inputs": sources.sums}
+    depends = {"wish": facts_of(settings), "days": [str(day) for day in [*dates, *days]], "inputs": sources.sums}
     return Stage("feed", depends, [FEED], make, refuse_changed=sources.refuse_changed)
 
 
-def facts_of(wish: FeedWish) -> dict[str, Any]:
+def facts_of(settings: FeedSettings) -> dict[str, Any]:
     """What is asked of the feed, whatever its files are called."""
-    return {key: value for key, value in asdict(wish).items() if key not in ("files", "area")}
+    return {key: value for key, value in asdict(settings).items() if key not in ("files", "area")}
 
 
 def taken(path: str) -> list[str]:
     """Copies a feed that is ready."""
     if not Path(path).is_dir():
         raise BadInput(path, "is no folder: a feed that is ready is one")
-    files = sorted(it for it in Path(path).iterdir() if it.suffix in (".txt", ".csv") and it.is_file())
-    with many_written_aside(FEED) as made:
+    files = sorted(path for path in Path(path).iterdir() if path.suffix in (".txt", ".csv") and path.is_file())
+    with many_written_aside(FEED) as folder:
         for file in files:
-            copy_file(inside(Path(path), file), made / file.name)
+            copy_file(inside(Path(path), file), folder / file.name)
     return [f"{FEED}: {len(files)} files as they are"]
 
 
@@ -286,9 +288,9 @@ def scenarios_stage(maker: Maker) -> Stage:
     sources = maker.reads(*study.scenarios.files)
 
     def make() -> list[str]:
-        with many_written_aside(SCENARIOS) as made:
+        with many_written_aside(SCENARIOS) as folder:
             for path in paths:
-                copy_file(path, made / path.name)
+                copy_file(path, folder / path.name)
         return [f"{SCENARIOS}: {', '.join(names)}"]
 
     depends = {"names": names, "inputs": sources.sums}

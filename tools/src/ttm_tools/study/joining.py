@@ -10,7 +10,7 @@ from ..files import output, remove
 from ..matrices import Matrix, Seconds, Share, Sums, write_open_matrix
 from ..matrices.chosen import Chosen
 from ..matrices.csv_matrix import CsvMatrix
-from ..parts import Part as CsvPart, write_whole
+from ..parts import PartMatrix, write_whole
 from ..threads import in_order
 from .cutting import Part
 
@@ -60,7 +60,7 @@ class Joined(Matrix):
 
 
 def refuse_changed(parts: Sequence[Part], threads: int) -> None:
-    """Tells the first part whose bytes aren't those that were made, and has it be computed again."""
+    """Refuses the first part whose bytes aren't those that were made, and has it be computed again."""
     for part, is_whole in zip(parts, in_order(Part.is_whole, parts, threads)):
         if not is_whole:
             remove(part.folder / "key")
@@ -82,9 +82,9 @@ def join_parts(
     joined = Joined(parts, shown_as)
     matrix = Chosen(joined, shown) if shown else joined
     write_open_matrix(matrix, path, threads)
-    told = [f"{path}: {joined.begins[-1]:,} origins, {len(matrix.stops):,} {'points' if shown else 'stops'}"]
+    sentences = [f"{path}: {joined.begins[-1]:,} origins, {len(matrix.stops):,} {'points' if shown else 'stops'}"]
     if with_csv:
         with output(CSV) as file:
-            write_whole([CsvPart(str(part.matrix)) for part in parts], file)
-        told.append(f"{CSV}: the bytes of one run")
-    return told
+            write_whole([PartMatrix(str(part.matrix)) for part in parts], file)
+        sentences.append(f"{CSV}: the bytes of one run")
+    return sentences

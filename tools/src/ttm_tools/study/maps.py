@@ -9,21 +9,21 @@ from ..files import many_written_aside, output
 from ..naming import file_names
 from ..views.lines import planned_of
 from ..measures.opportunities import columns_of
-from ..views.isochrones import Ground, Walking
+from ..views.isochrones import AreaGround, Walking
 from ..views.maps import Areas, Sheet, figure_of, figure_of_isochrones, picture_of
 from ..views.nearest import Nearest
-from ..views.pictures import Wish
+from ..views.pictures import PictureOptions
 from .areas import ground_for, streets_of
 from .counted import COUNTED
-from .results import STOPS, Whole
+from .results import STOPS, Records, Whole
 from .sources import Sources
-from .stages import Folder, Record, Stage
+from .stages import Stage
 
 MAPS = "maps"
 
 
 @dataclass(frozen=True)
-class Drawn:
+class StudyMap:
     """A map."""
 
     file: str
@@ -38,46 +38,47 @@ class Drawn:
         return self.kind == "difference"
 
 
-def maps_of(whole: Whole) -> list[Drawn]:
+def maps_of(whole: Whole) -> list[StudyMap]:
     """All maps of a study."""
     base = whole.inputs.base
-    made = [Drawn(f"{MAPS}/access.png", "access", base)]
-    made += [Drawn(f"{MAPS}/access_{name}.png", "difference", it) for it, name in whole.others.items()]
+    drawn = [StudyMap(f"{MAPS}/access.png", "access", base)]
+    drawn += [StudyMap(f"{MAPS}/access_{name}.png", "difference", scenario) for scenario, name in whole.others.items()]
     ends = ["", *(f"_{name}" for name in whole.others.values())]
     for origin, stop in file_names(list(whole.study.results.map_origins), ends).items():
-        made.append(Drawn(f"{MAPS}/times_{stop}.png", "times", base, origin))
-        for it, name in whole.others.items():
-            made.append(Drawn(f"{MAPS}/times_{stop}_{name}.png", "difference", it, origin))
-    return made + maps_of_nearest(whole) + maps_of_areas(whole)
+        drawn.append(StudyMap(f"{MAPS}/times_{stop}.png", "times", base, origin))
+        for scenario, name in whole.others.items():
+            drawn.append(StudyMap(f"{MAPS}/times_{stop}_{name}.png", "difference", scenario, origin))
+    return drawn + maps_of_nearest(whole) + maps_of_areas(whole)
 
 
-def maps_of_nearest(whole: Whole) -> list[Drawn]:
+def maps_of_nearest(whole: Whole) -> list[StudyMap]:
     """Maps of the time to the first count of the nearest, of each thing that is counted."""
     if not whole.study.results.nearest:
         return []
-    base, made = whole.inputs.base, list[Drawn]()
+    base, drawn = whole.inputs.base, list[StudyMap]()
     names = columns_of(COUNTED) if "counted" in whole.inputs.records else [STOPS]
     ends = ["", *(f"_{name}" for name in whole.others.values())]
     for what, column in file_names(names, ends).items():
-        made.append(Drawn(f"{MAPS}/nearest_{column}.png", "nearest", base, nearest=what))
-        for it, name in whole.others.items():
-            made.append(Drawn(f"{MAPS}/nearest_{column}_{name}.png", "difference", it, nearest=what))
-    return made
+        drawn.append(StudyMap(f"{MAPS}/nearest_{column}.png", "nearest", base, nearest=what))
+        for scenario, name in whole.others.items():
+            drawn.append(StudyMap(f"{MAPS}/nearest_{column}_{name}.png", "difference", scenario, nearest=what))
+    return drawn
 
 
-def maps_of_areas(whole: Whole) -> list[Drawn]:
+def maps_of_areas(whole: Whole) -> list[StudyMap]:
     """Maps of the areas that are reached from each named place, in each scenario."""
-    made, base = list[Drawn](), whole.inputs.base
+    drawn, base = list[StudyMap](), whole.inputs.base
     ends = ["", *(f"_{name}" for name in whole.others.values())]
     for origin, stop in file_names(list(whole.study.results.isochrones), ends).items():
-        names = {base: "", **{it: f"_{name}" for it, name in whole.others.items()}}
-        made += [Drawn(f"{MAPS}/isochrones_{stop}{end}.png", "isochrones", it, origin) for it, end in names.items()]
-    return made
+        names = {base: "", **{scenario: f"_{name}" for scenario, name in whole.others.items()}}
+        drawn += [
+            StudyMap(f"{MAPS}/isochrones_{stop}{end}.png", "isochrones", name, origin) for name, end in names.items()
+        ]
+    return drawn
 
 
-def make_maps(whole: Whole, folder: Folder) -> Record | None:
-    """Draws all maps."""
-    return folder.do(maps_stage(whole)) if whole.study.results.maps else None
+def maps_stages(whole: Whole, known: Records) -> list[Stage]:
+    return [maps_stage(whole)] if whole.study.results.maps else []
 
 
 def maps_stage(whole: Whole) -> Stage:
@@ -86,37 +87,39 @@ def maps_stage(whole: Whole) -> Stage:
     def make() -> list[str]:
         with many_written_aside(MAPS) as folder:
             walked = functools.cache(lambda: ground_for(whole))
-            for it in drawn:
-                draw(whole, it, folder, walked)
+            for picture in drawn:
+                draw(whole, picture, folder, walked)
         return [f"{MAPS}: {len(drawn)} pictures"]
 
     study, inputs = whole.study, whole.inputs
-    words = [study.about.note, whole.unit, list(study.results.map_origins), whole.scenarios]
+    options = [study.about.note, whole.unit, list(study.results.map_origins), whole.scenarios]
     counted = inputs.records["counted"].outputs if "counted" in inputs.records and study.results.nearest else {}
-    facts: dict[str, Any] = {**whole.depends, "words": words, "run": inputs.sums, "counted": counted}
+    facts: dict[str, Any] = {**whole.depends, "words": options, "run": inputs.sums, "counted": counted}
     facts["nearest"] = list(study.results.nearest[:1])
-    wish, walks = study.results, [study.walk_limit, study.walks.speed, study.walks.detour, study.walks.near]
-    sources = streets_of(whole) if wish.isochrones else Sources(study.at, [])
-    facts["isochrones"] = [wish.isochrones, wish.isochrone_bands, walks, sources.sums] if wish.isochrones else []
+    settings, walks = study.results, [study.walk_limit, study.walks.speed, study.walks.detour, study.walks.near]
+    sources = streets_of(whole) if settings.isochrones else Sources(study.at, [])
+    facts["isochrones"] = (
+        [settings.isochrones, settings.isochrone_bands, walks, sources.sums] if settings.isochrones else []
+    )
     return Stage("maps", facts, [MAPS], make, refuse_changed=sources.refuse_changed)
 
 
-def draw(whole: Whole, drawn: Drawn, folder: Path, walked: Callable[[], tuple[Ground, Walking]]) -> None:
+def draw(whole: Whole, drawn: StudyMap, folder: Path, walked: Callable[[], tuple[AreaGround, Walking]]) -> None:
     """Draws one map into a folder."""
     figure = areas_drawn(whole, drawn, walked()) if drawn.kind == "isochrones" else classes_drawn(whole, drawn)
     with output(str(folder / Path(drawn.file).name)) as file:
         figure.savefig(file, format="png", dpi="figure")
 
 
-def wish_of(whole: Whole, drawn: Drawn) -> Wish:
+def options_of(whole: Whole, drawn: StudyMap) -> PictureOptions:
     """What of the matrix is drawn."""
     study, inputs = whole.study, whole.inputs
     what = "points" if "points" in inputs.records else "stops"
     breaks = study.results.isochrone_bands if drawn.kind == "isochrones" else None
-    return Wish(drawn.scenario, inputs.base, study.share, study.within, breaks, whole.unit, what)
+    return PictureOptions(drawn.scenario, inputs.base, study.share, study.within, breaks, whole.unit, what)
 
 
-def sheet_of(whole: Whole, drawn: Drawn) -> Sheet:
+def sheet_of(whole: Whole, drawn: StudyMap) -> Sheet:
     """What stands around a map, with the lines that a scenario takes out or brings."""
     inputs = whole.inputs
     edits = [inputs.edits[name] for name in (inputs.base, drawn.scenario) if name in inputs.edits]
@@ -125,20 +128,20 @@ def sheet_of(whole: Whole, drawn: Drawn) -> Sheet:
     return Sheet(None, whole.study.about.note, edits=own, planned=planned)
 
 
-def areas_drawn(whole: Whole, drawn: Drawn, walked: tuple[Ground, Walking]) -> Any:
+def areas_drawn(whole: Whole, drawn: StudyMap, walked: tuple[AreaGround, Walking]) -> Any:
     """The areas that are reached from a place."""
     matrix, stops = whole.open()
-    areas = Areas(drawn.origin or "", wish_of(whole, drawn), *walked)
+    areas = Areas(drawn.origin or "", options_of(whole, drawn), *walked)
     return figure_of_isochrones(matrix, stops, whole.inputs.feed, sheet_of(whole, drawn), areas)
 
 
-def classes_drawn(whole: Whole, drawn: Drawn) -> Any:
+def classes_drawn(whole: Whole, drawn: StudyMap) -> Any:
     """A map of classes of stops or points."""
     matrix, stops = whole.open()
     sought = None
     if drawn.nearest is not None:
         numbers = whole.counts(matrix).named(drawn.nearest)
         sought = Nearest(drawn.nearest, numbers, whole.study.results.nearest[0])
-    picture = picture_of(drawn.kind, matrix, stops, drawn.origin, wish_of(whole, drawn), sought)
+    picture = picture_of(drawn.kind, matrix, stops, drawn.origin, options_of(whole, drawn), sought)
     base = whole.inputs.base if drawn.is_difference else None
     return figure_of(picture, matrix, stops, whole.inputs.feed, sheet_of(whole, drawn), base)

@@ -14,7 +14,7 @@ from ..opening.texts import read_json
 from .results import Whole
 from .stages import Record, as_text, logged, sum_of_tools, write_settled
 from .ttm import Version, facts_of
-from .windows import asked_of, matrix_of
+from .windows import inputs_of, matrix_of
 
 NOTES, FORM = "study.json", 1
 PACKAGES = ("numpy", "pandas", "h5py", "matplotlib", "scipy", "osmium", "jinja2")
@@ -22,21 +22,21 @@ PACKAGES = ("numpy", "pandas", "h5py", "matplotlib", "scipy", "osmium", "jinja2"
 
 def versions(ttm: Sequence[str], program: str) -> dict[str, Any]:
     """What made the folder: with the sum of the program."""
-    made: dict[str, Any] = {"ttm": ttm[0], "toolchain": ttm[1] if len(ttm) > 1 else "", "ttm_tools": __version__}
-    made |= {"ttm_sha256": program, "ttm_tools_sha256": sum_of_tools()}
-    made["python"] = platform.python_version()
+    known: dict[str, Any] = {"ttm": ttm[0], "toolchain": ttm[1] if len(ttm) > 1 else "", "ttm_tools": __version__}
+    known |= {"ttm_sha256": program, "ttm_tools_sha256": sum_of_tools()}
+    known["python"] = platform.python_version()
     for name in PACKAGES:
         try:
-            made[name] = importlib.metadata.version(name)
+            known[name] = importlib.metadata.version(name)
         except importlib.metadata.PackageNotFoundError:
             continue
-    return made
+    return known
 
 
 def write_notes(whole: Whole, records: dict[str, Record], version: Version, parts: int) -> None:
     """Writes what was done, unless that stands there already."""
     study, inputs = whole.study, whole.inputs
-    made = {**inputs.records, **records}
+    all_records = {**inputs.records, **records}
     facts: dict[str, Any] = {
         "form": FORM,
         "title": study.title,
@@ -44,12 +44,15 @@ def write_notes(whole: Whole, records: dict[str, Record], version: Version, part
         "study_file": study.text,
         "sources": inputs.sources,
         "sources_in": os.path.relpath(study.path.parent),
-        "words": inputs.run.words(),
+        "words": inputs.run.arguments(),
         "run": facts_of(inputs.run),
         "shown_as": inputs.shown_as,
-        "windows": {matrix_of(it): facts_of(asked_of(inputs, it).run) for it in study.questions[1:]},
+        "windows": {matrix_of(question): facts_of(inputs_of(inputs, question).run) for question in study.questions[1:]},
         "parts": parts,
-        "stages": {name: {"key": it.key, "told": it.lines, "files": it.outputs} for name, it in made.items()},
+        "stages": {
+            name: {"key": record.key, "told": record.lines, "files": record.outputs}
+            for name, record in all_records.items()
+        },
         "versions": versions(version.lines, version.sum),
     }
     try:
@@ -81,7 +84,7 @@ def read_notes(folder: Path) -> dict[str, Any]:
         regular(path)
     except BadInput as fault:
         raise BadInput(path, f"{fault.what}: is it the folder of a study that is done?") from None
-    made: dict[str, Any] = read_json(path, "JSON of a study")
-    if not isinstance(made, dict) or made.get("form") != FORM:
+    notes: dict[str, Any] = read_json(path, "JSON of a study")
+    if not isinstance(notes, dict) or notes.get("form") != FORM:
         raise BadInput(path, f"is of another form than {FORM}")
-    return made
+    return notes

@@ -5,41 +5,43 @@ from typing import Any
 from ..files import output
 from ..measures.opportunities import columns_of
 from ..points.study import POINTS
-from ..views.page.make import Wish, page_of
+from ..views.page.make import PageSettings, page_of
+from .areas import streets_of
 from .counted import COUNTED, PEOPLE
-from .results import Whole
-from .stages import Folder, Record, Stage
+from .results import Records, Whole
+from .stages import Stage
 
 PAGE = "page.html"
 LEAST, MOST = 1.0, 250.0  # minutes that a limit of the page may have
 SEED = 1  # of the draw of origins where there is no room for all
 
 
-def make_page(whole: Whole, folder: Folder) -> Record | None:
-    """Writes the page, where it is asked for."""
-    return folder.do(page_stage(whole)) if whole.study.results.page else None
+def page_stages(whole: Whole, known: Records) -> list[Stage]:
+    return [page_stage(whole)] if whole.study.results.page else []
 
 
 def page_stage(whole: Whole) -> Stage:
     study, inputs = whole.study, whole.inputs
 
     def make() -> list[str]:
-        page = page_of(whole.whole(), wish_of(whole))
+        page = page_of(whole.whole(), settings_of(whole))
         with output(PAGE) as file:
             page.write(file)
         ground = page.content.ground
-        told = f"{len(ground.places.identifiers):,} places, travel times from {len(ground.rows):,} of them"
-        return [f"{PAGE}: {told}", *page.frame.told]
+        sentence = f"{len(ground.places.identifiers):,} places, travel times from {len(ground.rows):,} of them"
+        return [f"{PAGE}: {sentence}", *page.frame.sentences]
 
     counts = [inputs.records[name].outputs for name in ("counted", "people") if name in inputs.records]
     texts: list[Any] = [study.title, study.about.note, whole.unit, study.within, list(study.cutoffs)]
-    walks = [study.walk_limit, study.walks.speed, study.walks.detour]
+    walks = [study.walk_limit, study.walks.speed, study.walks.detour, study.walks.near]
     texts += [list(study.results.nearest), walks]
-    facts = {"texts": texts, "counts": counts, "run": inputs.sums, "words": inputs.run.words()}
-    return Stage("page", {**whole.depends, **facts}, [PAGE], make)
+    sources = streets_of(whole)
+    facts = {"texts": texts, "counts": counts, "run": inputs.sums, "words": inputs.run.arguments()}
+    facts["streets"] = sources.sums
+    return Stage("page", {**whole.depends, **facts}, [PAGE], make, refuse_changed=sources.refuse_changed)
 
 
-def wish_of(whole: Whole) -> Wish:
+def settings_of(whole: Whole) -> PageSettings:
     """What the page is to show."""
     study, inputs = whole.study, whole.inputs
     counted = [COUNTED] if "counted" in inputs.records else []
@@ -47,7 +49,7 @@ def wish_of(whole: Whole) -> Wish:
     if counted and people and set(columns_of(COUNTED)) & set(columns_of(PEOPLE)):
         people = []  # they are counted as what is reached
     cutoffs = [cutoff for cutoff in study.cutoffs if LEAST <= cutoff <= MOST] or [30.0]
-    return Wish(
+    return PageSettings(
         feed=inputs.feed,
         points=f"{inputs.feed}/{POINTS}" if "points" in inputs.records else None,
         edits=list(inputs.edits.values()),
@@ -61,8 +63,8 @@ def wish_of(whole: Whole) -> Wish:
         seed=SEED,
         unit=whole.unit,
         title=study.title,
-        note=" ".join(it for it in (study.about.question, study.about.note) if it) or None,
-        words=" ".join(inputs.run.words()),
+        note=" ".join(text for text in (study.about.question, study.about.note) if text) or None,
+        arguments=" ".join(inputs.run.arguments()),
         tiles=None,
         attribution=None,
         within=study.within,
@@ -70,4 +72,6 @@ def wish_of(whole: Whole) -> Wish:
         walk=study.walk_limit,
         speed=study.walks.speed,
         detour=study.walks.detour,
+        streets=study.at(study.walks.streets) if study.walks.streets else None,
+        near=study.walks.near,
     )

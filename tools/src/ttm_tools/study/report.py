@@ -10,12 +10,12 @@ from ..measures.access_table import read_access
 from ..records import records as records_in, shown
 from .areas import AREAS
 from .document import Document
-from .maps import Drawn, maps_of
+from .maps import StudyMap, maps_of
 from .page import PAGE
-from .results import ACCESS_TABLE, EQUITY_TABLE, Whole
-from .stages import Record, Stage
+from .results import ACCESS_TABLE, EQUITY_TABLE, Records, Whole
+from .stages import Stage
 from .window_report import write_windows
-from .wishes import Study
+from .settings import Study
 
 MARKDOWN, HTML, TOLD = "report.md", "report.html", "inputs/told.txt"
 FEW = 10  # origins that lose, and that gain most, which the report names
@@ -36,95 +36,97 @@ PROVED = (
 )
 
 
-def report_stage(whole: Whole, records: dict[str, Record], version: Sequence[str]) -> Stage:
+def report_stages(whole: Whole, records: Records) -> list[Stage]:
     """The report in both forms."""
 
     def make() -> list[str]:
-        made = report_of(whole, records, version)
-        Path(MARKDOWN).write_text(made.as_markdown(), encoding="utf-8", errors="backslashreplace")
-        Path(HTML).write_text(made.as_html(), encoding="utf-8", errors="backslashreplace")
+        document = report_of(whole, records)
+        Path(MARKDOWN).write_text(document.as_markdown(), encoding="utf-8", errors="backslashreplace")
+        Path(HTML).write_text(document.as_html(), encoding="utf-8", errors="backslashreplace")
         return [f"{MARKDOWN}, {HTML}"]
 
     about = whole.study.about
-    told = {name: record.lines for name, record in {**whole.inputs.records, **records}.items()}
+    lines = {name: record.lines for name, record in {**whole.inputs.records, **records}.items()}
     sums = {name: record.outputs for name, record in records.items()}
-    texts = [whole.study.title, about.question, about.note, list(version), whole.unit]
-    facts = {"texts": texts, "told": told, "sums": sums, "words": whole.inputs.run.words()}
-    return Stage("report", {**whole.depends, **facts, "sources": whole.inputs.sources}, [MARKDOWN, HTML], make)
+    texts = [whole.study.title, about.question, about.note, list(whole.version), whole.unit]
+    facts = {"texts": texts, "told": lines, "sums": sums, "words": whole.inputs.run.arguments()}
+    return [Stage("report", {**whole.depends, **facts, "sources": whole.inputs.sources}, [MARKDOWN, HTML], make)]
 
 
-def report_of(whole: Whole, records: dict[str, Record], version: Sequence[str]) -> Document:
+def report_of(whole: Whole, records: Records) -> Document:
     study, inputs = whole.study, whole.inputs
-    made = Document(study.title)
+    document = Document(study.title)
     for text in (study.about.question, study.about.note):
         if text:
-            made.paragraph(text)
-    made.heading("Figures")
-    write_figures(made, whole, records)
-    made.heading("What it rests on")
-    sums = [list(it) for it in inputs.sources.items()]
-    made.table("Files, with their SHA-256 checksums", ["File", "SHA-256"], sums)
-    made.paragraph("What was done with them:")
-    made.items(f"{name}: {line}" for name, record in inputs.records.items() for line in record.lines)
-    made.paragraph("Words of the run, in the study's folder; parts of the origins took its place:")
-    made.code(["ttm " + " ".join(inputs.run.words())])
+            document.paragraph(text)
+    document.heading("Figures")
+    write_figures(document, whole, records)
+    document.heading("What it rests on")
+    sums = [list(source) for source in inputs.sources.items()]
+    document.table("Files, with their SHA-256 checksums", ["File", "SHA-256"], sums)
+    document.paragraph("What was done with them:")
+    document.items(f"{name}: {line}" for name, record in inputs.records.items() for line in record.lines)
+    document.paragraph("Words of the run, in the study's folder; parts of the origins took its place:")
+    document.code(["ttm " + " ".join(inputs.run.arguments())])
     warnings = list[str]()
-    for path in told_files(study):
+    for path in file_names_of(study):
         day = f" for {Path(path).stem.removeprefix('told_')}" if path != TOLD else ""
-        made.paragraph(f"What ttm reported about days, trips and walks{day}:")
-        told = Path(path).read_text(encoding="utf-8").splitlines()
-        made.code(told)
-        warnings += [line for line in told if line.startswith("warning") and line not in warnings]
-    made.paragraph("Warnings: " + ("; ".join(warnings) if warnings else "none."))
-    made.heading("What is proved, and what isn't")
+        document.paragraph(f"What ttm reported about days, trips and walks{day}:")
+        lines = Path(path).read_text(encoding="utf-8").splitlines()
+        document.code(lines)
+        warnings += [line for line in lines if line.startswith("warning") and line not in warnings]
+    document.paragraph("Warnings: " + ("; ".join(warnings) if warnings else "none."))
+    document.heading("What is proved, and what isn't")
     for text in PROVED:
-        made.paragraph(text)
-    made.code(list(version))
-    return made
+        document.paragraph(text)
+    document.code(list(whole.version))
+    return document
 
 
-def told_files(study: Study) -> list[str]:
+def file_names_of(study: Study) -> list[str]:
     """What `ttm` reported of each day, that of the first one first."""
-    return [TOLD, *(told_of_day(date) for date in study.run.dates[1:])]
+    return [TOLD, *(day_shown(date) for date in study.run.dates[1:])]
 
 
-def told_of_day(date: str) -> str:
+def day_shown(date: str) -> str:
     return TOLD.replace(".txt", f"_{date}.txt")
 
 
-def write_figures(made: Document, whole: Whole, records: dict[str, Record]) -> None:
+def write_figures(document: Document, whole: Whole, records: Records) -> None:
     """Access, winners and losers, equity and maps, as far as there are any."""
     study = whole.study
     if "access" in records:
         caption = f"Mean access of the origins, for travel times that {study.share} percent of the departures achieve"
-        caption += f"; {told}" if (told := whole.whole().told_greatest) else ""
-        made.table(caption, ["Counted", "Within, minutes", *whole.scenarios], list(means(whole)))
+        caption += f"; {sentence}" if (sentence := whole.whole().greatest_stated) else ""
+        document.table(caption, ["Counted", "Within, minutes", *whole.scenarios], list(means(whole)))
     for scenario, name in whole.others.items():
         if f"compare_{name}" in records:
-            made.heading(f"{shown(scenario)} compared with {shown(whole.inputs.base)}", 3)
-            made.items(records[f"compare_{name}"].lines)
-            write_changes(made, f"compare_{name}.csv")
+            document.heading(f"{shown(scenario)} compared with {shown(whole.inputs.base)}", 3)
+            document.items(records[f"compare_{name}"].lines)
+            write_changes(document, f"compare_{name}.csv")
     if "equity" in records:
-        made.heading("How it is spread over people", 3)
+        document.heading("How it is spread over people", 3)
         header, *lines = all_rows(EQUITY_TABLE)
-        made.table(f"Access by groups of people ({EQUITY_TABLE})", [as_words(it) for it in header], lines)
+        document.table(f"Access by groups of people ({EQUITY_TABLE})", [as_phrase(column) for column in header], lines)
     for name, caption in OF_PEOPLE.items():
         if name in records:
             header, *lines = all_rows(f"{name}.csv")
-            made.table(f"{caption} ({name}.csv)", [as_words(it) for it in header], lines)
-    write_windows(made, whole, records)
+            document.table(f"{caption} ({name}.csv)", [as_phrase(column) for column in header], lines)
+            for path in (output for output in records[name].outputs if output.endswith(".png")):
+                document.picture(path, f"{caption}: {shown(Path(path).stem)}")
+    write_windows(document, whole, records)
     if "page" in records:
-        made.link("To look at in a browser:", PAGE)
+        document.link("To look at in a browser:", PAGE)
     if AREAS in records:
-        made.paragraph(f"Areas that are reached within so many minutes, as GeoJSON, are in the folder {AREAS}.")
+        document.paragraph(f"Areas that are reached within so many minutes, as GeoJSON, are in the folder {AREAS}.")
     if "maps" in records:
-        made.heading("Maps", 3)
-        made.paragraph("The pictures lie in the folder maps, as files of their own.")
-        for it in maps_of(whole):
-            made.picture(it.file, f"{it.kind}, {shown(it.scenario)}" + told_of(it))
+        document.heading("Maps", 3)
+        document.paragraph("The pictures lie in the folder maps, as files of their own.")
+        for picture in maps_of(whole):
+            document.picture(picture.file, f"{picture.kind}, {shown(picture.scenario)}" + told_of(picture))
 
 
-def told_of(drawn: Drawn) -> str:
+def told_of(drawn: StudyMap) -> str:
     """From where, or to what, a map shows travel times."""
     from_there = f", from {shown(drawn.origin)}" if drawn.origin else ""
     return from_there + (f", the nearest {shown(drawn.nearest)}" if drawn.nearest else "")
@@ -139,31 +141,31 @@ def means(whole: Whole) -> Iterator[list[str]]:
             yield [
                 shown(kind.opportunity),
                 kind.cutoff,
-                *told_apart([table.numbers[it, number].mean() for it in places]),
+                *texts_apart([table.numbers[place, number].mean() for place in places]),
             ]
 
 
-def told_apart(numbers: Sequence[float]) -> list[str]:
+def texts_apart(numbers: Sequence[float]) -> list[str]:
     """Numbers with one decimal, or with as many as show in which of them there is a change."""
-    different = len({round(float(it), MOST_DECIMALS) for it in numbers})
+    different = len({round(float(number), MOST_DECIMALS) for number in numbers})
     for decimals in range(1, MOST_DECIMALS + 1):
-        made = [f"{it:,.{decimals}f}" for it in numbers]
-        if len(set(made)) == different:
-            return made
-    return made
+        texts = [f"{number:,.{decimals}f}" for number in numbers]
+        if len(set(texts)) == different:
+            return texts
+    return texts
 
 
 def all_rows(path: str) -> list[list[str]]:
     """The header of a table, and its rows."""
-    return [[shown(it) for it in fields] for _, fields in records_in(path)]
+    return [[shown(field) for field in fields] for _, fields in records_in(path)]
 
 
-def as_words(name: str) -> str:
+def as_phrase(name: str) -> str:
     """The name of a column as words, between which a line may end."""
     return name.replace("_", " ")
 
 
-def write_changes(made: Document, path: str) -> None:
+def write_changes(document: Document, path: str) -> None:
     """The origins that lose most, and those that gain most: the table has losers first, and then winners."""
     _, header = next(records_in(path))
     place = header.index("change")
@@ -171,8 +173,8 @@ def write_changes(made: Document, path: str) -> None:
         wanted = (fields for _, fields in records_in(path) if is_change(fields[place], sign))
         found = list(itertools.islice(wanted, FEW))
         if found:
-            rows = [[shown(it) for it in fields] for fields in found]
-            made.table(f"Who {what} most ({path} has all)", [as_words(it) for it in header], rows)
+            rows = [[shown(field) for field in fields] for fields in found]
+            document.table(f"Who {what} most ({path} has all)", [as_phrase(column) for column in header], rows)
 
 
 def is_change(text: str, sign: str) -> bool:

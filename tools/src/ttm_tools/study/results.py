@@ -1,32 +1,34 @@
-"""What is made of the matrix: tables of access, of winners and losers, and of equity. Each is a stage of its own."""
+"""Tables of a study: access, its spread over people, winners and losers. `result_list` has all results."""
 
 from dataclasses import dataclass, field
+from pathlib import Path
 from typing import Any, Sequence
 
 import numpy as np
 
 from ..gtfs.fields import Floats
 from ..gtfs.stops import Stops
-from ..files import output
+from ..files import many_written_aside, output
 from ..matrices import Matrix, Share, capped, open_matrix, pair_of
 from ..measures.access import Decay, access, nearest
-from ..measures.access_table import read_access
+from ..measures.access_table import AccessTable, AccessKind, read_access
 from ..measures.comparison import Comparison, compare
 from ..measures.opportunities import Counts, columns_of, read_counts
 from ..naming import file_names
 from ..points.shown import shown_of
 from ..records import shown
 from ..views import bands, equity, tables
-from ..views.access import ACCESS, LONG, NEAREST, measured, write_access
+from ..views.access import ACCESS, NEAREST, Form, decimal, measured, write_access
 from ..views.differences import summary, write_origins, write_pairs
 from .counted import COUNTED, PEOPLE
 from .inputs import Inputs
 from .joining import MATRIX
-from .stages import Folder, Record, Stage
-from .wishes import Study
+from .stages import Record, Stage
+from .settings import Study
 
 ACCESS_TABLE, EQUITY_TABLE, EQUITY_PAGE = "access.csv", "equity.csv", "equity.md"
 NEAREST_TABLE = "nearest.csv"
+Records = dict[str, Record]
 PAIRS = "_pairs"  # behind a scenario's name, the file of its pairs
 STOPS, POINTS = "stops", "points"  # what is counted where nothing else is named
 LOSE = 10.0  # percent of the base's access, from which on somebody counts as a loser
@@ -41,6 +43,7 @@ class Whole:
     sum: str  # of the matrix' file
     scenarios: list[str]
     windows: dict[str, str] = field(default_factory=dict)  # the matrices of the other windows, with their sums
+    version: Sequence[str] = ()  # lines of the program's
 
     @property
     def others(self) -> dict[str, str]:
@@ -66,14 +69,24 @@ class Whole:
 
     def shown_in(self, path: str) -> Matrix:
         """The matrix of another window, as far as it is shown."""
-        made, _ = shown_of(capped(open_matrix(path), self.study.results.max_minutes), self.inputs.feed, None)
-        return made
+        matrix, _ = shown_of(capped(open_matrix(path), self.study.results.max_minutes), self.inputs.feed, None)
+        return matrix
 
     def counts(self, matrix: Matrix) -> Counts:
         """What is counted at its stops: each as one where nothing is named."""
         if "counted" in self.inputs.records:
             return read_counts([COUNTED], matrix.stops, "stop of the matrix")
         return Counts([STOPS], np.ones((len(matrix.stops), 1)))
+
+    def kind_drawn(self, kinds: Sequence[AccessKind], opportunity: str, of_times: bool = False) -> AccessKind:
+        """What is drawn of an opportunity, at the percentile of maps: access within their limit, or the last one where
+        there isn't any; of times to the nearest the first.
+        """
+        own = [
+            kind for kind in kinds if kind.opportunity == opportunity and kind.percentile in ("", str(self.study.share))
+        ]
+        within = None if of_times else decimal(self.study.within / 60)
+        return next((kind for kind in own if kind.cutoff == within), own[0 if of_times else -1])
 
     def open(self) -> tuple[Matrix, Stops]:
         """The matrix, with names and places of what it shows."""
@@ -87,83 +100,91 @@ def names_of_scenarios(scenarios: Sequence[str], base: str) -> dict[str, str]:
     return file_names([name for name in scenarios if name != base], ("", PAIRS))
 
 
-def make_tables(whole: Whole, folder: Folder) -> dict[str, Record]:
-    """Does all stages that make tables."""
-    wish, made = whole.study.results, dict[str, Record]()
-    if wish.access:
-        made["access"] = folder.do(access_stage(whole))
-        people = whole.inputs.records.get("people")
-        if people is not None:
-            made |= of_people(whole, folder, made["access"], people, Names("", wish.bands))
-    if wish.nearest:
-        made["nearest"] = folder.do(nearest_stage(whole))
-        people = whole.inputs.records.get("people")
-        if people is not None:
-            made |= of_people(whole, folder, made["nearest"], people, Names("_nearest", wish.nearest_bands))
-    if wish.compare:
-        for scenario, name in whole.others.items():
-            stage = compare_stage(whole, scenario, name)
-            made[stage.name] = folder.do(stage)
-    return made
+def access_stages(whole: Whole, known: Records) -> list[Stage]:
+    return [access_stage(whole)] if whole.study.results.access else []
+
+
+def nearest_stages(whole: Whole, known: Records) -> list[Stage]:
+    return [nearest_stage(whole)] if whole.study.results.nearest else []
+
+
+def people_stages(whole: Whole, known: Records) -> list[Stage]:
+    """How access is spread over people, and how many are within bands."""
+    return stages_of_people(whole, known.get("access"), PeopleTables("", whole.study.results.bands))
+
+
+def nearest_people_stages(whole: Whole, known: Records) -> list[Stage]:
+    """The same of the time to the nearest."""
+    return stages_of_people(whole, known.get("nearest"), PeopleTables("_nearest", whole.study.results.nearest_bands))
+
+
+def compare_stages(whole: Whole, known: Records) -> list[Stage]:
+    others = whole.others.items() if whole.study.results.compare else ()
+    return [compare_stage(whole, scenario, name) for scenario, name in others]
 
 
 def access_stage(whole: Whole) -> Stage:
     """The table of access: all scenarios, shares, opportunities and cutoffs."""
-    study, wish, counted = whole.study, whole.study.results, whole.inputs.records.get("counted")
+    study, settings, counted = whole.study, whole.study.results, whole.inputs.records.get("counted")
 
     def make() -> list[str]:
         matrix, _ = whole.open()
         counts = whole.counts(matrix)
-        decay = Decay(wish.decay, wish.decay_value)
+        decay = Decay(settings.decay, settings.decay_value)
 
         def measure(scenario: str, share: Share) -> Floats:
             return access(matrix, scenario, share, counts.numbers, decay, study.cutoffs)
 
         found = [measured(matrix, scenario, matrix.shares, measure) for scenario in matrix.scenarios]
         with output(ACCESS_TABLE) as file:
-            write_access(file, found, counts.names, study.cutoffs, heads=ACCESS, form=LONG, with_scenario=True)
+            write_access(file, found, counts.names, study.cutoffs, Form(ACCESS))
         return [f"{ACCESS_TABLE}: {', '.join(map(shown, counts.names))}"]
 
-    words = [wish.decay, wish.decay_value, list(study.cutoffs), wish.max_minutes]
-    facts = {"matrix": whole.sum, "words": words, "counted": counted.outputs if counted else None}
+    options = [settings.decay, settings.decay_value, list(study.cutoffs), settings.max_minutes]
+    facts = {"matrix": whole.sum, "words": options, "counted": counted.outputs if counted else None}
     return Stage("access", facts, [ACCESS_TABLE], make)
 
 
 def nearest_stage(whole: Whole) -> Stage:
     """The table of times to the nearest: all scenarios, shares and opportunities."""
-    wish, counted = whole.study.results, whole.inputs.records.get("counted")
+    settings, counted = whole.study.results, whole.inputs.records.get("counted")
 
     def make() -> list[str]:
         matrix, _ = whole.open()
         counts = whole.counts(matrix)
 
         def measure(scenario: str, share: Share) -> Floats:
-            return nearest(matrix, scenario, share, counts.numbers, wish.nearest)
+            return nearest(matrix, scenario, share, counts.numbers, settings.nearest)
 
         found = [measured(matrix, scenario, matrix.shares, measure) for scenario in matrix.scenarios]
         with output(NEAREST_TABLE) as file:
-            write_access(file, found, counts.names, wish.nearest, heads=NEAREST, form=LONG, with_scenario=True)
+            write_access(file, found, counts.names, settings.nearest, Form(NEAREST))
         return [f"{NEAREST_TABLE}: {', '.join(map(shown, counts.names))}"]
 
-    words = [list(wish.nearest), wish.max_minutes]
-    facts = {"matrix": whole.sum, "words": words, "counted": counted.outputs if counted else None}
+    options = [list(settings.nearest), settings.max_minutes]
+    facts = {"matrix": whole.sum, "words": options, "counted": counted.outputs if counted else None}
     return Stage("nearest", facts, [NEAREST_TABLE], make)
 
 
 @dataclass(frozen=True)
-class Names:
+class PeopleTables:
     """What the tables for people are called behind their kind, and their bands."""
 
     end: str
     bands: Sequence[float]
 
+    @property
+    def bands_name(self) -> str:
+        """What the table by band is called, and the folder of its pictures."""
+        return f"bands{self.end}"
 
-def of_people(whole: Whole, folder: Folder, table: Record, people: Record, names: Names) -> dict[str, Record]:
-    """Does the stages that count people by a table of access, or of the nearest."""
-    made = {f"equity{names.end}": folder.do(equity_stage(whole, table, people, names.end))}
-    if names.bands:
-        made[f"bands{names.end}"] = folder.do(bands_stage(table, people, names))
-    return made
+
+def stages_of_people(whole: Whole, table: Record | None, names: PeopleTables) -> list[Stage]:
+    """The stages that count people by a table of access, or of the nearest."""
+    people = whole.inputs.records.get("people")
+    if table is None or people is None:
+        return []
+    return [equity_stage(whole, table, people, names.end), *bands_stages(whole, table, people, names)]
 
 
 def equity_stage(whole: Whole, access: Record, people: Record, end: str) -> Stage:
@@ -174,47 +195,68 @@ def equity_stage(whole: Whole, access: Record, people: Record, end: str) -> Stag
     def make() -> list[str]:
         table = read_access(read)
         counts = read_counts([PEOPLE], table.origins, f"origin of {read}")
-        asked = equity.Asked(whole.inputs.base, LOSE, table.kinds)
+        options = equity.EquityOptions(whole.inputs.base, LOSE, table.kinds)
         for path, form in ((csv, tables.CSV), (page, tables.MARKDOWN)):
             with output(path) as file:
-                equity.write_equity(file, equity.measured(table, counts, asked), form)
+                equity.write_equity(file, equity.measured(table, counts, options), form)
         return [f"{csv}: {', '.join(map(shown, counts.names))}"]
 
     depends = {"access": access.outputs, "base": whole.inputs.base, "people": people.outputs}
     return Stage(f"equity{end}", depends, [csv, page], make)
 
 
-def bands_stage(access: Record, people: Record, names: Names) -> Stage:
-    """How many people are within bands of access, or of the time to the nearest."""
-    (read,), csv = access.outputs, f"bands{names.end}.csv"
+def bands_stages(whole: Whole, access: Record, people: Record, names: PeopleTables) -> list[Stage]:
+    """How many people are within bands of access, or of the time to the nearest; of each thing a picture, too."""
+    if not names.bands:
+        return []
+    (read,), csv = access.outputs, f"{names.bands_name}.csv"
+    pictures = [names.bands_name] if whole.study.results.maps else []
 
     def make() -> list[str]:
         table = read_access(read)
         counts = read_counts([PEOPLE], table.origins, f"origin of {read}")
         with output(csv) as file:
             bands.write_bands(file, table, bands.bands_of(table, table.kinds, counts, names.bands), tables.CSV)
+        for folder in pictures:
+            draw_bands(whole, folder, table, counts, names.bands)
         return [f"{csv}: {', '.join(map(shown, counts.names))}"]
 
-    depends = {"access": access.outputs, "people": people.outputs, "bands": list(names.bands)}
-    return Stage(f"bands{names.end}", depends, [csv], make)
+    options = [whole.study.share, whole.study.within]
+    depends = {"access": access.outputs, "people": people.outputs, "bands": list(names.bands), "words": options}
+    return [Stage(names.bands_name, depends, [csv, *pictures], make)]
+
+
+def draw_bands(whole: Whole, folder: str, table: AccessTable, people: Counts, limits: Sequence[float]) -> None:
+    """Draws the bars of each thing that is counted."""
+    with many_written_aside(folder) as aside:
+        for name, path in bands_pictures(folder, table).items():
+            figure = bands.figure_of(table, [whole.kind_drawn(table.kinds, name, table.of_times)], people, limits)
+            with output(str(aside / Path(path).name)) as file:
+                figure.savefig(file, format="png", dpi="figure")
+
+
+def bands_pictures(folder: str, table: AccessTable) -> dict[str, str]:
+    """The pictures of each thing that is counted."""
+    names = list(dict.fromkeys(kind.opportunity for kind in table.kinds))
+    return {name: f"{folder}/{file}.png" for name, file in file_names(names).items()}
 
 
 def compare_stage(whole: Whole, scenario: str, name: str) -> Stage:
     """Winners and losers of a scenario beside the base."""
-    study, wish = whole.study, whole.study.results
+    study, settings = whole.study, whole.study.results
     by_origin, by_pair = f"compare_{name}.csv", f"compare_{name}{PAIRS}.csv"
 
     def make() -> list[str]:
         matrix, stops = whole.open()
         pair = pair_of(matrix, whole.inputs.base, scenario, study.share)
         place = matrix.limit(study.within)[0]
-        made: Comparison = compare(pair, wish.differs, with_pairs=wish.pairs)
+        comparison: Comparison = compare(pair, settings.differs, with_pairs=settings.pairs)
         with output(by_origin) as file:
-            write_origins(file, pair, place, made, stops)
-        if wish.pairs:
+            write_origins(file, pair, place, comparison, stops)
+        if settings.pairs:
             with output(by_pair) as file:
-                write_pairs(file, pair, made.changes, stops)
-        return summary(pair, made, wish.differs, place)
+                write_pairs(file, pair, comparison.changes, stops)
+        return summary(pair, comparison, settings.differs, place)
 
-    depends = {**whole.depends, "scenario": scenario, "words": [wish.differs, wish.pairs]}
-    return Stage(f"compare_{name}", depends, [by_origin, *([by_pair] if wish.pairs else [])], make)
+    depends = {**whole.depends, "scenario": scenario, "words": [settings.differs, settings.pairs]}
+    return Stage(f"compare_{name}", depends, [by_origin, *([by_pair] if settings.pairs else [])], make)

@@ -7,7 +7,7 @@ from typing import Sequence
 from ..engine import Run
 from ..matrices import BASE
 from ..records import records
-from .wishes import Study
+from .settings import Study
 
 
 def name_of(path: str) -> str:
@@ -19,25 +19,25 @@ def shown_names(scenarios: Sequence[str], runs_all: bool) -> dict[str, str]:
     """What each scenario of a plan is called in the run: by its name, or `base` for one that takes out nothing of the
     feed, which has the trips of all; but for that `base` isn't shown.
     """
-    made = {name_of(path): name_of(path) for path in scenarios}
+    names = {name_of(path): name_of(path) for path in scenarios}
     whole = [name_of(path) for path in scenarios if len(list(itertools.islice(records(path), 2))) < 2]
-    return made if runs_all or not whole else {**made, whole[0]: BASE}
+    return names if runs_all or not whole else {**names, whole[0]: BASE}
 
 
 def run_of(study: Study, feed: str, files: dict[str, str], scenarios: Sequence[str]) -> Run:
     """What is asked of `ttm`."""
-    wish = study.run
+    settings = study.run
     return Run(
         feed,
-        wish.date,
-        (wish.first, wish.last),
-        trips=wish.trips,
-        walk=wish.walk,
-        shares=wish.shares,
-        limits=wish.limits,
+        settings.date,
+        (settings.first, settings.last),
+        trips=settings.trips,
+        walk=settings.walk,
+        shares=settings.shares,
+        limits=settings.limits,
         scenarios=scenarios,
-        tries=wish.tries,
-        back=wish.back,
-        ahead=wish.ahead,
+        tries=settings.tries,
+        back=settings.back,
+        ahead=settings.ahead,
         files=files,
     )

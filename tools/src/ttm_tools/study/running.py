@@ -27,27 +27,27 @@ class Failed:
     """A part that has no matrix, and why."""
 
     part: Part
-    told: str
+    message: str
 
 
 def run_parts(run: Run, parts: Sequence[Part], at_once: int, threads: int) -> list[Failed]:
-    """Computes the parts that aren't done; one that fails is told at once, and the others go on. The first Ctrl-C has
-    no more parts begin, and keeps those that run.
+    """Computes the parts that aren't done; one that fails is reported at once, and the others go on. After the first
+    Ctrl-C no more parts begin, and those that run are kept.
     """
     missing = missing_of(parts)
     failed, pool = list[Failed](), Pool(run, missing, at_once, threads)
     with ends_gently(pool.end), contextlib.closing(ends_of(pool)) as ended:
-        for it in shown(ended, len(missing)):
-            if it is not None:
-                failed.append(it)
-                say(f"part {it.part.number}: {it.told}")
+        for outcome in shown(ended, len(missing)):
+            if outcome is not None:
+                failed.append(outcome)
+                say(f"part {outcome.part.number}: {outcome.message}")
     if pool.is_ending:
         raise Interrupted(signal.SIGINT)
     return failed
 
 
 def missing_of(parts: Sequence[Part]) -> list[Part]:
-    """The parts that aren't done; where some are, this is told."""
+    """The parts that aren't done; where some are, this is reported."""
     missing = [part for part in parts if not part.is_done()]
     if len(parts) > len(missing) > 0:
         say(f"parts: {len(parts) - len(missing)} of {len(parts)} are there already")
@@ -86,7 +86,7 @@ class Pool:
 
     def over(self) -> list[tuple[Part, Running]]:
         """The runs that are over, after a while."""
-        numbers = [number for number, (_, it) in self.running.items() if it.is_over()]
+        numbers = [number for number, (_, process) in self.running.items() if process.is_over()]
         if numbers:
             self.said = time.monotonic()
         else:
@@ -104,8 +104,8 @@ class Pool:
         self.is_ending = True
 
     def stop(self) -> None:
-        for _, it in self.running.values():
-            it.stop()
+        for _, process in self.running.values():
+            process.stop()
 
 
 @contextlib.contextmanager
@@ -145,9 +145,9 @@ def begun(run: Run, part: Part, threads: int) -> Running:
 
 def ended(part: Part, running: Running) -> Failed | None:
     """Notes a part whose run is over."""
-    told = running.end()
-    if told is not None:
-        return Failed(part, told)
+    message = running.end()
+    if message is not None:
+        return Failed(part, message)
     part.finish()
     log("part", part.folder.name, round(time.monotonic() - running.begin, 3))
     return None
@@ -158,11 +158,11 @@ def shown(ended: Iterator[Failed | None], total: int) -> Iterator[Failed | None]
     done, and how long it will take.
     """
     if sys.stderr.isatty():
-        yield from progress.told(ended, total, "parts", "parts")
+        yield from progress.shown(ended, total, "parts", "parts")
         return
     begin = last = time.monotonic()
-    for count, it in enumerate(ended, 1):
-        yield it
+    for count, outcome in enumerate(ended, 1):
+        yield outcome
         now = time.monotonic()
         if count < total and now - last > SECONDS_BETWEEN_LINES:
             last = now
@@ -174,5 +174,5 @@ def refuse_failed(failed: Sequence[Failed], parts: int) -> None:
     """Ends a study some of whose parts have no matrix."""
     if failed:
         first = failed[0]
-        told = f"{len(failed):,} of {parts:,} parts have no matrix; the same command tries them again"
-        raise BadInput(first.part.folder, f"{first.told} ({told})")
+        message = f"{len(failed):,} of {parts:,} parts have no matrix; the same command tries them again"
+        raise BadInput(first.part.folder, f"{first.message} ({message})")

@@ -15,11 +15,11 @@ JOB = f"{PARTS}/job"
 
 def ranges(numbers: Sequence[int]) -> str:
     """Numbers as an array of Slurm has them, such as 1-3,7."""
-    made = []
-    for _, group in groupby(enumerate(numbers), lambda it: it[1] - it[0]):
+    ranges_found = []
+    for _, group in groupby(enumerate(numbers), lambda pair: pair[1] - pair[0]):
         some = [number for _, number in group]
-        made.append(str(some[0]) if len(some) == 1 else f"{some[0]}-{some[-1]}")
-    return ",".join(made)
+        ranges_found.append(str(some[0]) if len(some) == 1 else f"{some[0]}-{some[-1]}")
+    return ",".join(ranges_found)
 
 
 def job_that_goes_on() -> str | None:
@@ -29,12 +29,12 @@ def job_that_goes_on() -> str | None:
     return job if job and is_queued(job) else None
 
 
-def submit(missing: Sequence[Part], words: Sequence[str]) -> str:
+def submit(missing: Sequence[Part], options: Sequence[str]) -> str:
     """Submits an array with a task for each part."""
     needs_program("sbatch", "slurm-client")
     array = f"--array={ranges([part.number for part in missing])}"
     own = ["--parsable", "--requeue", array, f"--output={PARTS}/slurm_%a.txt", "--open-mode=append"]
-    ran = subprocess.run(["sbatch", *own, *words, SCRIPT], capture_output=True, text=True)
+    ran = subprocess.run(["sbatch", *own, *options, SCRIPT], capture_output=True, text=True)
     if ran.returncode != 0:
         raise BadInput("sbatch", one_line(ran.stderr) or f"ended with status {ran.returncode}")
     job = ran.stdout.strip().split(";")[0]
@@ -44,7 +44,7 @@ def submit(missing: Sequence[Part], words: Sequence[str]) -> str:
 
 
 def end_of(job: str) -> Callable[[], bool]:
-    """Tells whether a job is over."""
+    """Reports whether a job is over."""
     return lambda: not is_queued(job)
 
 

@@ -33,10 +33,10 @@ def signature_of(path: Path) -> Signature:
 def source_of(path: Path, stated: str, name: str) -> Source:
     """Takes the sum of a file that stays as it is meanwhile."""
     before = signature_of(path)
-    made = Source(path, stated, name, sum_of(path), before)
+    source = Source(path, stated, name, sum_of(path), before)
     if signature_of(path) != before:
         raise BadInput(path, CHANGED)
-    return made
+    return source
 
 
 class Sources:
@@ -44,35 +44,35 @@ class Sources:
 
     def __init__(self, at: Callable[[str], str], given: Iterable[str]) -> None:
         self.at, self.given = at, list(dict.fromkeys(given))
-        self.files = [source_of(*it) for it in self.listed()]
+        self.files = [source_of(*source) for source in self.listed()]
 
     def listed(self) -> list[tuple[Path, str, str]]:
         """All files, with what they are stated as, and their names."""
-        made = list[tuple[Path, str, str]]()
+        listed = list[tuple[Path, str, str]]()
         for given in self.given:
             path = Path(self.at(given))
             for file in files_in(path):
                 more = file.relative_to(path)
-                made.append((file, str(Path(given) / more), str(Path(path.name) / more)))
-        return made
+                listed.append((file, str(Path(given) / more), str(Path(path.name) / more)))
+        return listed
 
     @property
     def sums(self) -> list[list[str]]:
         """The sums by the names of the files, wherever these lie: what outputs depend on."""
-        return [[it.name, it.sum] for it in self.files]
+        return [[file.name, file.sum] for file in self.files]
 
     @property
     def stated(self) -> dict[str, str]:
         """The sums by the paths that the study's file gives."""
-        return {it.stated: it.sum for it in self.files}
+        return {file.stated: file.sum for file in self.files}
 
     def refuse_changed(self) -> None:
         """Refuses files that aren't as they were when their sums were taken."""
-        if [path for path, _, _ in self.listed()] != [it.path for it in self.files]:
+        if [path for path, _, _ in self.listed()] != [file.path for file in self.files]:
             raise BadInput(", ".join(self.given), CHANGED)
-        for it in self.files:
-            if signature_of(it.path) != it.signature:
-                raise BadInput(it.path, CHANGED)
+        for file in self.files:
+            if signature_of(file.path) != file.signature:
+                raise BadInput(file.path, CHANGED)
 
 
 def refuse_other_sums(sums: Mapping[str, str]) -> None:

@@ -35,7 +35,7 @@ class Stage:
     make: Callable[[], list[str]]  # writes them, a folder by `many_written_aside`, and says what was done
     of_tools: bool = True  # whether other tools may make other outputs: done anew, then
     keeps_task: bool = False  # whether what other machines compute stays what is asked for
-    refuse_changed: Callable[[], None] = lambda: None  # tells what isn't as it was when its sum was taken
+    refuse_changed: Callable[[], None] = lambda: None  # says what isn't as it was when its sum was taken
     stated: dict[str, str] = field(default_factory=dict)  # sums of files from outside that it reads
 
     @property
@@ -51,7 +51,7 @@ class Record:
 
     key: str
     outputs: dict[str, str]  # files from the study's folder on, with their sums
-    lines: list[str]  # what was told
+    lines: list[str]  # what was reported
     seconds: float
 
     @property
@@ -73,7 +73,7 @@ def sum_of_tools() -> str:
 
 def files_in(path: Path) -> list[Path]:
     """A file, or all files of a folder."""
-    return sorted(it for it in path.rglob("*") if it.is_file()) if path.is_dir() else [path]
+    return sorted(path for path in path.rglob("*") if path.is_file()) if path.is_dir() else [path]
 
 
 def settle(path: Path) -> None:
@@ -87,9 +87,9 @@ def settle(path: Path) -> None:
 
 def write_settled(path: Path, text: str) -> None:
     """Writes a text that is whole under its name even after a power cut."""
-    with written_aside(path) as made:
-        made.write_text(text, encoding="utf-8")
-        settle(made)
+    with written_aside(path) as aside:
+        aside.write_text(text, encoding="utf-8")
+        settle(aside)
     settle(path.parent)
 
 
@@ -127,11 +127,11 @@ class Folder:
     def owned(self) -> set[str]:
         """The files that stages wrote, and those that were begun may have written."""
         known = [self.record(path.stem) for path in self.at(RECORDS).glob("*.json")]
-        made = {name for record in known if record is not None for name in record.outputs}
+        names = {name for record in known if record is not None for name in record.outputs}
         for path in self.at(RECORDS).glob("*.begun"):
             with contextlib.suppress(ValueError):
-                made.update(json.loads(path.read_text(encoding="utf-8")))
-        return made
+                names.update(json.loads(path.read_text(encoding="utf-8")))
+        return names
 
     def there(self, stage: Stage) -> list[str]:
         """The files that are there in the places of a stage's outputs."""
@@ -152,7 +152,7 @@ class Folder:
         files = [name for name in stage.outputs if Path(name).suffix]
 
         def note(more: Sequence[Path | str]) -> None:
-            write_settled(begun, as_text([*files, *(os.path.relpath(it, self.path) for it in more)]))
+            write_settled(begun, as_text([*files, *(os.path.relpath(path, self.path) for path in more)]))
 
         note([self.at(name) for name in self.there(stage)])
         self.at(f"{RECORDS}/{stage.name}.json").unlink(missing_ok=True)
@@ -192,13 +192,13 @@ class Folder:
 @contextlib.contextmanager
 def room() -> Iterator[Path]:
     """A folder for a while, inside of the study's own: the next command removes it where this one is killed."""
-    made = Path(f".part.{os.getpid()}.room")
-    remove(made)
-    made.mkdir()
+    folder = Path(f".part.{os.getpid()}.room")
+    remove(folder)
+    folder.mkdir()
     try:
-        yield made
+        yield folder
     finally:
-        remove(made)
+        remove(folder)
 
 
 def log(kind: str, name: str, seconds: float) -> None:
@@ -210,14 +210,14 @@ def log(kind: str, name: str, seconds: float) -> None:
 
 def logged() -> list[dict[str, Any]]:
     """What was noted; a line that a kill cut short isn't."""
-    made = list[dict[str, Any]]()
+    entries = list[dict[str, Any]]()
     text = Path(LOG).read_text(encoding="utf-8", errors="replace") if Path(LOG).is_file() else ""
     for line in text.splitlines():
         with contextlib.suppress(ValueError, RecursionError):
             facts = json.loads(line)
             if isinstance(facts, dict) and all(isinstance(facts.get(name), kind) for name, kind in FACTS.items()):
-                made.append(facts)
-    return made
+                entries.append(facts)
+    return entries
 
 
 @contextlib.contextmanager
@@ -242,7 +242,7 @@ def refuse_folder(folder: Path) -> None:
         return
     if not folder.is_dir():
         raise BadInput(folder, "is no folder")
-    names, lock = {it.name for it in folder.iterdir()}, folder / LOCK
+    names, lock = {path.name for path in folder.iterdir()}, folder / LOCK
     of_a_study = lock.is_file() and (lock.read_bytes() == MARK.encode() or (folder / LOG).is_file())
     if not of_a_study and names - {LOCK}:
         raise BadInput(folder, "isn't empty, and no study's folder: name a new one by --out")

@@ -7,48 +7,28 @@ from dataclasses import MISSING, fields, replace
 from pathlib import Path
 from typing import Any, TypeVar
 
-from ..opening.texts import read_toml
-from ..plans.plan_file import Entry, key_of, statements
+from ..measures.measure_list import DECAYS
+from ..opening.toml_file import Entry, LineNumbers, read_entry
 from .kinds import FILE, FILES
-from .wishes import NAMES, NEEDED, TABLES, About, Study
+from .settings import NAMES, NEEDED, TABLES, About, Study
 
-Wish = TypeVar("Wish")
-Lines = dict[str, tuple[int, dict[str, int]]]
-TOP = ""  # what stands before the first table
-
-
-def lines_of(text: str) -> Lines:
-    """Where each table of a file begins, and on which lines its keys stand."""
-    made: Lines = {TOP: (1, {})}
-    table = TOP
-    for line, statement in statements(text):
-        if statement.startswith("["):
-            table = statement.strip("[] \t").replace(" ", "")
-            made.setdefault(table, (line, {}))
-            made[TOP][1].setdefault(table, line)
-            continue
-        made[table][1].setdefault(key_of(statement), line)
-        if table == TOP:
-            made.setdefault(key_of(statement), (line, {}))
-    return made
+Settings = TypeVar("Settings")
 
 
 def read_study(path: str) -> Study:
     """Reads and looks at all of a study's file."""
-    text, values = read_toml(path)
-    lines = lines_of(text)
-    top = Entry(path, 1, values, lines[TOP][1])
+    text, top = read_entry(path)
     top.only([*names_of(About), *TABLES])
-    entries = {name: table_of(top, name, lines) for name in TABLES if name in values}
+    entries = {name: top.table(name) for name in TABLES if top.has(name)}
     for name in NEEDED:
         if name not in entries:
             raise top.fault(f"no table [{name}], which is needed")
-    about = Entry(path, 1, {key: it for key, it in values.items() if key not in TABLES}, top.lines)
-    read: dict[str, Any] = {name: wish_of(TABLES[name], entry) for name, entry in entries.items()}
-    study = with_first(in_seconds(Study(Path(os.path.abspath(path)), wish_of(About, about), **read, text=text)))
+    about = Entry(path, {key: value for key, value in top.values.items() if key not in TABLES}, top.lines)
+    read: dict[str, Any] = {name: settings_of(TABLES[name], entry) for name, entry in entries.items()}
+    study = with_first(in_seconds(Study(Path(os.path.abspath(path)), settings_of(About, about), **read, text=text)))
     for name, entry in entries.items():
         tell_lost_files(study, TABLES[name], entry)
-    agree(study, {name: entries.get(name, Entry(path, 1, {}, {})) for name in TABLES})
+    agree(study, {name: entries.get(name, Entry(path, {}, LineNumbers(1))) for name in TABLES})
     return study
 
 
@@ -56,7 +36,7 @@ def in_seconds(study: Study) -> Study:
     """The same with limits in seconds, as `ttm` has them, where they were named in minutes."""
     run, results = study.run, study.results
     if run.cutoffs is not None:
-        run = replace(run, limits=tuple(round(60 * it) for it in run.cutoffs))
+        run = replace(run, limits=tuple(round(60 * cutoff) for cutoff in run.cutoffs))
     if results.cutoff is not None:
         results = replace(results, within=round(60 * results.cutoff))
     return replace(study, run=run, results=results)
@@ -74,50 +54,43 @@ def with_first(study: Study) -> Study:
 
 def names_of(kind: type[Any]) -> list[str]:
     """The fields of a table as the file has them."""
-    return [NAMES.get(it.name, it.name) for it in fields(kind)]
+    return [NAMES.get(field.name, field.name) for field in fields(kind)]
 
 
-def table_of(top: Entry, name: str, lines: Lines) -> Entry:
-    if not isinstance(top.values[name], dict):
-        raise top.fault("is no table", name, allowed=f"[{name}] with its fields in the lines below")
-    line, keys = lines.get(name, (1, {}))
-    return Entry(top.path, line, top.values[name], keys)
-
-
-def wish_of(kind: type[Wish], entry: Entry) -> Wish:
+def settings_of(kind: type[Settings], entry: Entry) -> Settings:
     """A table's values, each of its kind."""
     entry.only(names_of(kind))
-    made: dict[str, Any] = {}
-    for it in fields(kind):
-        key = NAMES.get(it.name, it.name)
+    values: dict[str, Any] = {}
+    for field in fields(kind):
+        key = NAMES.get(field.name, field.name)
         if entry.has(key):
-            made[it.name] = it.metadata["kind"].read(entry, key)
-        elif it.default is MISSING and not entry.has(it.metadata["instead"] or ""):
-            raise entry.fault("is needed", key, allowed=it.metadata["kind"].allowed)
-        elif it.default is MISSING:
-            made[it.name] = ""
-    return kind(**made)
+            values[field.name] = entry.read(key, field.metadata["kind"])
+        elif field.default is MISSING and not entry.has(field.metadata["instead"] or ""):
+            raise entry.fault("is needed", key, allowed=field.metadata["kind"].allowed)
+        elif field.default is MISSING:
+            values[field.name] = ""
+    return kind(**values)
 
 
 def tell_lost_files(study: Study, kind: type[Any], entry: Entry) -> None:
-    """Tells the first file that a table names and that isn't there."""
-    for it in fields(kind):
-        if it.metadata["kind"] not in (FILE, FILES) or not entry.has(it.name):
+    """Refuses the first file that a table names and that isn't there."""
+    for field in fields(kind):
+        if field.metadata["kind"] not in (FILE, FILES) or not entry.has(field.name):
             continue
-        for path in [entry.values[it.name]] if it.metadata["kind"] is FILE else entry.texts(it.name):
+        for path in [entry.values[field.name]] if field.metadata["kind"] is FILE else entry.texts(field.name):
             if not os.path.exists(study.at(path)):
-                raise entry.fault("isn't there", it.name, path, "a path from the folder of this file")
+                raise entry.fault("isn't there", field.name, path, "a path from the folder of this file")
 
 
 def refuse_both(entry: Entry, *keys: str) -> None:
-    """Tells the second of some fields that don't go together."""
+    """Refuses the second of some fields that don't go together."""
     found = [key for key in keys if entry.values.get(key) not in (None, False, [])]
     if len(found) > 1:
         raise entry.fault(f"doesn't go with {found[0]}", found[1], allowed=f"one of {', '.join(keys)}")
 
 
 def agree(study: Study, entries: dict[str, Entry]) -> None:
-    """Tells fields that don't go together."""
+    """Refuses fields that don't go together."""
     feed, run, walks, points = (entries[name] for name in ("feed", "run", "walks", "points"))
     for key, several in (("date", "dates"), ("from", "windows"), ("to", "windows")):
         refuse_both(run, key, several)
@@ -133,8 +106,8 @@ def agree(study: Study, entries: dict[str, Entry]) -> None:
     refuse_both(entries["results"], "within", "cutoff")
     refuse_both(walks, "none", "streets", "table")
     if study.walks.limit is not None and study.walks.limit > study.run.walk:
-        told = f"is more than walk of [run], {study.run.walk}, so that ttm takes none of the longer walks"
-        raise walks.fault(told, "limit", str(study.walks.limit), "at most walk of [run]")
+        message = f"is more than walk of [run], {study.run.walk}, so that ttm takes none of the longer walks"
+        raise walks.fault(message, "limit", str(study.walks.limit), "at most walk of [run]")
     for key in ("grid_area", "grid_people"):
         if points.has(key) and study.points.grid is None:
             raise points.fault("needs grid", key)
@@ -158,24 +131,31 @@ def agree_on_points(study: Study, run: Entry, walks: Entry, points: Entry) -> No
 
 
 def agree_on_results(study: Study, results: Entry, opportunities: Entry) -> None:
-    wish = study.results
-    for key, value, among in (("share", wish.share, study.run.shares), ("within", wish.within, study.run.limits)):
+    settings = study.results
+    for key, value, among in (
+        ("share", settings.share, study.run.shares),
+        ("within", settings.within, study.run.limits),
+    ):
         if value is not None and value not in among:
             name = "shares" if key == "share" else "limits"
             raise results.fault(f"is none of {name} of [run]", key, str(value), ", ".join(map(str, among)))
-    if wish.max_minutes is not None and study.within > 60 * wish.max_minutes:
+    if settings.max_minutes is not None and study.within > 60 * settings.max_minutes:
         allowed = f"at least {study.within / 60:g}"
-        raise results.fault("ends before the limit of tables and maps", "max_minutes", str(wish.max_minutes), allowed)
-    if (wish.bands or wish.nearest_bands) and not (wish.access and study.counts_people):
-        raise results.fault("needs access, and people of [opportunities]", "bands" if wish.bands else "nearest_bands")
-    if wish.nearest_bands and not wish.nearest:
+        raise results.fault(
+            "ends before the limit of tables and maps", "max_minutes", str(settings.max_minutes), allowed
+        )
+    if (settings.bands or settings.nearest_bands) and not (settings.access and study.counts_people):
+        raise results.fault(
+            "needs access, and people of [opportunities]", "bands" if settings.bands else "nearest_bands"
+        )
+    if settings.nearest_bands and not settings.nearest:
         raise results.fault("needs nearest", "nearest_bands")
-    needs_value = wish.decay in ("linear", "logistic")
-    if needs_value and not wish.decay_value:
-        raise results.fault("needs decay_value, minutes above 0", "decay", wish.decay)
-    if wish.decay_value is not None and not needs_value:
-        raise results.fault(f"goes with linear and logistic, not with {wish.decay}", "decay_value")
-    if wish.decay == "exponential" and min(study.cutoffs) < 0.01:
-        raise results.fault("needs cutoffs above 0: they are half-lives", "decay", wish.decay)
+    needs_value = bool(DECAYS[settings.decay].value)
+    if needs_value and not settings.decay_value:
+        raise results.fault("needs decay_value, minutes above 0", "decay", settings.decay)
+    if settings.decay_value is not None and not needs_value:
+        raise results.fault(f"goes with linear and logistic, not with {settings.decay}", "decay_value")
+    if settings.decay == "exponential" and min(study.cutoffs) < 0.01:
+        raise results.fault("needs cutoffs above 0: they are half-lives", "decay", settings.decay)
     if study.opportunities.column and not study.opportunities.files and not study.points.are_any:
         raise opportunities.fault("is of no file: name it in files", "column", study.opportunities.column)

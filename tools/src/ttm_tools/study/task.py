@@ -15,22 +15,23 @@ from ..engine import Run, program_at
 from ..faults import BadInput
 from ..files import remove
 from ..parts import origins_in
-from .cutting import PARTS, Part, parts_for
+from .cutting import FIRST, PARTS, Part, parts_for
 from .stages import PACKAGE, TASK, as_text, write_settled
 from .ttm import Running, facts_of, version_of, with_origins
 
 SCRIPT = f"{PARTS}/one_part.sh"
 
 
-def write_task(run: Run, parts: int, key: str, version: Sequence[str]) -> None:
+def write_task(run: Run, parts: Sequence[Part], key: str, version: Sequence[str]) -> None:
     """Writes what a part's machine has to know."""
-    known = {"run": facts_of(run), "parts": parts, "key": key, "version": list(version)}
+    known = {"run": facts_of(run), "parts": len(parts), "window": parts[0].window, "key": key}
+    known["version"] = list(version)
     write_settled(Path(TASK), as_text(known))
-    names = {"PYTHONPATH": str(PACKAGE.parent), "TTM_PROGRAM": os.path.abspath(program_at(None))}
+    names = {"PYTHONPATH": str(PACKAGE.parent), "TTM_PROGRAM": os.path.abspath(program_at(run.program))}
     own = " ".join(f"{name}={shlex.quote(value)}" for name, value in names.items())
-    words = f"{shlex.quote(sys.executable)} -m ttm_tools study --part"
+    command = f"{shlex.quote(sys.executable)} -m ttm_tools study --part"
     text = f"#!/bin/sh\n# Computes a part of the study: one_part.sh NUMBER\ncd {shlex.quote(os.getcwd())} || exit 1\n"
-    text += f'number=${{1:-$SLURM_ARRAY_TASK_ID}}\nexec env {own} {words} "$number" .\n'
+    text += f'number=${{1:-$SLURM_ARRAY_TASK_ID}}\nexec env {own} {command} "$number" .\n'
     write_settled(Path(SCRIPT), text)
     os.chmod(SCRIPT, 0o755)
 
@@ -52,7 +53,8 @@ def one_part(folder: Path, number: int) -> None:
         if not known:
             raise BadInput(folder, f"is no folder of a study with parts to compute: no {TASK}")
         run = Run(**known["run"])
-        parts = parts_for(origins_in(str(run.files["origins"])), known["parts"], known["key"])
+        window = known.get("window", FIRST)
+        parts = parts_for(origins_in(str(run.files["origins"])), known["parts"], known["key"], window)
         if not 1 <= number <= len(parts):
             raise BadInput(folder, f"has no part {number}, but 1 to {len(parts)}")
         part = parts[number - 1]
@@ -60,26 +62,26 @@ def one_part(folder: Path, number: int) -> None:
             return
         part.begin()
         threads = int(os.environ.get("SLURM_CPUS_PER_TASK", "1"))
-        told = computed(with_origins(run, str(part.origins_file), threads), part, known)
-        if told is not None:
-            write_settled(part.told_file, told + "\n")
-            raise BadInput(part.folder, told)
+        message = computed(with_origins(run, str(part.origins_file), threads), part, known)
+        if message is not None:
+            write_settled(part.errors_file, message + "\n")
+            raise BadInput(part.folder, message)
 
 
 def computed(run: Run, part: Part, known: dict[str, Any]) -> str | None:
-    """Runs a part with the version of `ttm` that the study has; gives the line that tells why there is no matrix."""
+    """Runs a part with the version of `ttm` that the study has; gives the line that says why there is no matrix."""
     own = version_of(program_at(None))
     if own != known["version"]:
         return f"{program_at(None)} is {own[0]}, and the study's ttm is another one, or proved with another toolchain"
     running = Running(run, part.matrix)
     try:
-        told = running.end()
+        message = running.end()
     except BaseException:
         running.stop()
         raise
-    if told is None and task_known() != known:
+    if message is None and task_known() != known:
         remove(part.matrix)
         return "the study's inputs were written again meanwhile"
-    if told is None:
+    if message is None:
         part.finish()
-    return told
+    return message

@@ -15,7 +15,7 @@ from dataclasses import dataclass, replace
 from pathlib import Path
 from typing import Any, Sequence
 
-from ..engine import EngineFault, Run, program_at, refusal_of
+from ..engine import EngineFault, Run, refusal_of
 from ..faults import one_line
 from ..files import remove
 from .stages import settle
@@ -52,20 +52,22 @@ def with_origins(run: Run, origins: str, threads: int) -> Run:
 
 
 def facts_of(run: Run) -> dict[str, Any]:
-    """The arguments of a run as data, of which `Run(**facts)` makes it again."""
-    return {**vars(run), "files": {name: str(path) for name, path in run.files.items()}}
+    """The arguments of a run as data, from which `Run(**facts)` makes it again; the program isn't one of them."""
+    facts = {**vars(run), "files": {name: str(path) for name, path in run.files.items()}}
+    facts.pop("program")
+    return facts
 
 
 @dataclass(frozen=True)
 class Report:
-    """What `ttm --report` tells."""
+    """What `ttm --report` prints."""
 
     lines: list[str]
 
     def number(self, name: str) -> int:
-        """A fact of the report; 0 where it isn't told."""
+        """A fact of the report; 0 where it isn't reported."""
         found = [FACT.fullmatch(line) for line in self.lines]
-        return next((int(it["value"]) for it in found if it and it["name"] == name), 0)
+        return next((int(match["value"]) for match in found if match and match["name"] == name), 0)
 
     @property
     def facts(self) -> list[str]:
@@ -76,18 +78,18 @@ class Report:
         return line.removeprefix("ttm: ").startswith(OF_THE_MACHINE)
 
 
-def report_of(run: Run, program: str | None = None) -> Report:
+def report_of(run: Run) -> Report:
     """Runs `ttm` for its report alone."""
-    words = [program_at(program), *run.words(), "--report"]
-    ran = subprocess.run(words, stdout=subprocess.DEVNULL, stderr=subprocess.PIPE, preexec_fn=die_with_parent)
+    arguments = [*run.command(), "--report"]
+    ran = subprocess.run(arguments, stdout=subprocess.DEVNULL, stderr=subprocess.PIPE, preexec_fn=die_with_parent)
     if ran.returncode != 0:
         raise EngineFault("\n".join(refusal_of(ran.stderr, ran.returncode)), ran.returncode)
     return Report(ran.stderr.decode("utf-8", "replace").splitlines())
 
 
-def fault_of(told: bytes, status: int) -> str:
-    """The line that tells why a run ended, with those that explain it."""
-    return one_line("; ".join(refusal_of(told, status)))
+def fault_of(errors: bytes, status: int) -> str:
+    """The line that says why a run ended, with those that explain it."""
+    return one_line("; ".join(refusal_of(errors, status)))
 
 
 def aside_of(path: Path) -> Path:
@@ -100,36 +102,36 @@ class Running:
     its own, so that Ctrl-C reaches this process alone, which decides what becomes of the run.
     """
 
-    def __init__(self, run: Run, out: Path, words: Sequence[str] = ()) -> None:
+    def __init__(self, run: Run, out: Path, arguments: Sequence[str] = ()) -> None:
         self.out, self.begin = out, time.monotonic()
-        self.made = aside_of(out)
-        self.told = tempfile.TemporaryFile()
-        called = [program_at(None), *run.words(), *words]
-        with open(self.made, "wb") as matrix:
+        self.aside = aside_of(out)
+        self.errors = tempfile.TemporaryFile()
+        called = [*run.command(), *arguments]
+        with open(self.aside, "wb") as matrix:
             how: dict[str, Any] = {"preexec_fn": die_with_parent, "start_new_session": True}
-            self.process = subprocess.Popen(called, stdout=matrix, stderr=self.told, **how)
+            self.process = subprocess.Popen(called, stdout=matrix, stderr=self.errors, **how)
 
     def is_over(self) -> bool:
         return self.process.poll() is not None
 
     def end(self) -> str | None:
-        """Names the matrix where the run ended well; else gives the line that `ttm` told."""
+        """Names the matrix where the run ended well; else gives the line that `ttm` printed."""
         status = self.process.wait()
         if status == 0:
-            settle(self.made)
-            os.replace(self.made, self.out)
+            settle(self.aside)
+            os.replace(self.aside, self.out)
             settle(self.out.parent)
-            self.told.close()
+            self.errors.close()
             return None
-        self.told.seek(0)
-        told = fault_of(self.told.read(), status)
+        self.errors.seek(0)
+        message = fault_of(self.errors.read(), status)
         self.stop()
-        return told
+        return message
 
     def stop(self) -> None:
         """Ends the run, and removes what it wrote."""
         if self.process.poll() is None:
             self.process.kill()
             self.process.wait()
-        remove(self.made)
-        self.told.close()
+        remove(self.aside)
+        self.errors.close()

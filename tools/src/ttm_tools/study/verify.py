@@ -10,7 +10,7 @@ from typing import Any, Iterator, Sequence
 
 import numpy as np
 
-from ..engine import Run, program_at, run as run_ttm
+from ..engine import Run, run as run_ttm
 from ..faults import BadInput, say, some
 from ..files import sum_of
 from ..matrices import Matrix, open_matrix
@@ -29,9 +29,10 @@ OF_ALL = 10  # one in so many rows is computed again
 
 
 def verify(folder: Path, seed: int | None, workers: int) -> None:
-    """Tells the first file that isn't as it was, or row that `ttm` computes in another way."""
+    """Refuses the first file that isn't as it was, or row that `ttm` computes in another way."""
     notes = read_notes(folder)
-    with found_program(), held(folder), contextlib.chdir(folder):
+    program = found_program()
+    with held(folder), contextlib.chdir(folder):
         sweep(Path("."), inside_parts=False)
         with as_one_line(folder / NOTES, "isn't as a study writes it"):
             files = {name: was for stage in notes["stages"].values() for name, was in stage["files"].items()}
@@ -39,8 +40,8 @@ def verify(folder: Path, seed: int | None, workers: int) -> None:
         refuse_changed(files)
         say(f"sums: {len(files)} files are as {NOTES} says", *unstated(files))
         refuse_changed_sources(sources)
-        run = Run(**notes["run"])
-        own, was = version_of(program_at(None)), [notes["versions"]["ttm"], notes["versions"]["toolchain"]]
+        run = Run(**notes["run"], program=program)
+        own, was = version_of(program), [notes["versions"]["ttm"], notes["versions"]["toolchain"]]
         if own[: len(was)] != was:
             say(f"ttm here is {own[0]}, {own[-1]}; that of the study was {was[0]}, {was[1]}")
         origins = origins_in(str(run.files["origins"]))
@@ -49,7 +50,9 @@ def verify(folder: Path, seed: int | None, workers: int) -> None:
         places = sorted(random.Random(seed).sample(range(len(origins)), count))
         drawn = [origins[place] for place in places]
         kept = [(run, [open_matrix(MATRIX), *([CsvMatrix(CSV)] if CSV in files else [])])]
-        kept += [(Run(**it), [open_matrix(path)]) for path, it in (notes.get("windows") or {}).items()]
+        kept += [
+            (Run(**facts, program=program), [open_matrix(path)]) for path, facts in (notes.get("windows") or {}).items()
+        ]
         few_at_once = parts_of(drawn, -(-count * notes["parts"] // len(origins)))
         for (own_run, matrices), few in itertools.product(kept, few_at_once):
             compare_again(replace(own_run, workers=workers), few, matrices, notes.get("shown_as") or {})
@@ -57,15 +60,15 @@ def verify(folder: Path, seed: int | None, workers: int) -> None:
 
 
 def unstated(files: dict[str, str]) -> Iterator[str]:
-    """Tells the files that the study didn't write."""
+    """Reports the files that the study didn't write."""
     own = {NOTES, LOCK, *files}
-    for path in sorted(it for it in Path(".").rglob("*") if not it.is_dir()):
+    for path in sorted(path for path in Path(".").rglob("*") if not path.is_dir()):
         if str(path) not in own and path.parts[0] not in (RECORDS, PARTS):
             yield f"{path}: is there, and {NOTES} doesn't state it"
 
 
 def refuse_changed_sources(sources: dict[str, str]) -> None:
-    """Tells the first source that isn't as it was read; those that aren't there any more are told as well."""
+    """Refuses the first source that isn't as it was read; those that aren't there any more are reported as well."""
     lost = [path for path in sources if not Path(path).is_file()]
     for path, was in sources.items():
         if path not in lost and sum_of(path) != was:
@@ -84,8 +87,8 @@ def refuse_changed(files: dict[str, str]) -> None:
 
 def compare_again(run: Run, origins: Sequence[str], kept: Sequence[Matrix], shown_as: dict[str, str]) -> None:
     """Computes the rows of some origins, and compares them with those that are kept, whatever these are called."""
-    with room() as made:
-        path, out = made / "origins.csv", made / "matrix.csv"
+    with room() as folder:
+        path, out = folder / "origins.csv", folder / "matrix.csv"
         with open(path, "wb") as file:
             write_stops(file, origins)
         run_ttm(replace(run, files={**run.files, "origins": str(path)}), out)
@@ -97,7 +100,7 @@ def compare_again(run: Run, origins: Sequence[str], kept: Sequence[Matrix], show
 
 
 def refuse_other(matrix: Matrix, again: CsvMatrix, keys: tuple[Any, Any], origins: Sequence[str]) -> None:
-    """Tells the first row whose bytes are others, of a scenario and a share by what they are called in both."""
+    """Refuses the first row whose bytes are others, of a scenario and a share by what they are called in both."""
     key, own = keys
     places = {name: place for place, name in enumerate(matrix.origins(*key))}
     if again.origins(*own) != list(origins):
@@ -106,8 +109,8 @@ def refuse_other(matrix: Matrix, again: CsvMatrix, keys: tuple[Any, Any], origin
     sums = matrix.access(*key)[chosen] == again.access(*own)
     for row, (origin, place) in enumerate(zip(origins, chosen.tolist())):
         if not sums[row].all() or bytes_of(matrix, key, place) != bytes_of(again, own, row, matrix):
-            told = f"share {key[1]}, origin {shown(origin)} isn't what ttm computes"
-            raise BadInput(matrix.path, f"the row of {shown(key[0])}, {told}")
+            message = f"share {key[1]}, origin {shown(origin)} isn't what ttm computes"
+            raise BadInput(matrix.path, f"the row of {shown(key[0])}, {message}")
 
 
 def bytes_of(matrix: Matrix, key: tuple[str, Any], place: int, like: Matrix | None = None) -> bytes:

@@ -18,26 +18,35 @@ TOLD = {
 }
 
 
-def write_windows(made: Document, whole: Whole, records: dict[str, Record]) -> None:
+def write_windows(document: Document, whole: Whole, records: dict[str, Record]) -> None:
     """The windows with their matrices, access in each of them, and pictures."""
     questions = whole.study.questions
     if not questions:
         return
-    made.heading("By time of day", 3)
-    rows = [[it.day, it.window.name, it.window.first, it.window.last, shown(path_of(whole, it))] for it in questions]
-    made.table("Windows, each with its matrix", ["Day", "Window", "From", "To", "Matrix"], rows)
-    made.paragraph(f"Comparisons, maps and the page are those of the first: {questions[0].told}.")
+    document.heading("By time of day", 3)
+    rows = [
+        [
+            question.day,
+            question.window.name,
+            question.window.first,
+            question.window.last,
+            shown(path_of(whole, question)),
+        ]
+        for question in questions
+    ]
+    document.table("Windows, each with its matrix", ["Day", "Window", "From", "To", "Matrix"], rows)
+    document.paragraph(f"Comparisons, maps and the page are those of the first: {questions[0].label}.")
     if "windows_access" not in records:
         return
     for kind in kinds_drawn(whole):
         names = ["date", "window", *COLUMNS]
-        caption = f"{kind.told}: mean of the people, and of the tenth that has least ({EQUITY} has all)"
+        caption = f"{kind.label}: mean of the people, and of the tenth that has least ({EQUITY} has all)"
         lines = list(lines_of(names, [kind.opportunity, kind.percentile, kind.cutoff]))
-        made.table(caption, [it.replace("_", " ") for it in names], lines)
+        document.table(caption, [name.replace("_", " ") for name in names], lines)
     if PICTURES in {path.rpartition("/")[0] for path in records["windows_access"].outputs}:
         for name, paths in pictures_of(whole).items():
             for path, what in zip(paths, TOLD.values()):
-                made.picture(path, f"{shown(name)}: {what}")
+                document.picture(path, f"{shown(name)}: {what}")
 
 
 def lines_of(names: Sequence[str], kind: Sequence[str]) -> Iterator[list[str]]:

@@ -12,19 +12,19 @@ from ..gtfs.fields import Floats
 from ..files import many_written_aside, output
 from ..matrices import Matrix, Share
 from ..measures.access import Decay, access, nearest
-from ..measures.access_table import AccessTable, Kind
+from ..measures.access_table import AccessTable, AccessKind
 from ..measures.opportunities import Counts, columns_of, read_counts
 from ..naming import file_names
 from ..records import shown, write_rows
 from ..views import equity
-from ..views.access import ACCESS, NEAREST, Measured, long_rows, measured, told
-from ..views.windows import Column, Told, figure_by_time, figure_of_heat, figure_of_maps
+from ..views.access import ACCESS, NEAREST, Measured, decimal, long_rows, measured
+from ..views.windows import WindowColumn, FigureLabels, figure_by_time, figure_of_heat, figure_of_maps
 from .counted import COUNTED, PEOPLE
 from .joining import MATRIX
-from .results import LOSE, POINTS, STOPS, Whole
-from .stages import Folder, Record, Stage
+from .results import LOSE, POINTS, STOPS, Records, Whole
+from .stages import Stage
 from .windows import WINDOWS, matrix_of
-from .wishes import Question
+from .settings import Question
 
 HEADS = ["date", "window", "from", "to"]
 EACH = "origins"  # whom the means count where no people are named: each origin once
@@ -48,18 +48,16 @@ class Of:
         return f"{WINDOWS}/{self.kind}.csv", f"{WINDOWS}/equity{end}.csv"
 
 
-def make_window_results(whole: Whole, folder: Folder) -> dict[str, Record]:
-    """Writes the tables and pictures, where several windows or days are named."""
-    wish, made = whole.study.results, dict[str, Record]()
-    kinds = [*([of_access(whole)] if wish.access else []), *([of_nearest(whole)] if wish.nearest else [])]
-    for of in kinds if whole.study.questions else ():
-        made[f"windows_{of.kind}"] = folder.do(tables_stage(whole, of))
-    return made
+def window_stages(whole: Whole, known: Records) -> list[Stage]:
+    """Tables and pictures, where several windows or days are named."""
+    settings = whole.study.results
+    kinds = [*([of_access(whole)] if settings.access else []), *([of_nearest(whole)] if settings.nearest else [])]
+    return [tables_stage(whole, of) for of in kinds] if whole.study.questions else []
 
 
 def of_access(whole: Whole) -> Of:
-    wish, cutoffs = whole.study.results, whole.study.cutoffs
-    decay = Decay(wish.decay, wish.decay_value)
+    settings, cutoffs = whole.study.results, whole.study.cutoffs
+    decay = Decay(settings.decay, settings.decay_value)
 
     def measure(matrix: Matrix, scenario: str, share: Share, counts: Counts) -> Floats:
         return access(matrix, scenario, share, counts.numbers, decay, cutoffs)
@@ -93,20 +91,26 @@ def tables_stage(whole: Whole, of: Of) -> Stage:
     pictures = [PICTURES] if study.results.maps and of.heads == ACCESS else []
 
     def make() -> list[str]:
-        made = dict[Question, AccessTable]()
+        tables = dict[Question, AccessTable]()
         header = [*HEADS, "scenario", "id", "opportunity", "percentile", *of.heads]
         with output(by_origin) as file:
-            write_rows(file, header, lines_of(whole, of, made))
+            write_rows(file, header, lines_of(whole, of, tables))
         with output(by_people) as file:
-            write_spread(file, made, whole)
+            write_spread(file, tables, whole)
         for _ in pictures:
-            draw_all(whole, made)
-        return [f"{', '.join([by_origin, by_people, *pictures])}: {len(made)} windows"]
+            draw_all(whole, tables)
+        return [f"{', '.join([by_origin, by_people, *pictures])}: {len(tables)} windows"]
 
-    wish = study.results
-    words = [wish.decay, wish.decay_value, list(of.limits), wish.unit, [it.told for it in study.questions]]
+    settings = study.results
+    options = [
+        settings.decay,
+        settings.decay_value,
+        list(of.limits),
+        settings.unit,
+        [question.label for question in study.questions],
+    ]
     sums = {name: records[name].outputs for name in ("counted", "people") if name in records}
-    facts: dict[str, Any] = {**whole.depends, "words": words, "windows": whole.windows, "sums": sums}
+    facts: dict[str, Any] = {**whole.depends, "words": options, "windows": whole.windows, "sums": sums}
     return Stage(f"windows_{of.kind}", facts, [by_origin, by_people, *pictures], make)
 
 
@@ -122,17 +126,19 @@ def lines_of(whole: Whole, of: Of, tables: dict[Question, AccessTable]) -> Itera
 
         found = [measured(matrix, scenario, matrix.shares, measure) for scenario in matrix.scenarios]
         tables[question] = table_of(path, found, counts, of)
-        texts = [told(limit) for limit in of.limits]
+        texts = [decimal(limit) for limit in of.limits]
         yield from ([*head_of(question), *line] for line in long_rows(found, counts.names, texts, True))
 
 
 def table_of(path: str, found: Sequence[Measured], counts: Counts, of: Of) -> AccessTable:
     """The same numbers as `read_access` gives them, with the decimals that a table has."""
     shares = ["" if share is None else str(share) for share in found[0].shares]
-    kinds = [Kind(name, share, told(limit)) for name in counts.names for share in shares for limit in of.limits]
-    by_kind = [it.numbers.transpose(2, 0, 3, 1).reshape(len(kinds), -1) for it in found]
+    kinds = [
+        AccessKind(name, share, decimal(limit)) for name in counts.names for share in shares for limit in of.limits
+    ]
+    by_kind = [of.numbers.transpose(2, 0, 3, 1).reshape(len(kinds), -1) for of in found]
     numbers = np.round(np.stack(by_kind), DECIMALS)
-    return AccessTable(path, [it.scenario for it in found], kinds, found[0].origins, numbers, of.heads == NEAREST)
+    return AccessTable(path, [of.scenario for of in found], kinds, found[0].origins, numbers, of.heads == NEAREST)
 
 
 def people_of(whole: Whole, origins: Sequence[str]) -> Counts:
@@ -146,26 +152,21 @@ def write_spread(out: BinaryIO, tables: dict[Question, AccessTable], whole: Whol
     """How what is measured is spread over people, window by window."""
     lines, header = list[list[object]](), list[str]()
     for question, table in tables.items():
-        asked = equity.Asked(whole.inputs.base, LOSE, table.kinds)
-        header, *rows = equity.rows_of(equity.measured(table, people_of(whole, table.origins), asked))
+        options = equity.EquityOptions(whole.inputs.base, LOSE, table.kinds)
+        header, *rows = equity.rows_of(equity.measured(table, people_of(whole, table.origins), options))
         lines += [[*head_of(question), *row] for row in rows]
     write_rows(out, [*HEADS, *header], lines)
 
 
-def kinds_drawn(whole: Whole) -> list[Kind]:
+def kinds_drawn(whole: Whole) -> list[AccessKind]:
     """What is drawn of each thing that is counted."""
-    cutoffs = [told(it) for it in whole.study.cutoffs]
+    cutoffs = [decimal(cutoff) for cutoff in whole.study.cutoffs]
     share = next(iter(whole.whole().shares))
     percentile = "" if share is None else str(whole.study.share)
-    return [kind_drawn(whole, [Kind(name, percentile, it) for it in cutoffs], name) for name in pictures_of(whole)]
-
-
-def kind_drawn(whole: Whole, kinds: Sequence[Kind], opportunity: str) -> Kind:
-    """What is drawn of an opportunity: the percentile of maps, and their limit, or the last one where there isn't
-    any.
-    """
-    own = [it for it in kinds if it.opportunity == opportunity and it.percentile in ("", str(whole.study.share))]
-    return next((it for it in own if it.cutoff == told(whole.study.within / 60)), own[-1])
+    return [
+        whole.kind_drawn([AccessKind(name, percentile, cutoff) for cutoff in cutoffs], name)
+        for name in pictures_of(whole)
+    ]
 
 
 def pictures_of(whole: Whole) -> dict[str, list[str]]:
@@ -183,20 +184,20 @@ def draw_all(whole: Whole, tables: dict[Question, AccessTable]) -> None:
     _, stops = whole.open()
     with many_written_aside(PICTURES) as folder:
         for name, paths in pictures_of(whole).items():
-            kind = kind_drawn(whole, first.kinds, name)
+            kind = whole.kind_drawn(first.kinds, name)
             number = first.kinds.index(kind)
             columns = [column_of(question, table.numbers[:, number]) for question, table in tables.items()]
-            words = Told(kind.told, shown(name), shown(people.names[0]), places)
+            labels = FigureLabels(kind.label, shown(name), shown(people.names[0]), places)
             figures = [
-                figure_by_time(columns, first.scenarios, people.numbers[:, 0], words),
-                figure_of_heat(columns, base, words),
-                figure_of_maps(columns, base, stops.of(first.origins), words),
+                figure_by_time(columns, first.scenarios, people.numbers[:, 0], labels),
+                figure_of_heat(columns, base, labels),
+                figure_of_maps(columns, base, stops.of(first.origins), labels),
             ]
             for path, figure in zip(paths, figures):
                 with output(str(folder / Path(path).name)) as file:
                     figure.savefig(file, format="png", dpi="figure")
 
 
-def column_of(question: Question, numbers: Floats) -> Column:
+def column_of(question: Question, numbers: Floats) -> WindowColumn:
     window = question.window
-    return Column(question.day, window.name, window.first, window.last, numbers)
+    return WindowColumn(question.day, window.name, window.first, window.last, numbers)

@@ -4,11 +4,10 @@ network that is kept for each day.
 
 import functools
 import itertools
-import os
 from dataclasses import dataclass, replace
 
-from .asking import Kept
-from .cutting import cut_of, parts_for, study_key
+from .asking import KeptNetwork
+from .cutting import cut_of, parts_for, remove_others, remove_windows, study_key
 from .elsewhere import Means, run_elsewhere
 from .inputs import Inputs
 from .joining import join_parts
@@ -16,7 +15,7 @@ from .running import refuse_failed
 from .sources import refuse_other_sums
 from .stages import Folder, Record, Stage, room
 from .ttm import Version
-from .wishes import Question, Study
+from .settings import Question, Study
 
 WINDOWS = "windows"  # their folder
 FORM = 1  # of how the parts are joined
@@ -27,7 +26,7 @@ def matrix_of(question: Question) -> str:
     return f"{WINDOWS}/{question.name}.omx"
 
 
-def asked_of(inputs: Inputs, question: Question) -> Inputs:
+def inputs_of(inputs: Inputs, question: Question) -> Inputs:
     """The same inputs for a window and its day."""
     window = (question.window.first, question.window.last)
     return replace(inputs, run=replace(inputs.run, date=question.date, window=window))
@@ -43,37 +42,40 @@ class Machine:
 
 def make_windows(study: Study, inputs: Inputs, folder: Folder, machine: Machine) -> dict[str, Record]:
     """Does the matrices of all windows but the first, day by day."""
-    made = dict[str, Record]()
-    for _, questions in itertools.groupby(study.questions[1:], lambda it: it.date):
+    records = dict[str, Record]()
+    remove_windows({question.name for question in study.questions[1:]})
+    for _, questions in itertools.groupby(study.questions[1:], lambda question: question.date):
         own = list(questions)
-        with Kept(asked_of(inputs, own[0]).run) as network:
+        with KeptNetwork(inputs_of(inputs, own[0]).run) as network:
             for question in own:
                 stage = window_stage(study, inputs, question, machine, network)
-                made[stage.name] = folder.do(stage)
-    return made
+                records[stage.name] = folder.do(stage)
+                if not study.parts.keep:
+                    remove_others(question.name)
+    return records
 
 
-def window_stage(study: Study, inputs: Inputs, question: Question, machine: Machine, network: Kept) -> Stage:
+def window_stage(study: Study, inputs: Inputs, question: Question, machine: Machine, network: KeptNetwork) -> Stage:
     """The matrix of a window, by as many parts of the origins as that of the first."""
     version, means = machine.version, machine.means
-    asked = asked_of(inputs, question)
-    key = study_key(asked, version.lines)
+    task = inputs_of(inputs, question)
+    key = study_key(task, version.lines)
 
     def make() -> list[str]:
-        with room() as made:
-            first, shape = cut_of(study.parts, inputs, study_key(inputs, version.lines), means.at_once, made)
-        parts = parts_for([origin for part in first for origin in part.origins], len(first), key)
+        with room() as folder:
+            first, shape = cut_of(study.parts, inputs, study_key(inputs, version.lines), means.at_once, folder)
+        parts = parts_for([origin for part in first for origin in part.origins], len(first), key, question.name)
         if means.is_elsewhere:
-            failed = run_elsewhere(asked.run, parts, key, version.lines, means)
+            failed = run_elsewhere(task.run, parts, key, version.lines, means)
         else:
-            failed = network.run_parts(asked.run, parts, shape)
+            failed = network.run_parts(task.run, parts, shape)
         refuse_failed(failed, len(parts))
         path = matrix_of(question)
         return join_parts(parts, False, inputs.shown_as, inputs.destinations, means.threads, path)
 
     depends = {"study": key, "origins": inputs.records["origins"].outputs, "form": FORM}
     depends |= {"shown": inputs.destinations, "shown_as": inputs.shown_as}
-    known = {**inputs.sums, os.environ["TTM_PROGRAM"]: version.sum}
+    known = {**inputs.sums, str(inputs.run.program): version.sum}
     same = functools.partial(refuse_other_sums, known)
     return Stage(
         f"matrix_{question.name}",

@@ -7,34 +7,30 @@ import re
 import shutil
 from dataclasses import replace
 from pathlib import Path
-from typing import Iterator
 
 from ..engine import program_at
 from ..faults import BadInput, needs, say
 from ..gtfs.stops import read_stops
 from ..files import is_running, remove, sum_of
 from ..matrices import BASE, TODAY, open_matrix
-from ..naming import told_names
+from ..naming import sentences_on_names
 from ..parts import origins_in
 from ..views.page.document import LEAFLET, leaflet_files
-from .areas import make_areas
-from .cutting import PARTS, cut_of, parts_noted, remove_parts, study_key, trial
+from .cutting import FIRST, PARTS, cut_of, parts_noted, remove_others, remove_parts, study_key, trial
 from .elsewhere import Means, run_elsewhere
 from .gridding import with_grid
 from .inputs import Inputs, make_inputs
 from .joining import CSV, MATRIX, join_parts
-from .maps import make_maps
 from .notes import write_notes
-from .page import make_page
-from .report import TOLD, report_stage, told_of_day
-from .results import Whole, make_tables, names_of_scenarios
+from .report import TOLD, day_shown
+from .result_list import make_results
+from .results import Whole, names_of_scenarios
 from .running import refuse_failed, run_parts
 from .sources import refuse_other_sums
 from .stages import RECORDS, Folder, Record, Stage, held, log, refuse_folder, room
 from .ttm import Version, version_of
-from .window_results import make_window_results
 from .windows import Machine, make_windows
-from .wishes import Study
+from .settings import Study
 
 FORM = 1  # of how the parts are joined: the rows are ttm's, so other tools don't change them
 OF_ONE_ORIGIN = ("origins: ", "rows: ", "cells: ", "bytes of ")  # what the report of a trial says of itself
@@ -46,43 +42,45 @@ def make_study(study: Study, out: Path, means: Means) -> None:
     """Makes all of a study's folder that isn't there yet."""
     refuse_folder(out)
     needs(*packages_of(study))
-    with found_program(), held(out), contextlib.chdir(out):
+    program = found_program()
+    with held(out), contextlib.chdir(out):
         Path(RECORDS).mkdir(exist_ok=True)
-        program = os.environ["TTM_PROGRAM"]
         folder, version = Folder(Path(".")), Version(version_of(program), sum_of(program))
         log("command", "began", 0.0)
         sweep(Path("."), inside_parts=False)
-        inputs = make_inputs(study, folder)
+        inputs = make_inputs(study, folder, program)
         study = with_grid(study)
-        refuse_wishes(study, inputs)
-        say(*told_names(names_of_scenarios(list(inputs.edits), inputs.base)))
+        refuse_settings(study, inputs)
+        say(*sentences_on_names(names_of_scenarios(list(inputs.edits), inputs.base)))
         key = study_key(inputs, version.lines)
-        records = days_told(study, inputs, folder, version)
+        records = days_listed(study, inputs, folder, version)
         records["matrix"] = folder.do(matrix_stage(study, inputs, key, version, means))
+        if not study.parts.keep:
+            remove_others(FIRST)
         windows = make_windows(study, inputs, folder, Machine(version, means))
         records |= windows
         if not study.parts.keep:
             remove_parts()
         sum_of_matrix = records["matrix"].outputs[MATRIX]
-        sums = {name: was for it in windows.values() for name, was in it.outputs.items()}
-        whole = Whole(study, inputs, sum_of_matrix, open_matrix(MATRIX).scenarios, sums)
-        records |= make_results(whole, folder, records, version.lines)
+        sums = {name: was for record in windows.values() for name, was in record.outputs.items()}
+        whole = Whole(study, inputs, sum_of_matrix, open_matrix(MATRIX).scenarios, sums, version.lines)
+        records = make_results(whole, folder, records)
         write_notes(whole, records, version, parts_noted())
         sweep(Path("."), inside_parts=True)
 
 
 def packages_of(study: Study) -> list[str]:
-    """What the results need, so that a lack is told before the run."""
-    wish = study.results
-    pictures = [*(["matplotlib"] if wish.maps else []), *(["jinja2"] if wish.page else [])]
+    """What the results need, so that a lack is reported before the run."""
+    settings = study.results
+    pictures = [*(["matplotlib"] if settings.maps else []), *(["jinja2"] if settings.page else [])]
     streets = ["osmium", "scipy"] if study.walks.streets else []
     points = study.points
-    shapes = ["shapely"] if study.feed.area or points.grid_area or wish.isochrones else []
+    shapes = ["shapely"] if study.feed.area or points.grid_area or settings.isochrones else []
     return ["h5py", *pictures, *shapes, *(["geopandas"] if points.grid_area else []), *streets]
 
 
-def refuse_wishes(study: Study, inputs: Inputs) -> None:
-    """Tells before the run what maps and the page couldn't show after it."""
+def refuse_settings(study: Study, inputs: Inputs) -> None:
+    """Refuses before the run what maps and the page couldn't show after it."""
     if study.results.page:
         leaflet_files(LEAFLET)
     if not (study.results.maps or study.results.page or study.results.isochrones):
@@ -99,48 +97,28 @@ def refuse_wishes(study: Study, inputs: Inputs) -> None:
         )
 
 
-def make_results(whole: Whole, folder: Folder, records: dict[str, Record], version: list[str]) -> dict[str, Record]:
-    """Does all stages behind the matrix."""
-    made = make_tables(whole, folder)
-    made |= make_window_results(whole, folder)
-    made |= make_areas(whole, folder)
-    maps = make_maps(whole, folder)
-    made |= {"maps": maps} if maps else {}
-    page = make_page(whole, folder)
-    made |= {"page": page} if page else {}
-    made["report"] = folder.do(report_stage(whole, {**records, **made}, version))
-    return made
+def found_program() -> str:
+    """The path of `ttm`, which holds from any folder."""
+    found = program_at(None)
+    return os.path.abspath(shutil.which(found) or found)
 
 
-@contextlib.contextmanager
-def found_program() -> Iterator[None]:
-    """Has `ttm` be found from any folder."""
-    before, found = os.environ.get("TTM_PROGRAM"), shutil.which(program_at(None))
-    os.environ["TTM_PROGRAM"] = os.path.abspath(found or program_at(None))
-    try:
-        yield
-    finally:
-        os.environ.pop("TTM_PROGRAM")
-        if before is not None:
-            os.environ["TTM_PROGRAM"] = before
-
-
-def days_told(study: Study, inputs: Inputs, folder: Folder, version: Version) -> dict[str, Record]:
-    """What `ttm` tells of each day of the study: that of the first one first."""
-    made = {"days": folder.do(told_stage(inputs, study_key(inputs, version.lines), "days", TOLD))}
+def days_listed(study: Study, inputs: Inputs, folder: Folder, version: Version) -> dict[str, Record]:
+    """What `ttm` says of each day of the study: that of the first one first."""
+    records = {"days": folder.do(days_stage(inputs, study_key(inputs, version.lines), "days", TOLD))}
     for date in study.run.dates[1:]:
         own = replace(inputs, run=replace(inputs.run, date=date))
-        stage = told_stage(own, study_key(own, version.lines), f"days_{date}", told_of_day(date))
-        made[stage.name] = folder.do(stage)
-    return made
+        stage = days_stage(own, study_key(own, version.lines), f"days_{date}", day_shown(date))
+        records[stage.name] = folder.do(stage)
+    return records
 
 
-def told_stage(inputs: Inputs, key: str, name: str, path: str) -> Stage:
-    """What `ttm` tells of the feed, a day and its scenarios: the report of a run of one origin."""
+def days_stage(inputs: Inputs, key: str, name: str, path: str) -> Stage:
+    """What `ttm` says of the feed, a day and its scenarios: the report of a run of one origin."""
 
     def make() -> list[str]:
-        with room() as made:
-            _, report = trial(inputs, origins_in(str(inputs.run.files["origins"]))[:1], made)
+        with room() as folder:
+            _, report = trial(inputs, origins_in(str(inputs.run.files["origins"]))[:1], folder)
         lines = beside_today(inputs, [line for line in report.facts if not line.startswith(OF_ONE_ORIGIN)])
         Path(path).write_text("".join(line + "\n" for line in lines), encoding="utf-8")
         return [line for line in lines if line.startswith(("runs in scenario", "warning"))]
@@ -149,24 +127,30 @@ def told_stage(inputs: Inputs, key: str, name: str, path: str) -> Stage:
 
 
 def beside_today(inputs: Inputs, lines: list[str]) -> list[str]:
-    """What `ttm` tells of a plan's study: it compares scenarios with `base`, which has the trips of all; here they are
+    """What `ttm` says of a plan's study: it compares scenarios with `base`, which has the trips of all; here they are
     compared with today.
     """
     if inputs.base != TODAY:
         return lines
-    made, name, whole = list[str](), "", next((it for it, own in inputs.shown_as.items() if own == BASE), None)
+    sentences, name, whole = (
+        list[str](),
+        "",
+        next((name_shown for name_shown, own in inputs.shown_as.items() if own == BASE), None),
+    )
     for line in lines:
         name = line.removeprefix(RUNS_IN).partition(":")[0] if line.startswith(RUNS_IN) else name
         if line != NO_CHANGE:
-            made.append(line)
+            sentences.append(line)
         elif name == TODAY and whole not in (None, TODAY):
-            made.append(f"warning: scenario {whole} changes nothing compared with {TODAY} on the days of the study")
+            sentences.append(
+                f"warning: scenario {whole} changes nothing compared with {TODAY} on the days of the study"
+            )
     if whole is None:
         count = len(inputs.run.scenarios) + 1
-        made.append(f"{BASE} has the trips of all scenarios; its rows, one in {count} of the run, aren't shown")
+        sentences.append(f"{BASE} has the trips of all scenarios; its rows, one in {count} of the run, aren't shown")
     else:
-        made.append(f"the rows of {whole} are those of {BASE}, as its file takes nothing out")
-    return made
+        sentences.append(f"the rows of {whole} are those of {BASE}, as its file takes nothing out")
+    return sentences
 
 
 def matrix_stage(study: Study, inputs: Inputs, key: str, version: Version, means: Means) -> Stage:
@@ -174,8 +158,8 @@ def matrix_stage(study: Study, inputs: Inputs, key: str, version: Version, means
     with_csv = study.results.csv
 
     def make() -> list[str]:
-        with room() as made:
-            parts, shape = cut_of(study.parts, inputs, key, means.at_once, made)
+        with room() as folder:
+            parts, shape = cut_of(study.parts, inputs, key, means.at_once, folder)
         if means.is_elsewhere:
             failed = run_elsewhere(inputs.run, parts, key, version.lines, means)
         else:
@@ -185,7 +169,7 @@ def matrix_stage(study: Study, inputs: Inputs, key: str, version: Version, means
 
     depends = {"study": key, "origins": inputs.records["origins"].outputs, "csv": with_csv}
     depends |= {"shown": inputs.destinations, "shown_as": inputs.shown_as, "form": FORM}
-    outputs, known = [MATRIX, *([CSV] if with_csv else [])], {**inputs.sums, os.environ["TTM_PROGRAM"]: version.sum}
+    outputs, known = [MATRIX, *([CSV] if with_csv else [])], {**inputs.sums, str(inputs.run.program): version.sum}
     same = functools.partial(refuse_other_sums, known)
     return Stage("matrix", depends, outputs, make, of_tools=False, keeps_task=True, refuse_changed=same)
 

@@ -16,6 +16,15 @@ ACCESS, NEAREST = ("cutoff", "accessibility"), ("nearest", "seconds")  # the las
 
 
 @dataclass(frozen=True)
+class Form:
+    """The columns of a table."""
+
+    heads: tuple[str, str]  # ACCESS or NEAREST
+    shape: str = LONG  # or WIDE
+    with_scenario: bool = True
+
+
+@dataclass(frozen=True)
 class Measured:
     """What was measured of a scenario."""
 
@@ -43,7 +52,7 @@ def measured(
     return Measured(scenario, origins, list(shares), np.stack([measure(scenario, share) for share in shares]))
 
 
-def told(number: float, decimals: int = 6) -> str:
+def decimal(number: float, decimals: int = 6) -> str:
     """A number without needless zeros, to the nearest millionth or so; nothing for NaN."""
     if np.isnan(number):
         return ""
@@ -51,32 +60,25 @@ def told(number: float, decimals: int = 6) -> str:
 
 
 def write_access(
-    out: BinaryIO,
-    found: Sequence[Measured],
-    opportunities: Sequence[str],
-    limits: Sequence[float | str],
-    *,
-    heads: tuple[str, str],
-    form: str,
-    with_scenario: bool,
+    out: BinaryIO, found: Sequence[Measured], opportunities: Sequence[str], limits: Sequence[float | str], form: Form
 ) -> None:
     """Writes what was measured of some scenarios, one after the other."""
-    named, middle = ["scenario"] * with_scenario + ["id"], "_nearest_" if heads == NEAREST else "_"
-    texts = [it if isinstance(it, str) else told(it) for it in limits]
+    named, middle = ["scenario"] * form.with_scenario + ["id"], "_nearest_" if form.heads == NEAREST else "_"
+    texts = [limit if isinstance(limit, str) else decimal(limit) for limit in limits]
     cells = list(itertools.product(opportunities, texts))
-    if form == WIDE:
+    if form.shape == WIDE:
         header = [*named, "percentile", *[f"{name}{middle}{limit}" for name, limit in cells]]
-        write_rows(out, header, wide_rows(found, with_scenario))
+        write_rows(out, header, wide_rows(found, form.with_scenario))
     else:
-        header = [*named, "opportunity", "percentile", *heads]
-        write_rows(out, header, long_rows(found, opportunities, texts, with_scenario))
+        header = [*named, "opportunity", "percentile", *form.heads]
+        write_rows(out, header, long_rows(found, opportunities, texts, form.with_scenario))
 
 
 def wide_rows(found: Sequence[Measured], with_scenario: bool) -> Iterator[list[object]]:
     for of in found:
         for row, origin in enumerate(of.origins):
             for place, share in enumerate(of.shares):
-                texts = [told(number, of.decimals) for number in of.numbers[place, row].ravel().tolist()]
+                texts = [decimal(number, of.decimals) for number in of.numbers[place, row].ravel().tolist()]
                 yield [*[of.scenario] * with_scenario, origin, "" if share is None else share, *texts]
 
 
@@ -90,4 +92,4 @@ def long_rows(
                 for place, share in enumerate(of.shares):
                     for limit, number in zip(limits, numbers[place][column]):
                         head = [*[of.scenario] * with_scenario, origin, name, "" if share is None else share]
-                        yield [*head, limit, told(number, of.decimals)]
+                        yield [*head, limit, decimal(number, of.decimals)]

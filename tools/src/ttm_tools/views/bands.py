@@ -5,12 +5,12 @@ from typing import Any, BinaryIO, Iterator, Sequence
 
 from ..faults import BadInput, some
 from ..gtfs.fields import Floats
-from ..measures.access_table import AccessTable, Kind
+from ..measures.access_table import AccessTable, AccessKind
 from ..measures.bands import with_at_least, within_minutes
 from ..measures.opportunities import Counts
 from ..records import shown
-from .access import told as number_told
-from .equity import told
+from .access import decimal
+from .equity import significant
 from .tables import write_table
 from .texts import text_alone
 
@@ -23,7 +23,7 @@ AROUND = 1.7  # inches of title and key
 class Band:
     """How many people of a group are within a band in a scenario."""
 
-    kind: Kind
+    kind: AccessKind
     group: str
     scenario: str
     limit: float  # opportunities at least, or minutes at most
@@ -31,7 +31,9 @@ class Band:
     percent: float  # of the group
 
 
-def bands_of(table: AccessTable, kinds: Sequence[Kind], people: Counts, limits: Sequence[float]) -> Iterator[Band]:
+def bands_of(
+    table: AccessTable, kinds: Sequence[AccessKind], people: Counts, limits: Sequence[float]
+) -> Iterator[Band]:
     """Each kind, group, scenario and limit, in this order."""
     count = within_minutes if table.of_times else with_at_least
     for kind in kinds:
@@ -50,11 +52,18 @@ def write_bands(out: BinaryIO, table: AccessTable, bands: Iterator[Band], form: 
     """Writes a line for each."""
     limit, kind = ("within_minutes", "nearest") if table.of_times else ("at_least", "cutoff")
     header = ["opportunity", "percentile", kind, "group", "scenario", limit, "people", "percent"]
-    made = [
-        [*astuple(it.kind), it.group, it.scenario, number_told(it.limit), told(it.people), told(it.percent)]
-        for it in bands
+    rows = [
+        [
+            *astuple(band.kind),
+            band.group,
+            band.scenario,
+            decimal(band.limit),
+            significant(band.people),
+            significant(band.percent),
+        ]
+        for band in bands
     ]
-    write_table(out, header, made, form)
+    write_table(out, header, rows, form)
 
 
 def labels_of(table: AccessTable, limits: Sequence[float], unit: str) -> list[str]:
@@ -74,26 +83,26 @@ def parts_of(table: AccessTable, inside: Sequence[float]) -> list[float]:
 
 
 @text_alone
-def figure_of(table: AccessTable, kinds: Sequence[Kind], people: Counts, limits: Sequence[float]) -> Any:
+def figure_of(table: AccessTable, kinds: Sequence[AccessKind], people: Counts, limits: Sequence[float]) -> Any:
     """A bar for each group and scenario, of one kind."""
     if len(kinds) > 1:
-        there = some([kind.told for kind in kinds])
+        there = some([kind.label for kind in kinds])
         raise BadInput(table.path, f"a picture shows one of {there}: name it by --opportunity, --percentile, --cutoff")
     from matplotlib import colormaps
     from matplotlib.backends.backend_agg import FigureCanvasAgg
     from matplotlib.figure import Figure
 
     found = list(bands_of(table, kinds, people, limits))
-    rows = list(dict.fromkeys((it.group, it.scenario) for it in found))
+    rows = list(dict.fromkeys((band.group, band.scenario) for band in found))
     labels = labels_of(table, limits, shown(kinds[0].opportunity))
     high = AROUND + BAR * (len(rows) + len(people.names))
     figure = Figure(figsize=(INCHES, high), dpi=135, facecolor="white")
     FigureCanvasAgg(figure)
-    title = f"People by band: {table.told(kinds[0])}"
+    title = f"People by band: {table.label_of(kinds[0])}"
     figure.text(0.02, 1 - 0.15 / high, title, fontsize=13, fontweight="bold", va="top", parse_math=False)
     axes = figure.add_axes((0.24, 0.55 / high, 0.72, 1 - (AROUND - 0.2) / high))
     for row, (group, scenario) in enumerate(rows):
-        inside = [it.percent for it in found if (it.group, it.scenario) == (group, scenario)]
+        inside = [band.percent for band in found if (band.group, band.scenario) == (group, scenario)]
         begin, at = 0.0, row + people.names.index(group)
         for place, part in enumerate(parts_of(table, inside)):
             colour = colormaps["viridis"](1 - place / max(1, len(labels) - 1))

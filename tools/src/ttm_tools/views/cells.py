@@ -26,8 +26,8 @@ class Cells:
 
     def corners(self) -> Floats:
         """The corners of all areas."""
-        made: Floats = np.concatenate([np.zeros((0, 2)), *(path.vertices for path in self.areas.values())])
-        return made
+        corners: Floats = np.concatenate([np.zeros((0, 2)), *(path.vertices for path in self.areas.values())])
+        return corners
 
     def draw(self, axes: Any, chosen: npt.NDArray[np.intp], points: Floats, colour: str, order: float) -> None:
         """Draws the cells of some places in a colour."""

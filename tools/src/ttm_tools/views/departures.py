@@ -15,38 +15,40 @@ MOST_TICKS = 9
 
 
 @text_alone
-def figure_of(asked: ExplainOptions, found: Sequence[Found]) -> Any:
+def figure_of(options: ExplainOptions, found: Sequence[Found]) -> Any:
     """The picture of some scenarios: a mark for each departure, a dashed line at the cell, a ring at the departure
-    whose journey is told, and crosses above for departures after which nobody gets there.
+    whose journey is reported, and crosses above for departures after which nobody gets there.
     """
     from matplotlib.backends.backend_agg import FigureCanvasAgg
     from matplotlib.figure import Figure
 
     figure = Figure(figsize=INCHES, dpi=135, facecolor="white")
     FigureCanvasAgg(figure)
-    title = f"Duration by departure: from {asked.stop(asked.origin)} to {asked.stop(asked.destination)}"
+    title = f"Duration by departure: from {options.stop(options.origin)} to {options.stop(options.destination)}"
     figure.text(0.02, 0.97, title, fontsize=13, fontweight="bold", va="top", parse_math=False)
     axes = figure.add_axes((0.07, 0.12, 0.9, 0.76))
     most = max((time for of in found for time in of.durations if time is not None), default=60) / 60
     for place, of in enumerate(found):
-        draw_scenario(axes, asked, of, place, most * (1.06 + 0.04 * place))
-    step = -(-len(asked.departures) // MOST_TICKS)
-    ticks = range(0, len(asked.departures), step)
-    axes.set_xticks(list(ticks), [asked.clock(asked.departures[tick])[:-3] for tick in ticks])
+        draw_scenario(axes, options, of, place, most * (1.06 + 0.04 * place))
+    step = -(-len(options.departures) // MOST_TICKS)
+    ticks = range(0, len(options.departures), step)
+    axes.set_xticks(list(ticks), [options.clock(options.departures[tick])[:-3] for tick in ticks])
     axes.set(ylim=(0, most * (1.12 + 0.04 * len(found))), xlabel="departure", ylabel="duration in minutes")
     axes.grid(axis="y", color="#dddddd", linewidth=0.6)
     axes.legend(frameon=False, fontsize=9, loc="lower left")
     return figure
 
 
-def draw_scenario(axes: Any, asked: ExplainOptions, found: Found, place: int, above: float) -> None:
+def draw_scenario(axes: Any, options: ExplainOptions, found: Found, place: int, above: float) -> None:
     """One scenario, with the departures that lead nowhere at a height above all others."""
     colour, mark = COLOURS[place % len(COLOURS)], MARKS[place % len(MARKS)]
     minutes = np.array([np.nan if time is None else time / 60 for time in found.durations])
-    told = (
-        f"{shown(found.name)}: {asked.share} % attain {found.cell / 60:.1f} minutes" if found.cell is not None else None
+    title = (
+        f"{shown(found.name)}: {options.share} % attain {found.cell / 60:.1f} minutes"
+        if found.cell is not None
+        else None
     )
-    label = told or f"{shown(found.name)}: not reached"
+    label = title or f"{shown(found.name)}: not reached"
     axes.plot(minutes, color=colour, marker=mark, markersize=3.5, linewidth=0.9, label=label)
     if found.cell is not None:
         axes.axhline(found.cell / 60, color=colour, linestyle="dashed", linewidth=0.8)

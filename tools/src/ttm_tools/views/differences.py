@@ -15,18 +15,18 @@ LINES_AT_ONCE = 200_000
 
 
 def ends_as_texts(names: Sequence[str], stops: Stops | None) -> Texts:
-    """The ends of pairs as they stand in a line: identifier, and name where a feed tells it."""
-    told = stops.of(names).names if stops is not None else None
-    if told is None:
+    """The ends of pairs as they stand in a line: identifier, and name where a feed says it."""
+    names_of_stops = stops.of(names).names if stops is not None else None
+    if names_of_stops is None:
         return fields_as_texts(names, after=b",")
-    return texts_of([field(name) + b"," + field(other) + b"," for name, other in zip(names, told)])
+    return texts_of([field(name) + b"," + field(other) + b"," for name, other in zip(names, names_of_stops)])
 
 
 BOTH, OF_TIMES, OF_ACCESS = "both", "times", "access"  # why an origin is listed
 
 
 @dataclass(frozen=True)
-class Choice:
+class OriginChoice:
     """Which lines a table has, and in which order."""
 
     sort: str | None = None  # losers first, and then winners, each by the size of the change
@@ -35,7 +35,9 @@ class Choice:
     least: int = 1  # by which access differs
 
 
-def write_pairs(out: BinaryIO, pair: Pair, changes: Changes, stops: Stops | None, choice: Choice = Choice()) -> None:
+def write_pairs(
+    out: BinaryIO, pair: Pair, changes: Changes, stops: Stops | None, choice: OriginChoice = OriginChoice()
+) -> None:
     """A line for each pair that differs, losers first."""
     named = [b"origin", *([b"origin_name"] if stops else []), b"destination", *([b"destination_name"] if stops else [])]
     out.write(b",".join([*named, b"what", b"before", b"after", b"change"]) + b"\n")
@@ -52,7 +54,7 @@ def write_pairs(out: BinaryIO, pair: Pair, changes: Changes, stops: Stops | None
         out.write(joined([*ends, *numbers], len(chosen)))
 
 
-def chosen_origins(first: Sums, second: Sums, counts: npt.NDArray[np.int64], choice: Choice) -> list[int]:
+def chosen_origins(first: Sums, second: Sums, counts: npt.NDArray[np.int64], choice: OriginChoice) -> list[int]:
     """The origins that are listed, by a pair that differs, by their access, or by either, in their order."""
     change = second - first
     order = order_of_origins(change, counts)
@@ -60,8 +62,8 @@ def chosen_origins(first: Sums, second: Sums, counts: npt.NDArray[np.int64], cho
         order = sorted_origins(first, second, choice.sort)
     of_times, of_access = counts.any(axis=1), np.abs(change) >= choice.least
     wanted = {BOTH: of_times | of_access, OF_TIMES: of_times, OF_ACCESS: of_access}[choice.listed]
-    made: list[int] = order[wanted[order]][: choice.top].tolist()
-    return made
+    origins: list[int] = order[wanted[order]][: choice.top].tolist()
+    return origins
 
 
 def write_origins(
@@ -70,7 +72,7 @@ def write_origins(
     place: int,
     comparison: Comparison,
     stops: Stops | None,
-    choice: Choice = Choice(),
+    choice: OriginChoice = OriginChoice(),
 ) -> None:
     """A line for each origin with a pair that differs or with other access, losers first."""
     first, second = pair.access(place)
@@ -90,16 +92,16 @@ def summary(pair: Pair, comparison: Comparison, limit: float, place: int | None,
     pairs = len(pair.origins) * len(pair.matrix.stops)
     totals = comparison.counts.sum(axis=0)
     counts = ", ".join(f"{count:,} {kind}" for kind, count in zip(KINDS, totals.tolist()))
-    names, end = f"{shown(pair.other)} compared with {shown(pair.base)}", pair.matrix.told_greatest
-    told = [f"{names}: of {pairs:,} pairs {counts} (by more than {limit:g} seconds{'; ' * bool(end)}{end})"]
+    names, end = f"{shown(pair.other)} compared with {shown(pair.base)}", pair.matrix.greatest_stated
+    sentences = [f"{names}: of {pairs:,} pairs {counts} (by more than {limit:g} seconds{'; ' * bool(end)}{end})"]
     if place is not None:
         first, second = pair.access(place)
         change = second - first
-        told.append(
-            f"access: of {len(change):,} origins {sides_of(first, second, least).told()}"
+        sentences.append(
+            f"access: of {len(change):,} origins {sides_of(first, second, least).sentence()}"
             f"{by_how_much(least)}; in all {int(change.sum()):+,}"
         )
-    return told
+    return sentences
 
 
 def by_how_much(least: int) -> str:

@@ -41,7 +41,7 @@ Points = npt.NDArray[np.float64]  # kilometres east and north, NaN where a stop 
 
 
 @dataclass(frozen=True)
-class Lines:
+class MapLines:
     """Pieces of lines, and how they are drawn and named."""
 
     pieces: Pieces
@@ -51,26 +51,26 @@ class Lines:
     style: str | tuple[int, tuple[float, float]] = "solid"
 
 
-def running(pieces: Pieces) -> Lines:
+def running(pieces: Pieces) -> MapLines:
     """The lines on which vehicles run."""
-    return Lines(pieces, "where vehicles run", FAINT, 0.9 if len(pieces) < MANY_LINES else 0.5)
+    return MapLines(pieces, "where vehicles run", FAINT, 0.9 if len(pieces) < MANY_LINES else 0.5)
 
 
-def taken_out(pieces: Pieces) -> Lines:
-    return Lines(pieces, "trips that are taken out", "#222222", 2.0)
+def taken_out(pieces: Pieces) -> MapLines:
+    return MapLines(pieces, "trips that are taken out", "#222222", 2.0)
 
 
-def changed(pieces: Pieces) -> Lines:
+def changed(pieces: Pieces) -> MapLines:
     """Where trips give way to others."""
-    return Lines(pieces, "trips that are changed", "#882255", 1.6)
+    return MapLines(pieces, "trips that are changed", "#882255", 1.6)
 
 
-def added(pieces: Pieces) -> Lines:
-    return Lines(pieces, "trips that are added", "#117733", 2.4, (0, (4, 1.5)))
+def added(pieces: Pieces) -> MapLines:
+    return MapLines(pieces, "trips that are added", "#117733", 2.4, (0, (4, 1.5)))
 
 
 @text_alone
-def draw(picture: Picture, stops: Stops, lines: Sequence[Lines], note: str, width: int = 1350) -> Figure:
+def draw(picture: Picture, stops: Stops, lines: Sequence[MapLines], note: str, width: int = 1350) -> Figure:
     """The picture of these stops, which are those of the matrix, as a figure of so many pixels across."""
     projection = Projection(stops.latitudes, stops.longitudes)
     points = np.stack([projection.east(stops.longitudes), projection.north(stops.latitudes)], axis=1)
@@ -98,10 +98,10 @@ def over_squares(colour: str) -> str:
 
 def write_head(figure: Figure, picture: Picture) -> None:
     """Writes what stands above a map."""
-    top, title, told = figure.get_figheight(), shortened(picture.title, 84), shortened(picture.told, 136)
+    top, title, subtitle = figure.get_figheight(), shortened(picture.title, 84), shortened(picture.subtitle, 136)
     plain: dict[str, Any] = {"va": "top", "parse_math": False}
     figure.text(EDGE / INCHES, 1 - 0.2 / top, title, fontsize=14.5, fontweight="bold", **plain)
-    figure.text(EDGE / INCHES, 1 - 0.52 / top, told, fontsize=9.5, color="#333333", **plain)
+    figure.text(EDGE / INCHES, 1 - 0.52 / top, subtitle, fontsize=9.5, color="#333333", **plain)
 
 
 def write_notes(figure: Figure, picture: Picture, note: str) -> None:
@@ -145,7 +145,7 @@ def wrapped(text: str, most: int) -> str:
     return "\n".join(textwrap.fill(line, most) for line in text.split("\n"))
 
 
-def draw_lines(axes: Any, lines: Lines, order: float) -> None:
+def draw_lines(axes: Any, lines: MapLines, order: float) -> None:
     ends = lines.pieces.reshape(-1, 2, 2) * GRID
     cap = {"capstyle": "round"} if lines.style == "solid" else {}
     how: dict[str, Any] = {"colors": lines.colour, "linewidths": lines.width, "linestyles": [lines.style], **cap}
@@ -164,10 +164,10 @@ def order_of_drawing(marks: Sequence[Mark]) -> list[int]:
 
 def drawn(picture: Picture, points: Points) -> npt.NDArray[np.bool_]:
     """Which stops are drawn as marks of their class: those with a place, but for the origin."""
-    made: npt.NDArray[np.bool_] = ~np.isnan(points[:, 0])
+    is_drawn: npt.NDArray[np.bool_] = ~np.isnan(points[:, 0])
     if picture.origin is not None:
-        made[picture.origin] = False
-    return made
+        is_drawn[picture.origin] = False
+    return is_drawn
 
 
 def colour_of(mark: Mark) -> str:
@@ -215,9 +215,9 @@ def draw_names(axes: Any, picture: Picture, stops: Stops, points: Points) -> Non
     for stop in [stop for stop in wished if not math.isnan(points[stop, 0])]:
         across = axes.transAxes.inverted().transform(axes.transData.transform(points[stop]))[0]
         how = {**LETTERS, "ha": "left" if across < 0.12 else "right" if across > 0.88 else "center"}
-        told = shortened(stops.names[stop], 32)
+        label = shortened(stops.names[stop], 32)
         plain = {"xytext": (0, 9), "textcoords": "offset points", "parse_math": False, "fontweight": "bold"}
-        name = axes.annotate(told, points[stop], **plain, **how)
+        name = axes.annotate(label, points[stop], **plain, **how)
         box = name.get_window_extent(axes.figure.canvas.get_renderer())
         if len(taken) == MOST_NAMES or any(box.overlaps(other) for other in taken):
             name.remove()
@@ -234,15 +234,15 @@ def draw_scale(axes: Any) -> None:
     length, x, y = metres / 1000, left + 15 * point, bottom + 17 * point
     ends = ([x, x, x + length, x + length], [y + 4 * point, y, y, y + 4 * point])
     axes.plot(*ends, color="#222222", linewidth=1.6, zorder=6)
-    told = f"{metres // 1000} km" if metres >= 1000 else f"{metres} m"
-    axes.text(x + length / 2, y + 6 * point, told, va="bottom", **LETTERS)
+    label = f"{metres // 1000} km" if metres >= 1000 else f"{metres} m"
+    axes.text(x + length / 2, y + 6 * point, label, va="bottom", **LETTERS)
     arrow = {"arrowstyle": "-|>", "color": "#222222"}
     place = (x + length + 30 * point, y + 22 * point)
     axes.annotate("N", place, (0, -24), textcoords="offset points", arrowprops=arrow, **LETTERS)
 
 
 def draw_key(
-    figure: Figure, corner: tuple[float, float], picture: Picture, points: Points, lines: Sequence[Lines]
+    figure: Figure, corner: tuple[float, float], picture: Picture, points: Points, lines: Sequence[MapLines]
 ) -> None:
     """The classes with how many stops each has; one without stops is left out."""
     counts = np.bincount(picture.classes[drawn(picture, points)], minlength=len(picture.marks)).tolist()

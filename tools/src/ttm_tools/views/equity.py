@@ -7,7 +7,8 @@ import numpy as np
 
 from ..faults import BadInput, some
 from ..gtfs.fields import Floats
-from ..measures.access_table import AccessTable, Kind
+from ..measures.access_table import AccessTable, AccessKind
+from ..measures.columns import header
 from ..measures.equity import TENTHS, Equity, changes_by_tenth, equity, lorenz
 from ..measures.nearness import Nearness, nearness
 from ..measures.opportunities import Counts
@@ -15,89 +16,91 @@ from ..records import shown
 from .tables import write_table
 from .texts import text_alone
 
-HEADS = ["opportunity", "percentile", "cutoff", "group", "scenario", "people", "mean", "median", "losers_percent"]
-MEASURES = ["gini", "palma", "least_tenth", "least_tenth_change"]
-OF_TIMES = ["people", "reached_percent", "mean_minutes", "median_minutes", "nine_tenths_minutes", "losers_percent"]
+HEADS = ["opportunity", "percentile", "cutoff", "group", "scenario"]
 COLOURS = ("#000000", "#0072b2", "#d55e00", "#009e73", "#cc79a7", "#e69f00", "#56b4e9")  # after Okabe and Ito
 INCHES, HIGH = (10.0, 4.8), 0.72
 
 
 @dataclass(frozen=True)
-class Asked:
+class EquityOptions:
     """What is measured of a table of access."""
 
     base: str
     percent: float  # of the base's access, from which on somebody loses
-    kinds: list[Kind]
+    kinds: list[AccessKind]
 
 
 def chosen_kinds(
     table: AccessTable, opportunity: str | None, percentile: float | None, cutoff: float | None
-) -> list[Kind]:
-    """The kinds that are asked for; there is one, or it is told what there is."""
+) -> list[AccessKind]:
+    """The kinds that are asked for; there is one, or it is reported what there is."""
     numbers = {"percentile": percentile, "cutoff": cutoff}
-    made = [
+    kinds = [
         kind
         for kind in table.kinds
         if opportunity in (None, kind.opportunity)
-        and all(asked is None or is_number(getattr(kind, name), asked) for name, asked in numbers.items())
+        and all(number is None or is_number(getattr(kind, name), number) for name, number in numbers.items())
     ]
-    if not made:
-        raise BadInput(table.path, f"nothing of the kind; it has {some([table.told(kind) for kind in table.kinds])}")
-    return made
+    if not kinds:
+        raise BadInput(
+            table.path, f"nothing of the kind; it has {some([table.label_of(kind) for kind in table.kinds])}"
+        )
+    return kinds
 
 
-def is_number(text: str, asked: float) -> bool:
+def is_number(text: str, number: float) -> bool:
     try:
-        return float(text) == asked
+        return float(text) == number
     except ValueError:
         return False
 
 
-def measured(table: AccessTable, people: Counts, asked: Asked) -> Iterator[tuple[Kind, str, str, Equity | Nearness]]:
+def measured(
+    table: AccessTable, people: Counts, options: EquityOptions
+) -> Iterator[tuple[AccessKind, str, str, Equity | Nearness]]:
     """The measures of each kind, group and scenario."""
-    base = table.scenario(asked.base)
+    base = table.scenario(options.base)
     measure: Callable[[Floats, Floats, Floats, float], Equity | Nearness] = equity
     if table.of_times:
         measure = nearness
-    for kind in asked.kinds:
+    for kind in options.kinds:
         numbers = table.numbers[:, table.kinds.index(kind)]
         for group in people.names:
             weights = people.named(group)
             if not weights.any():
                 raise BadInput(table.path, f"nobody of the group {shown(group)} lives at its origins")
             for place, scenario in enumerate(table.scenarios):
-                yield kind, group, scenario, measure(numbers[base], numbers[place], weights, asked.percent)
+                yield kind, group, scenario, measure(numbers[base], numbers[place], weights, options.percent)
 
 
-def told(number: float) -> str:
+def significant(number: float) -> str:
     """A number to four decimals at most; nothing for NaN."""
     return "" if np.isnan(number) else f"{number:.4f}".rstrip("0").rstrip(".")
 
 
-def rows_of(lines: Iterable[tuple[Kind, str, str, Equity | Nearness]]) -> list[list[str]]:
+def rows_of(lines: Iterable[tuple[AccessKind, str, str, Equity | Nearness]]) -> list[list[str]]:
     """The header, and a row for each kind, group and scenario."""
     found = list(lines)
-    header = [*HEADS, *MEASURES]
+    names = [*HEADS, *header(Equity)]
     if any(isinstance(of, Nearness) for *_, of in found):
-        header = [*HEADS[:2], "nearest", *HEADS[3:5], *OF_TIMES]
-    made = [[*astuple(kind), group, scenario, *map(told, astuple(of))] for kind, group, scenario, of in found]
-    return [header, *made]
+        names = [*HEADS[:2], "nearest", *HEADS[3:], *header(Nearness)]
+    rows = [[*astuple(kind), group, scenario, *map(significant, astuple(of))] for kind, group, scenario, of in found]
+    return [names, *rows]
 
 
-def write_equity(out: BinaryIO, lines: Iterator[tuple[Kind, str, str, Equity | Nearness]], form: str) -> None:
+def write_equity(out: BinaryIO, lines: Iterator[tuple[AccessKind, str, str, Equity | Nearness]], form: str) -> None:
     """Writes a line for each kind, group and scenario."""
-    header, *rows = rows_of(lines)
-    write_table(out, header, rows, form)
+    names, *rows = rows_of(lines)
+    write_table(out, names, rows, form)
 
 
 @text_alone
-def figure_of(table: AccessTable, people: Counts, asked: Asked) -> Any:
+def figure_of(table: AccessTable, people: Counts, options: EquityOptions) -> Any:
     """The picture of one kind and one group."""
     if table.of_times:
         raise BadInput(table.path, "of times to the nearest ttm-tools bands draws a picture")
-    if len(asked.kinds) > 1:
-        there = some([kind.told for kind in asked.kinds])
+    if len(options.kinds) > 1:
+        there = some([kind.label for kind in options.kinds])
         names = "--opportunity, --percentile and --cutoff"
         raise BadInput(table.path, f"a picture shows one of {there}: name it by {names}")
     if len(people.names) > 1:
@@ -105,11 +108,11 @@ def figure_of(table: AccessTable, people: Counts, asked: Asked) -> Any:
     from matplotlib.backends.backend_agg import FigureCanvasAgg
     from matplotlib.figure import Figure
 
-    kind, weights = asked.kinds[0], people.numbers[:, 0]
-    numbers, base = table.numbers[:, table.kinds.index(kind)], table.scenario(asked.base)
+    kind, weights = options.kinds[0], people.numbers[:, 0]
+    numbers, base = table.numbers[:, table.kinds.index(kind)], table.scenario(options.base)
     figure = Figure(figsize=INCHES, dpi=135, facecolor="white")
     FigureCanvasAgg(figure)
-    title = f"How access is spread: {kind.told}; people: {shown(people.names[0])}"
+    title = f"How access is spread: {kind.label}; people: {shown(people.names[0])}"
     figure.text(0.02, 0.96, title, fontsize=13, fontweight="bold", va="top", parse_math=False)
     draw_lorenz(figure.add_axes((0.07, 0.13, 0.4, HIGH)), table.scenarios, numbers, weights)
     others = [place for place in range(len(table.scenarios)) if place != base]

@@ -35,11 +35,14 @@ class Features:
     columns: dict[str, Any]  # arrays of numbers
 
     def properties(self, place: int) -> dict[str, Any]:
-        """What is told of one stop."""
-        told: dict[str, Any] = {"stop_id": shown(self.stops.identifiers[place]), "stop_name": self.stops.names[place]}
+        """What is reported of one stop."""
+        properties: dict[str, Any] = {
+            "stop_id": shown(self.stops.identifiers[place]),
+            "stop_name": self.stops.names[place],
+        }
         for name, numbers in self.columns.items():
-            told[name] = None if math.isnan(numbers[place]) else int(numbers[place])
-        return told
+            properties[name] = None if math.isnan(numbers[place]) else int(numbers[place])
+        return properties
 
 
 def named(scenario: str, share: Share, what: str) -> str:
@@ -123,14 +126,14 @@ def write_geopackage(path: str, features: Features) -> None:
 
 def write_layer(path: str, frame: Any, layer: str) -> None:
     """Writes a frame of geopandas as a GeoPackage, which gets its name when it is whole."""
-    with written_aside(path) as made, as_one_line(path, "not written"):
-        frame.to_file(made, driver="GPKG", layer=layer)
-        refuse_part(made, path, layer, len(frame))
+    with written_aside(path) as aside, as_one_line(path, "not written"):
+        frame.to_file(aside, driver="GPKG", layer=layer)
+        refuse_part(aside, path, layer, len(frame))
 
 
-def refuse_part(made: Path, path: str, layer: str, count: int) -> None:
-    """Tells a GeoPackage that isn't whole, as one on a full disk, which its library writes without a word."""
-    with contextlib.closing(sqlite3.connect(f"file:{quote(str(made))}?mode=ro", uri=True)) as base:
+def refuse_part(written: Path, path: str, layer: str, count: int) -> None:
+    """Refuses a GeoPackage that isn't whole, as one on a full disk, which its library writes without a word."""
+    with contextlib.closing(sqlite3.connect(f"file:{quote(str(written))}?mode=ro", uri=True)) as base:
         (state,) = base.execute("PRAGMA integrity_check").fetchone()
         (there,) = base.execute(f"SELECT COUNT(*) FROM {layer}").fetchone()
     if state != "ok" or there != count:

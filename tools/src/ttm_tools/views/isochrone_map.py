@@ -13,7 +13,7 @@ from matplotlib.path import Path
 from ..gtfs.fields import Floats
 from ..gtfs.stops import Stops
 from . import drawing
-from .isochrones import Ground
+from .isochrones import AreaGround
 from .pictures import Mark, Picture, shades
 from .texts import text_alone
 
@@ -21,7 +21,7 @@ BANDS = (15.0, 30.0, 45.0, 60.0)  # minutes
 
 
 @dataclass(frozen=True)
-class Band:
+class IsochroneBand:
     """What is reached within some minutes."""
 
     minutes: float
@@ -32,16 +32,18 @@ class Band:
         return f"up to {self.minutes:g} minutes: {self.shape.area:,.1f} km²"
 
 
-def bands_of(ground: Ground, seconds: Floats, walking: Any, minutes: Sequence[float]) -> list[Band]:
+def bands_of(ground: AreaGround, seconds: Floats, walking: Any, minutes: Sequence[float]) -> list[IsochroneBand]:
     """The bands from the narrowest to the widest; seconds are the travel times to the places of the ground."""
-    return [Band(it, ground.shape_within(seconds, 60 * it, walking)) for it in minutes]
+    return [IsochroneBand(limit, ground.shape_within(seconds, 60 * limit, walking)) for limit in minutes]
 
 
 def path_of(shape: Any) -> Path | None:
     """A shape as a path, whose holes stay empty; nothing for none."""
     from shapely.geometry.polygon import orient
 
-    parts = [orient(it) for it in getattr(shape, "geoms", [shape]) if it.geom_type == "Polygon" and not it.is_empty]
+    parts = [
+        orient(part) for part in getattr(shape, "geoms", [shape]) if part.geom_type == "Polygon" and not part.is_empty
+    ]
     rings = [np.asarray(ring.coords) for part in parts for ring in (part.exterior, *part.interiors)]
     if not rings:
         return None
@@ -53,10 +55,10 @@ def path_of(shape: Any) -> Path | None:
 def draw_bands(
     picture: Picture,
     stops: Stops,
-    lines: Sequence[drawing.Lines],
+    lines: Sequence[drawing.MapLines],
     note: str,
     width: int,
-    drawn: tuple[Ground, list[Band]],
+    drawn: tuple[AreaGround, list[IsochroneBand]],
 ) -> Figure:
     """The map of bands, the widest below the others; stops are those of the ground."""
     ground, bands = drawn
@@ -76,7 +78,7 @@ def draw_bands(
     place = axes.get_position()
     key = [Patch(facecolor=colour, label=band.label) for band, colour in zip(bands, colours)]
     key.append(Line2D([], [], label="origin", linestyle="none", markersize=15, markeredgecolor="white", **drawing.STAR))
-    key += [Line2D([], [], color=it.colour, linewidth=2.0, linestyle=it.style, label=it.label) for it in lines]
+    key += [Line2D([], [], color=line.colour, linewidth=2.0, linestyle=line.style, label=line.label) for line in lines]
     drawing.write_key(figure, (place.x1 + drawing.EDGE / drawing.INCHES, place.y1), key, picture.key)
     drawing.write_notes(figure, picture, note)
     return figure

@@ -40,8 +40,8 @@ class Walking:
 
     def radii(self, left: Floats) -> Floats:
         """How far one comes as the crow flies in the seconds that are left, in kilometres."""
-        made: Floats = np.minimum(left, self.most) * self.speed / self.detour / 1000
-        return made
+        kilometres: Floats = np.minimum(left, self.most) * self.speed / self.detour / 1000
+        return kilometres
 
 
 @dataclass(frozen=True)
@@ -58,7 +58,7 @@ class Isochrone:
 
 
 @dataclass(frozen=True)
-class Ground:
+class AreaGround:
     """Where the stops or points of a matrix lie, and which of them have a shape of their own; all in kilometres."""
 
     projection: Projection
@@ -102,12 +102,12 @@ class Ground:
             latitude = np.asarray(north) / self.projection.degree + self.projection.latitude
             return np.round((longitude + 180) % 360 - 180, DECIMALS), np.round(latitude, DECIMALS)
 
-        made = make_valid(transform(degrees, shape)) if not shape.is_empty else shape
-        parts = getattr(made, "geoms", [made])
+        area = make_valid(transform(degrees, shape)) if not shape.is_empty else shape
+        parts = getattr(area, "geoms", [area])
         return MultiPolygon([orient(part) for part in parts if part.geom_type == "Polygon" and not part.is_empty])
 
 
-def ground_of(stops: Stops, polygons: Mapping[str, Any]) -> Ground:
+def ground_of(stops: Stops, polygons: Mapping[str, Any]) -> AreaGround:
     """Where these stops lie: each with its polygon, else its square, else none."""
     from shapely.geometry import box
     from shapely.ops import transform
@@ -127,10 +127,10 @@ def ground_of(stops: Stops, polygons: Mapping[str, Any]) -> Ground:
 
     for identifier in polygons.keys() & stops.places.keys():
         shapes[stops.places[identifier]] = transform(kilometres, polygons[identifier])
-    return Ground(projection, east, north, shapes, stops.placed)
+    return AreaGround(projection, east, north, shapes, stops.placed)
 
 
-def along_streets(ground: Ground, stops: Stops, streets: str, walking: Walking, near: float) -> Ground:
+def along_streets(ground: AreaGround, stops: Stops, streets: str, walking: Walking, near: float) -> AreaGround:
     """The same ground, from whose stops one walks along the streets of a file."""
     bare = [place for place in np.flatnonzero(ground.placed).tolist() if ground.shapes[place] is None]
     pace = Pace(walking.most, walking.speed, walking.detour)
@@ -160,22 +160,22 @@ class Bands:
     walking: Walking
 
 
-def isochrones_of(matrix: Matrix, ground: Ground, bands: Bands, counts: Counts | None) -> list[Isochrone]:
+def isochrones_of(matrix: Matrix, ground: AreaGround, bands: Bands, counts: Counts | None) -> list[Isochrone]:
     """The isochrones of each scenario, share and band, in this order; ground and counts are of the matrix's stops."""
-    made = []
+    areas = []
     for scenario in bands.scenarios:
         for share in bands.shares:
             seconds = matrix.seconds(scenario, share, bands.origin).astype(np.float64)
             for minutes in bands.minutes:
                 limit = minutes * 60
                 shape, near = ground.shape_within(seconds, limit, bands.walking), seconds <= limit
-                there = {} if counts is None else {it: float(counts.named(it)[near].sum()) for it in counts.names}
-                made.append(
+                there = {} if counts is None else {name: float(counts.named(name)[near].sum()) for name in counts.names}
+                areas.append(
                     Isochrone(
                         scenario, share, minutes, ground.in_degrees(shape), float(shape.area), int(near.sum()), there
                     )
                 )
-    return made
+    return areas
 
 
 def properties_of(isochrone: Isochrone, origin: str) -> dict[str, Any]:
@@ -197,7 +197,7 @@ def write_geojson(out: BinaryIO, isochrones: Sequence[Isochrone], origin: str) -
     from shapely.geometry import mapping
 
     out.write(b'{"type": "FeatureCollection", "features": [')
-    for number, isochrone in enumerate(sorted(isochrones, key=lambda it: -it.minutes)):
+    for number, isochrone in enumerate(sorted(isochrones, key=lambda area: -area.minutes)):
         feature = {"type": "Feature", "geometry": mapping(isochrone.shape)}
         feature["properties"] = properties_of(isochrone, origin)
         out.write((",\n" if number else "\n").encode() + json.dumps(feature, ensure_ascii=False).encode("utf-8"))
@@ -209,7 +209,7 @@ def write_geopackage(path: str, isochrones: Sequence[Isochrone], origin: str) ->
     needs("geopandas")
     import geopandas
 
-    ordered = sorted(isochrones, key=lambda it: -it.minutes)
+    ordered = sorted(isochrones, key=lambda area: -area.minutes)
     rows = [properties_of(isochrone, origin) for isochrone in ordered]
-    frame = geopandas.GeoDataFrame(rows, geometry=[it.shape for it in ordered], crs="EPSG:4326")
+    frame = geopandas.GeoDataFrame(rows, geometry=[area.shape for area in ordered], crs="EPSG:4326")
     write_layer(path, frame, LAYER)

@@ -12,7 +12,7 @@ MORE = ["ride_seconds", "change_seconds", "walk_seconds", "egress_seconds", "rid
 
 
 @dataclass
-class Parts:
+class JourneyParts:
     """The parts of a journey's travel time, in seconds, which add up to it."""
 
     access: int = 0  # the walk before the first ride, or all of a journey on foot
@@ -23,38 +23,39 @@ class Parts:
     egress: int = 0  # behind the last ride
 
 
-def parts_of(legs: Sequence[Leg], departure: int) -> Parts:
+def parts_of(legs: Sequence[Leg], departure: int) -> JourneyParts:
     """The parts of a journey that sets out at a time."""
-    made, time, rides = Parts(), departure, [place for place, leg in enumerate(legs) if leg.run is not None]
+    parts, time, rides = JourneyParts(), departure, [place for place, leg in enumerate(legs) if leg.run is not None]
     for place, leg in enumerate(legs):
         seconds = leg.finish - leg.begin
         if leg.run is not None:
-            made.change += leg.change
-            made.wait += leg.begin - time - leg.change
-            made.ride += seconds
+            parts.change += leg.change
+            parts.wait += leg.begin - time - leg.change
+            parts.ride += seconds
         elif not rides or place < rides[0]:
-            made.access += seconds
+            parts.access += seconds
         elif place > rides[-1]:
-            made.egress += seconds
+            parts.egress += seconds
         else:
-            made.walk += seconds
+            parts.walk += seconds
         time = leg.finish
-    return made
+    return parts
 
 
-def lines_of(asked: ExplainOptions, found: Sequence[Found]) -> Iterator[list[object]]:
+def lines_of(options: ExplainOptions, found: Sequence[Found]) -> Iterator[list[object]]:
     """The lines of a pair, one for each scenario; without parts where too few departures get there."""
-    stops = [asked.timetable.stops[place] for place in (asked.origin, asked.destination)]
+    stops = [options.timetable.stops[place] for place in (options.origin, options.destination)]
     for of in found:
-        head: list[object] = [of.name, *stops, asked.share]
+        head: list[object] = [of.name, *stops, options.share]
         if of.cell is None or of.chosen is None:
             yield [*head, *[""] * (len(HEADS) + len(MORE) - len(head))]
             continue
-        departure = asked.departures[of.chosen]
-        it = parts_of(of.legs, departure)
+        departure = options.departures[of.chosen]
+        of_legs = parts_of(of.legs, departure)
         trips = [int(of.runs.trip[leg.run]) for leg in of.legs if leg.run is not None]
-        parts = [it.access, it.wait, it.ride, it.change, it.walk, it.egress]
+        parts = [of_legs.access, of_legs.wait, of_legs.ride, of_legs.change, of_legs.walk, of_legs.egress]
         names = [
-            " ".join(shown(names[trip]) for trip in trips) for names in (asked.timetable.routes, asked.timetable.trips)
+            " ".join(shown(names[trip]) for trip in trips)
+            for names in (options.timetable.routes, options.timetable.trips)
         ]
-        yield [*head, of.cell, asked.clock(departure), *parts, len(trips), *names]
+        yield [*head, of.cell, options.clock(departure), *parts, len(trips), *names]

@@ -34,13 +34,13 @@ class ExplainOptions:
     departures: list[int]  # seconds on the axis
     back: int  # days before the date, with which the axis begins
     share: int  # percent
-    words: str  # what else was asked for
+    arguments: str  # what else was asked for
 
     def clock(self, seconds: int) -> str:
         """A time on the axis, by the clock of the date."""
-        made = seconds - DAY * self.back
-        sign, made = ("-", -made) if made < 0 else ("", made)
-        return f"{sign}{made // 3600:02}:{made // 60 % 60:02}:{made % 60:02}"
+        seconds_of_day = seconds - DAY * self.back
+        sign, seconds_of_day = ("-", -seconds_of_day) if seconds_of_day < 0 else ("", seconds_of_day)
+        return f"{sign}{seconds_of_day // 3600:02}:{seconds_of_day // 60 % 60:02}:{seconds_of_day % 60:02}"
 
     def stop(self, place: int) -> str:
         return self.timetable.all_stops.name_of(self.timetable.stops[place])
@@ -53,27 +53,27 @@ def span(seconds: int) -> str:
 
 def names_of_routes(folder: str) -> dict[str, str]:
     """What people call each route: its short name, or its long one, and its identifier where it is another."""
-    made = {}
+    names = {}
     for _, (route, short, long) in rows(
         in_folder(folder, "routes.txt"), ["route_id"], ["route_short_name", "route_long_name"]
     ):
-        name, told = shown(short.strip() or long.strip() or route), shown(route)
-        made[route] = name if name == told else f"{name} ({told})"
-    return made
+        name, identifier = shown(short.strip() or long.strip() or route), shown(route)
+        names[route] = name if name == identifier else f"{name} ({identifier})"
+    return names
 
 
-def text_of(asked: ExplainOptions, found: Sequence[Found]) -> Iterator[str]:
+def text_of(options: ExplainOptions, found: Sequence[Found]) -> Iterator[str]:
     """The lines of it all."""
-    ends = f"From {asked.stop(asked.origin)} to {asked.stop(asked.destination)}"
-    yield f"{ends}: the travel time that {asked.share} % of {len(asked.departures):,} departures attain"
-    yield asked.words
+    ends = f"From {options.stop(options.origin)} to {options.stop(options.destination)}"
+    yield f"{ends}: the travel time that {options.share} % of {len(options.departures):,} departures attain"
+    yield options.arguments
     yield "By a second search, in Python, which isn't proved."
     yield ""
-    folder = asked.timetable.folder
+    folder = options.timetable.folder
     names = names_of_routes(folder) if has_file(folder, "routes.txt") else {}
-    yield from side_by_side([list(lines_of(asked, of, names)) for of in found])
+    yield from side_by_side([list(lines_of(options, of, names)) for of in found])
     yield ""
-    yield from departures_told(asked, found)
+    yield from departure_lines(options, found)
 
 
 def side_by_side(columns: Sequence[Sequence[str]]) -> Iterator[str]:
@@ -83,21 +83,21 @@ def side_by_side(columns: Sequence[Sequence[str]]) -> Iterator[str]:
         yield GAP.join(text.ljust(width) for text, width in zip(line, widths)).rstrip()
 
 
-def lines_of(asked: ExplainOptions, found: Found, names: dict[str, str]) -> Iterator[str]:
+def lines_of(options: ExplainOptions, found: Found, names: dict[str, str]) -> Iterator[str]:
     """A journey, leg by leg."""
     if found.cell is None or found.chosen is None:
         yield f"{shown(found.name)}: not reached"
         return
     yield f"{shown(found.name)}: {found.cell} seconds"
-    time, at = asked.departures[found.chosen], asked.origin
-    yield f"{asked.clock(time)} {asked.stop(at)}"
+    time, at = options.departures[found.chosen], options.origin
+    yield f"{options.clock(time)} {options.stop(at)}"
     for leg in found.legs:
-        yield from leg_told(asked, found, names, leg, time)
+        yield from leg_lines(options, found, names, leg, time)
         time, at = leg.finish, leg.end
-        yield f"{asked.clock(time)} {asked.stop(at)}"
+        yield f"{options.clock(time)} {options.stop(at)}"
 
 
-def leg_told(asked: ExplainOptions, found: Found, names: dict[str, str], leg: Leg, time: int) -> Iterator[str]:
+def leg_lines(options: ExplainOptions, found: Found, names: dict[str, str], leg: Leg, time: int) -> Iterator[str]:
     if leg.run is None:
         yield f"  walk {span(leg.finish - leg.begin)}"
         return
@@ -105,21 +105,21 @@ def leg_told(asked: ExplainOptions, found: Found, names: dict[str, str], leg: Le
         yield f"  change {span(leg.change)}"
     if leg.begin > time + leg.change:
         yield f"  wait {span(leg.begin - time - leg.change)}"
-    trip = int(found.runs.trip[leg.run])
-    route = asked.timetable.routes[trip]
-    yield f"{asked.clock(leg.begin)} route {names.get(route, shown(route))}, trip {shown(asked.timetable.trips[trip])}"
+    trip, timetable = int(found.runs.trip[leg.run]), options.timetable
+    route = timetable.routes[trip]
+    yield f"{options.clock(leg.begin)} route {names.get(route, shown(route))}, trip {shown(timetable.trips[trip])}"
     yield f"  ride {span(leg.finish - leg.begin)}"
 
 
-def departures_told(asked: ExplainOptions, found: Sequence[Found]) -> Iterator[str]:
+def departure_lines(options: ExplainOptions, found: Sequence[Found]) -> Iterator[str]:
     """A line for each departure, with its durations; that of the journey above has a star."""
     table = [["departure", *[shown(of.name) for of in found]]]
-    for place, departure in enumerate(asked.departures):
+    for place, departure in enumerate(options.departures):
         cells = []
         for of in found:
             time = of.durations[place]
             cells.append(("-" if time is None else span(time)) + ("*" if place == of.chosen else " "))
-        table.append([asked.clock(departure)[:-3], *cells])
+        table.append([options.clock(departure)[:-3], *cells])
     widths = [max(map(len, column)) for column in zip(*table)]
     table[0][1:] = [f"{text} " for text in table[0][1:]]
     for line in table:

@@ -53,7 +53,7 @@ def changed_trips(removed: dict[str, set[str]], base: str | None) -> tuple[set[s
 
 def lines_of_edits(
     points: Points, folder: str, shaped: bool, edits: Sequence[str], base: str | None
-) -> list[drawing.Lines]:
+) -> list[drawing.MapLines]:
     """The lines of a feed, and over them those of the trips that scenario files take out and add."""
     lines = [drawing.running(pieces(points))]
     if not edits:
@@ -66,7 +66,7 @@ def lines_of_edits(
     return lines
 
 
-def lines_of_plan(points: Points, folder: str, shaped: bool, planned: Planned) -> list[drawing.Lines]:
+def lines_of_plan(points: Points, folder: str, shaped: bool, planned: Planned) -> list[drawing.MapLines]:
     """The lines of two scenarios of a plan, without those that others add; and over them what changes from today to the
     scenario.
     """
@@ -82,7 +82,7 @@ def of_trips(points: Points, trips: Trips, chosen: set[str], shaped: bool) -> Po
     return points.of_lines(trips.lines(chosen, shaped))
 
 
-def changes(gone: Pieces, new: Pieces, loses: bool) -> Iterator[drawing.Lines]:
+def changes(gone: Pieces, new: Pieces, loses: bool) -> Iterator[drawing.MapLines]:
     """What is changed, taken out, and added; where trips go and others come, they are changed."""
     both, lost, joined = new[within(new, gone)], gone[~within(gone, new)], new[~within(new, gone)]
     if len(both) and loses:

@@ -23,7 +23,7 @@ FORMULA = ("=", "+", "-", "@")  # with which spreadsheets begin one
 
 
 @dataclass(frozen=True)
-class Choice:
+class TableChoice:
     """What is taken of a matrix."""
 
     scenarios: list[str]
@@ -35,7 +35,7 @@ class Choice:
 
 
 @dataclass(frozen=True)
-class Piece:
+class TablePiece:
     """Some origins of a scenario with their travel times to the chosen stops, of each share in turn."""
 
     scenario: str
@@ -43,7 +43,7 @@ class Piece:
     seconds: list[Seconds]
 
 
-def pieces_of(matrix: Matrix, choice: Choice) -> Iterator[Piece]:
+def pieces_of(matrix: Matrix, choice: TableChoice) -> Iterator[TablePiece]:
     """The rows that are asked for, some at a time; of a scenario's origins each has all shares."""
     columns = np.array([matrix.places[name] for name in choice.destinations], dtype=np.intp)
     whole = len(columns) == len(matrix.stops) and bool((np.diff(columns) == 1).all())
@@ -54,10 +54,10 @@ def pieces_of(matrix: Matrix, choice: Choice) -> Iterator[Piece]:
         if choice.origins is not None:
             chosen = set(choice.origins)
             places = np.array([place for place, name in enumerate(names) if name in chosen], dtype=np.intp)
-        for begin in progress.told(range(0, len(places), step), -(-len(places) // step), shown(scenario), "blocks"):
+        for begin in progress.shown(range(0, len(places), step), -(-len(places) // step), shown(scenario), "blocks"):
             some = places[begin : begin + step]
             rows = [matrix.rows_at(scenario, share, some) for share in choice.shares]
-            yield Piece(
+            yield TablePiece(
                 scenario, [names[place] for place in some], rows if whole else [row[:, columns] for row in rows]
             )
 
@@ -73,39 +73,39 @@ def origins_of(matrix: Matrix, scenario: str, shares: Sequence[Share]) -> list[s
 
 
 @dataclass(frozen=True)
-class Ends:
-    """Identifiers as fields, and what a feed tells of them: name, latitude and longitude, as it stands behind a
+class PlaceFields:
+    """Identifiers as fields, and what a feed reports of them: name, latitude and longitude, as it stands behind a
     comma.
     """
 
     fields: Texts
-    told: Texts
+    places: Texts
 
 
-def ends_of(names: Sequence[str], stops: Stops | None) -> Ends:
+def ends_of(names: Sequence[str], stops: Stops | None) -> PlaceFields:
     if stops is None:
-        return Ends(fields_as_texts(names), texts_of([b""] * len(names)))
+        return PlaceFields(fields_as_texts(names), texts_of([b""] * len(names)))
     found = stops.of(names)
     places = zip(found.names, found.latitudes.tolist(), found.longitudes.tolist())
-    told = [
+    fields = [
         b",".join([b"", field(name), degrees(latitude), degrees(longitude)]) for name, latitude, longitude in places
     ]
-    return Ends(fields_as_texts(names), texts_of(told))
+    return PlaceFields(fields_as_texts(names), texts_of(fields))
 
 
 def degrees(number: float) -> bytes:
     return b"" if math.isnan(number) else b"%r" % number
 
 
-def header_of(matrix: Matrix, choice: Choice, stops: Stops | None) -> list[str]:
+def header_of(matrix: Matrix, choice: TableChoice, stops: Stops | None) -> list[str]:
     """The names of the columns of travel times."""
     if choice.r5py:
         names = [r5py_name(share, choice.shares) for share in choice.shares]
         head = ["from_id", "to_id", *names]
     else:
         head = ["scenario", *(["share"] if matrix.layout.names_share else []), "origin", "destination", "seconds"]
-    told = [f"{end}_{what}" for end in ("origin", "destination") for what in ("name", "lat", "lon")]
-    return head + (told if stops is not None else [])
+    columns = [f"{end}_{what}" for end in ("origin", "destination") for what in ("name", "lat", "lon")]
+    return head + (columns if stops is not None else [])
 
 
 def r5py_name(share: Share, shares: Sequence[Share]) -> str:
@@ -130,41 +130,41 @@ def safe(text: str) -> str:
     return f"'{text}" if text.startswith(FORMULA) else text
 
 
-def write_times(out: BinaryIO, matrix: Matrix, choice: Choice, stops: Stops | None) -> int:
+def write_times(out: BinaryIO, matrix: Matrix, choice: TableChoice, stops: Stops | None) -> int:
     """A line for each pair, each cell by reference to a text that is made once; how many lines there are."""
     out.write(b",".join(map(field, header_of(matrix, choice, stops))) + b"\n")
     count = 1
     ends = ends_of(choice.destinations, stops)
-    after = texts_of([told + b"\n" for told in ends.told])
+    after = texts_of([fields + b"\n" for fields in ends.places])
     numerals = Numerals(minutes if choice.r5py else b"%d".__mod__)
     for piece in pieces_of(matrix, choice):
         origins = ends_of(piece.origins, stops)
-        for row, (origin, told) in enumerate(zip(origins.fields, origins.told)):
+        for row, (origin, fields) in enumerate(zip(origins.fields, origins.places)):
             times = [seconds[row] for seconds in piece.seconds]
             if choice.r5py:
-                text = lines_of(origin + b",", times, [ends.fields, told, after], numerals, choice.reached)
+                text = lines_of(origin + b",", times, [ends.fields, fields, after], numerals, choice.reached)
                 count += text.count(b"\n")
                 out.write(text)
                 continue
             for share, seconds in zip(choice.shares, times):
                 named = b"" if share is None else b"%d," % share
                 head = field(piece.scenario) + b"," + named + origin + b","
-                text = lines_of(head, [seconds], [ends.fields, told, after], numerals, choice.reached)
+                text = lines_of(head, [seconds], [ends.fields, fields, after], numerals, choice.reached)
                 count += text.count(b"\n")
                 out.write(text)
     return count
 
 
 def lines_of(head: bytes, times: Sequence[Seconds], around: Sequence[Any], numerals: Numerals, reached: bool) -> bytes:
-    """The lines of one origin: its head, each destination, the travel times to it, and what is told of both ends."""
-    destinations, told, after = around
+    """The lines of one origin: its head, each destination, the travel times to it, and what is known of both ends."""
+    destinations, fields, after = around
     if reached:
         kept = np.flatnonzero(~np.isnan(times).all(axis=0))
         times, destinations, after = [seconds[kept] for seconds in times], destinations[kept], after[kept]
     numbers: list[bytes | Texts] = []
     for seconds in times:
         numbers += [b",", numerals.of(seconds)]
-    return joined([head, destinations, *numbers, told, after], len(destinations))
+    return joined([head, destinations, *numbers, fields, after], len(destinations))
 
 
 def access_header(matrix: Matrix, stops: Stops | None) -> list[str]:
@@ -174,7 +174,7 @@ def access_header(matrix: Matrix, stops: Stops | None) -> list[str]:
     return header + ([f"origin_{what}" for what in ("name", "lat", "lon")] if stops is not None else [])
 
 
-def write_access(out: BinaryIO, matrix: Matrix, choice: Choice, within: int | None, stops: Stops | None) -> None:
+def write_access(out: BinaryIO, matrix: Matrix, choice: TableChoice, within: int | None, stops: Stops | None) -> None:
     """A line for each origin, share and limit."""
     places = range(len(matrix.layout.limits)) if within is None else [matrix.limit(within)[0]]
     named = matrix.layout.names_share
@@ -190,10 +190,10 @@ def write_access(out: BinaryIO, matrix: Matrix, choice: Choice, within: int | No
                 for place in places:
                     limit = [matrix.layout.limits[place]] if named else []
                     line = [scenario, *([share] if named else []), names[row], *limit, access[row][place]]
-                    out.write(b",".join(map(field, line)) + ends.told[row] + b"\n")
+                    out.write(b",".join(map(field, line)) + ends.places[row] + b"\n")
 
 
-def frame_of(matrix: Matrix, choice: Choice, piece: Piece, stops: Stops | None) -> Any:
+def frame_of(matrix: Matrix, choice: TableChoice, piece: TablePiece, stops: Stops | None) -> Any:
     """The lines of a piece as a table of pandas, whose texts are codes."""
     import pandas
 
@@ -223,7 +223,7 @@ def frame_of(matrix: Matrix, choice: Choice, piece: Piece, stops: Stops | None) 
 
 
 def ends_in(
-    choice: Choice, piece: Piece, origin: npt.NDArray[np.intp], destination: npt.NDArray[np.intp]
+    choice: TableChoice, piece: TablePiece, origin: npt.NDArray[np.intp], destination: npt.NDArray[np.intp]
 ) -> list[tuple[str, npt.NDArray[np.intp], list[str]]]:
     names = ("from_id", "to_id") if choice.r5py else ("origin", "destination")
     return [(names[0], origin, piece.origins), (names[1], destination, choice.destinations)]
@@ -236,8 +236,8 @@ def columns_of_places(
     if stops is None:
         return {}
     found = stops.of(names)
-    told = np.array(found.names, dtype=object)[codes]
-    return {f"{end}_name": told, f"{end}_lat": found.latitudes[codes], f"{end}_lon": found.longitudes[codes]}
+    names_by_code = np.array(found.names, dtype=object)[codes]
+    return {f"{end}_name": names_by_code, f"{end}_lat": found.latitudes[codes], f"{end}_lon": found.longitudes[codes]}
 
 
 def write_parquet(path: str, frames: Iterator[Any]) -> None:
@@ -247,10 +247,10 @@ def write_parquet(path: str, frames: Iterator[Any]) -> None:
     except ImportError:
         write_by_fastparquet(path, frames)
         return
-    with written_aside(path) as made:
+    with written_aside(path) as aside:
         writer = None
         for table in (pyarrow.Table.from_pandas(frame, preserve_index=False) for frame in frames if len(frame)):
-            writer = writer or pyarrow.parquet.ParquetWriter(str(made), table.schema)
+            writer = writer or pyarrow.parquet.ParquetWriter(str(aside), table.schema)
             writer.write_table(table.cast(writer.schema))
         if writer is None:
             raise BadInput(path, "no rows to write")
@@ -261,14 +261,14 @@ def write_by_fastparquet(path: str, frames: Iterator[Any]) -> None:
     try:
         import fastparquet
     except ImportError:
-        told = "Parquet needs pyarrow or fastparquet, and neither is installed; a name that ends in .csv writes a CSV"
-        raise Lacking(f"{path}: {told}") from None
-    with written_aside(path) as made:
+        what = "Parquet needs pyarrow or fastparquet, and neither is installed; a name that ends in .csv writes a CSV"
+        raise Lacking(f"{path}: {what}") from None
+    with written_aside(path) as aside:
         for number, frame in enumerate(frame for frame in frames if len(frame)):
-            fastparquet.write(str(made), frame, append=number > 0)
-        if not made.exists():
+            fastparquet.write(str(aside), frame, append=number > 0)
+        if not aside.exists():
             raise BadInput(path, "no rows to write")
 
 
-def frames_of(matrix: Matrix, choice: Choice, stops: Stops | None) -> Iterator[Any]:
+def frames_of(matrix: Matrix, choice: TableChoice, stops: Stops | None) -> Iterator[Any]:
     return (frame_of(matrix, choice, piece, stops) for piece in pieces_of(matrix, choice))

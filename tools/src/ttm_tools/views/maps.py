@@ -12,17 +12,17 @@ from ..matrices import Matrix
 from ..records import shown
 from . import drawing
 from .isochrone_map import BANDS, bands_of, draw_bands
-from .isochrones import Ground, Walking
+from .isochrones import AreaGround, Walking
 from .lines import Planned, lines_of_edits, lines_of_plan
 from .nearest import Nearest, picture_of_nearest, picture_of_nearest_difference
 from .pictures import (
     Picture,
-    Wish,
+    PictureOptions,
     picture_of_access,
     picture_of_access_difference,
     picture_of_time_difference,
     picture_of_times,
-    source_told,
+    source_of,
 )
 
 
@@ -42,35 +42,35 @@ class Areas:
     """Isochrones that are drawn: from where, how one walks on, and the places of the matrix' stops."""
 
     origin: str
-    wish: Wish
-    ground: Ground
+    options: PictureOptions
+    ground: AreaGround
     walking: Walking
 
 
 def picture_of(
-    kind: str, matrix: Matrix, stops: Stops, origin: str | None, wish: Wish, what: Nearest | None = None
+    kind: str, matrix: Matrix, stops: Stops, origin: str | None, options: PictureOptions, what: Nearest | None = None
 ) -> Picture:
     """What is to be drawn: times, access, nearest, or difference, of the nearest where it is named."""
     if origin is not None and origin not in stops.places:
         raise BadInput(stops.path, f"no stop {origin}")
     if what is not None:
         is_one = kind == "nearest"
-        made = (
-            picture_of_nearest(matrix, wish, what)
+        picture = (
+            picture_of_nearest(matrix, options, what)
             if is_one
-            else (picture_of_nearest_difference(matrix, stops, wish, what))
+            else (picture_of_nearest_difference(matrix, stops, options, what))
         )
     elif kind == "access":
-        made = picture_of_access(matrix, stops, wish)
+        picture = picture_of_access(matrix, stops, options)
     elif origin is None:
-        made = picture_of_access_difference(matrix, stops, wish)
+        picture = picture_of_access_difference(matrix, stops, options)
     else:
-        made = (picture_of_times if kind == "times" else picture_of_time_difference)(matrix, stops, origin, wish)
-    return replace(made, what=wish.what)
+        picture = (picture_of_times if kind == "times" else picture_of_time_difference)(matrix, stops, origin, options)
+    return replace(picture, what=options.what)
 
 
 def figure_of(picture: Picture, matrix: Matrix, stops: Stops, folder: str, sheet: Sheet, base: str | None) -> Any:
-    """The figure of a picture over the lines of a feed; in a difference from a base lines that a scenario adds are told
+    """The figure of a picture over the lines of a feed; in a difference from a base, lines that a scenario adds differ
     from those that it takes out.
     """
     shown_stops = stops.of(picture.drawn or matrix.stops)
@@ -87,7 +87,7 @@ def figure_of(picture: Picture, matrix: Matrix, stops: Stops, folder: str, sheet
 
 def lines_below(
     folder: str, stops: Stops, projection: Projection, sheet: Sheet, base: str | None
-) -> tuple[list[drawing.Lines], str]:
+) -> tuple[list[drawing.MapLines], str]:
     """The lines on which vehicles run, and what is said of them."""
     points, shaped = lines_of(folder, stops, projection), has_file(folder, "shapes.txt")
     if sheet.planned is None:
@@ -100,16 +100,16 @@ def lines_below(
 
 def figure_of_isochrones(matrix: Matrix, stops: Stops, folder: str, sheet: Sheet, areas: Areas) -> Any:
     """The areas that are reached from an origin in a scenario, over the lines of a feed."""
-    there, share = stops.of(matrix.stops), matrix.share(areas.wish.share)
-    scenario = matrix.scenario(areas.wish.scenario or areas.wish.base)
+    there, share = stops.of(matrix.stops), matrix.share(areas.options.share)
+    scenario = matrix.scenario(areas.options.scenario or areas.options.base)
     seconds = matrix.seconds(scenario, share, areas.origin).astype(np.float64)
-    bands = bands_of(areas.ground, seconds, areas.walking, areas.wish.breaks or BANDS)
+    bands = bands_of(areas.ground, seconds, areas.walking, areas.options.breaks or BANDS)
     named = stops.of([areas.origin])
     title = sheet.title or f"Areas that are reached from {named.name_of(areas.origin)}"
-    told = f"{bands[-1].shape.area:,.1f} km² within {bands[-1].minutes:g} minutes"
+    subtitle = f"{bands[-1].shape.area:,.1f} km² within {bands[-1].minutes:g} minutes"
     place = there.places.get(areas.origin)
     picture = Picture(
-        title, told, "Reached within", [], np.zeros(0, np.intp), source_told(shown(scenario), share, matrix), place
+        title, subtitle, "Reached within", [], np.zeros(0, np.intp), source_of(shown(scenario), share, matrix), place
     )
     lines, note = lines_below(folder, stops, areas.ground.projection, sheet, None)
     return draw_bands(picture, there, lines, note, sheet.width, (areas.ground, bands))

@@ -18,16 +18,16 @@ from .pictures import (
     Classes,
     Mark,
     Picture,
-    Wish,
-    Words,
+    PictureOptions,
+    DifferenceLabels,
     beside,
     classes_of_difference,
     first_names,
     marks_of_difference,
     of_origins,
     shades,
-    source_told,
-    told_counts,
+    source_of,
+    counts_stated,
 )
 
 MOST_WORST = 40  # origins that lose most, from which names are taken
@@ -41,14 +41,14 @@ class Nearest:
     numbers: Floats  # by stop of the matrix
     count: float
 
-    def told(self) -> str:
+    def label(self) -> str:
         """As it stands in a title."""
         return f"nearest {shown(self.name)}" if self.count == 1 else f"{self.count:g} nearest {shown(self.name)}"
 
     def seconds(self, matrix: Matrix, scenario: str, share: Share) -> Floats:
         """The time to it from each origin, NaN where so many aren't reached."""
-        made: Floats = nearest(matrix, scenario, share, self.numbers[:, None], [self.count])[:, 0, 0]
-        return made
+        seconds: Floats = nearest(matrix, scenario, share, self.numbers[:, None], [self.count])[:, 0, 0]
+        return seconds
 
 
 def classes_of_minutes(seconds: Floats, breaks: tuple[float, ...]) -> tuple[list[Mark], Classes]:
@@ -60,37 +60,40 @@ def classes_of_minutes(seconds: Floats, breaks: tuple[float, ...]) -> tuple[list
     return marks, np.where(np.isnan(seconds), len(labels), grades)
 
 
-def picture_of_nearest(matrix: Matrix, wish: Wish, what: Nearest) -> Picture:
+def picture_of_nearest(matrix: Matrix, options: PictureOptions, what: Nearest) -> Picture:
     """The time from each origin to the nearest, in classes of minutes."""
-    scenario, share = matrix.scenario(wish.scenario or wish.base), matrix.share(wish.share)
+    scenario, share = matrix.scenario(options.scenario or options.base), matrix.share(options.share)
     seconds = what.seconds(matrix, scenario, share)
-    marks, classes = classes_of_minutes(seconds, wish.breaks or MINUTES)
+    marks, classes = classes_of_minutes(seconds, options.breaks or MINUTES)
     there, drawn = ~np.isnan(seconds), matrix.stops_and_origins()
-    told = f"From {there.sum():,} of {len(there):,} {wish.what} so many are reached"
+    subtitle = f"From {there.sum():,} of {len(there):,} {options.what} so many are reached"
     if there.any():
-        told += f", from half of these within {math.ceil(float(np.median(seconds[there])) / 60)} minutes"
+        subtitle += f", from half of these within {math.ceil(float(np.median(seconds[there])) / 60)} minutes"
     classes = of_origins(drawn, matrix.origins(scenario, share), classes, len(marks))
-    title, source = f"Travel time to the {what.told()}", source_told(shown(scenario), share, matrix)
+    title, source = f"Travel time to the {what.label()}", source_of(shown(scenario), share, matrix)
     key = "Travel time in minutes,\nwaiting included"
-    return Picture(title, told, key, [*marks, NO_ORIGIN], classes, source, drawn=drawn)
+    return Picture(title, subtitle, key, [*marks, NO_ORIGIN], classes, source, drawn=drawn)
 
 
-def picture_of_nearest_difference(matrix: Matrix, stops: Stops, wish: Wish, what: Nearest) -> Picture:
+def picture_of_nearest_difference(matrix: Matrix, stops: Stops, options: PictureOptions, what: Nearest) -> Picture:
     """The same in a scenario beside the base."""
-    pair = pair_of(matrix, wish.base, wish.scenario, wish.share)
+    pair = pair_of(matrix, options.base, options.scenario, options.share)
     before, after = what.seconds(matrix, pair.base, pair.share), what.seconds(matrix, pair.other, pair.share)
     before, after = before[pair.before], after[pair.after]
-    breaks, gone, new = wish.breaks or MINUTES_OF_DIFFERENCE, np.isnan(after), np.isnan(before)
-    words = Words("min", "slower", "faster", "cut off: not reached now", "new: not reached before")
-    marks = [*marks_of_difference(breaks, words), replace(NOT_REACHED, label="not reached in either"), NO_ORIGIN]
+    breaks, gone, new = options.breaks or MINUTES_OF_DIFFERENCE, np.isnan(after), np.isnan(before)
+    labels = DifferenceLabels("min", "slower", "faster", "cut off: not reached now", "new: not reached before")
+    marks = [*marks_of_difference(breaks, labels), replace(NOT_REACHED, label="not reached in either"), NO_ORIGIN]
     change = np.nan_to_num((before - after) / 60)
     classes = classes_of_difference(change, breaks)
     classes[gone & ~new], classes[new & ~gone], classes[new & gone] = 0, len(marks) - 3, len(marks) - 2
-    counts = told_counts(classes, breaks, ("are cut off", "slower", "faster", "newly reach it"))
+    counts = counts_stated(classes, breaks, ("are cut off", "slower", "faster", "newly reach it"))
     order = np.argsort(np.where(gone & ~new, -np.inf, change), kind="stable")[:MOST_WORST]
     worst = [pair.origins[row] for row in order.tolist() if gone[row] and not new[row] or change[row] <= -breaks[0]]
-    title, told = f"Travel time to the {what.told()}: {beside(pair)}", f"Of {len(before):,} {wish.what} {counts}"
+    title, subtitle = (
+        f"Travel time to the {what.label()}: {beside(pair)}",
+        f"Of {len(before):,} {options.what} {counts}",
+    )
     drawn = matrix.stops_and_origins()
     classes, named = of_origins(drawn, pair.origins, classes, len(marks) - 1), first_names(drawn, worst, stops)
-    source = source_told(beside(pair), pair.share, matrix)
-    return Picture(title, told, "Change of travel time", marks, classes, source, None, named, drawn)
+    source = source_of(beside(pair), pair.share, matrix)
+    return Picture(title, subtitle, "Change of travel time", marks, classes, source, None, named, drawn)

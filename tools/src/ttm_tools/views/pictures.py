@@ -52,7 +52,7 @@ class Picture:
     """
 
     title: str
-    told: str
+    subtitle: str
     key: str
     marks: list[Mark]
     classes: Classes
@@ -64,7 +64,7 @@ class Picture:
 
 
 @dataclass(frozen=True)
-class Wish:
+class PictureOptions:
     """What of a matrix a picture is to show; None where the matrix has one alone."""
 
     scenario: str | None = None
@@ -85,25 +85,25 @@ def shades(count: int, name: str = "plasma", first: float = 0.0, last: float = 0
     return [Shade(name, first + (last - first) * (place / max(1, count - 1)) ** 0.8) for place in range(count)]
 
 
-def source_told(scenario: str, share: Share, matrix: Matrix) -> str:
-    told = [
+def source_of(scenario: str, share: Share, matrix: Matrix) -> str:
+    sentences = [
         f"Scenario {scenario}",
         *([] if share is None else [f"travel times that {share} of 100 departures keep to"]),
     ]
-    return "; ".join([*told, *(it for it in (matrix.told_greatest, matrix.heading) if it)]) + "."
+    return "; ".join([*sentences, *(text for text in (matrix.greatest_stated, matrix.heading) if text)]) + "."
 
 
-def within_told(limit: int | None) -> str:
+def within_stated(limit: int | None) -> str:
     if limit is None:
         return ""
     return f" within {limit // 60} minutes" if limit % 60 == 0 else f" within {limit:,} seconds"
 
 
-def picture_of_times(matrix: Matrix, stops: Stops, origin: str, wish: Wish) -> Picture:
+def picture_of_times(matrix: Matrix, stops: Stops, origin: str, options: PictureOptions) -> Picture:
     """Travel times from an origin, in classes of minutes."""
-    scenario, share = matrix.scenario(wish.scenario or wish.base), matrix.share(wish.share)
+    scenario, share = matrix.scenario(options.scenario or options.base), matrix.share(options.share)
     seconds = matrix.seconds(scenario, share, origin)
-    breaks = wish.breaks or MINUTES
+    breaks = options.breaks or MINUTES
     between = [f"{low:g} to {high:g}" for low, high in zip(breaks, breaks[1:])]
     labels = [f"up to {breaks[0]:g}", *between, f"more than {breaks[-1]:g}"]
     marks = [Mark(label, colour) for label, colour in zip(labels, shades(len(labels)))] + [NOT_REACHED]
@@ -112,10 +112,10 @@ def picture_of_times(matrix: Matrix, stops: Stops, origin: str, wish: Wish) -> P
     there[matrix.places.get(origin, [])] = False
     half = f", half of them within {math.ceil(float(np.median(seconds[there])) / 60)} minutes" if there.any() else ""
     others = len(seconds) - (origin in matrix.places)
-    told = f"{there.sum():,} of {others:,} other {wish.what} are reached{half}"
+    subtitle = f"{there.sum():,} of {others:,} other {options.what} are reached{half}"
     title, key = f"Travel time from {stops.name_of(origin)}", "Travel time in minutes,\nwaiting included"
     return Picture(
-        title, told, key, marks, classes, source_told(shown(scenario), share, matrix), matrix.places.get(origin)
+        title, subtitle, key, marks, classes, source_of(shown(scenario), share, matrix), matrix.places.get(origin)
     )
 
 
@@ -134,17 +134,17 @@ def round_breaks(least: int, most: int) -> tuple[float, ...]:
 
 def of_origins(drawn: Sequence[str], origins: Sequence[str], classes: Classes, otherwise: int) -> Classes:
     """The classes of all stops that are drawn, where those of the origins are known."""
-    made, among = np.full(len(drawn), otherwise, np.intp), {name: place for place, name in enumerate(drawn)}
-    made[[among[name] for name in origins]] = classes
-    return made
+    places, among = np.full(len(drawn), otherwise, np.intp), {name: place for place, name in enumerate(drawn)}
+    places[[among[name] for name in origins]] = classes
+    return places
 
 
-def picture_of_access(matrix: Matrix, stops: Stops, wish: Wish) -> Picture:
+def picture_of_access(matrix: Matrix, stops: Stops, options: PictureOptions) -> Picture:
     """Access of each origin, in classes of round numbers."""
-    place, limit = matrix.limit(wish.within)
-    scenario, share = matrix.scenario(wish.scenario or wish.base), matrix.share(wish.share)
+    place, limit = matrix.limit(options.within)
+    scenario, share = matrix.scenario(options.scenario or options.base), matrix.share(options.share)
     access = matrix.access(scenario, share)[:, place]
-    breaks = wish.breaks or round_breaks(int(access.min()), int(access.max()))
+    breaks = options.breaks or round_breaks(int(access.min()), int(access.max()))
     between = [f"{low:,} to {high:,}" for low, high in zip(breaks, breaks[1:])]
     labels = [f"less than {breaks[0]:,}", *between, f"{breaks[-1]:,} and more"]
     marks = [Mark(label, colour) for label, colour in zip(labels, reversed(shades(len(labels))))] + [NO_ORIGIN]
@@ -152,15 +152,17 @@ def picture_of_access(matrix: Matrix, stops: Stops, wish: Wish) -> Picture:
     drawn = matrix.stops_and_origins()
     classes = of_origins(drawn, matrix.origins(scenario, share), found, len(labels))
     half, most = math.floor(float(np.median(access))), int(access.max())
-    told = f"From half of {len(access):,} {wish.what} at least {half:,} {wish.unit} are reached, at most {most:,}"
-    title = f"Access from each {wish.what[:-1]}: {wish.unit}{within_told(limit)}"
-    key = f"{wish.unit.capitalize()} reached{within_told(limit)}".replace(" within", "\nwithin")
-    source = source_told(shown(scenario), share, matrix)
-    return Picture(title, told, key, marks, classes, source, drawn=drawn)
+    subtitle = (
+        f"From half of {len(access):,} {options.what} at least {half:,} {options.unit} are reached, at most {most:,}"
+    )
+    title = f"Access from each {options.what[:-1]}: {options.unit}{within_stated(limit)}"
+    key = f"{options.unit.capitalize()} reached{within_stated(limit)}".replace(" within", "\nwithin")
+    source = source_of(shown(scenario), share, matrix)
+    return Picture(title, subtitle, key, marks, classes, source, drawn=drawn)
 
 
 @dataclass(frozen=True)
-class Words:
+class DifferenceLabels:
     """What the classes of a difference are called."""
 
     unit: str
@@ -170,79 +172,83 @@ class Words:
     joined: str
 
 
-def marks_of_difference(breaks: Sequence[float], words: Words) -> list[Mark]:
+def marks_of_difference(breaks: Sequence[float], labels: DifferenceLabels) -> list[Mark]:
     """The classes of a difference: cut off, lost from much to little, hardly any, gained from little to much, new."""
-    between = [f"{low:g} to {high:g} {words.unit}" for low, high in zip(breaks, breaks[1:])]
-    ranges = between + [f"{breaks[-1]:g} {words.unit} or more"]
+    between = [f"{low:g} to {high:g} {labels.unit}" for low, high in zip(breaks, breaks[1:])]
+    ranges = between + [f"{breaks[-1]:g} {labels.unit} or more"]
     reds, blues = (shades(len(breaks), "RdBu", first, last) for first, last in ((0.36, 0.08), (0.64, 0.92)))
-    less = [Mark(f"{told} {words.lost}", colour, "v", 1.4) for told, colour in zip(ranges, reds)]
-    more = [Mark(f"{told} {words.gained}", colour, "^", 1.4) for told, colour in zip(ranges, blues)]
-    same = Mark(f"less than {breaks[0]:g} {words.unit} either way", "#d8d8d8", "o", 0.45, "#8a8a8a")
-    gone, joined = Mark(words.gone, "#000000", "X", 2.0, "#ffffff"), Mark(words.joined, "#ffd92f", "P", 2.0, "#000000")
+    less = [Mark(f"{label} {labels.lost}", colour, "v", 1.4) for label, colour in zip(ranges, reds)]
+    more = [Mark(f"{label} {labels.gained}", colour, "^", 1.4) for label, colour in zip(ranges, blues)]
+    same = Mark(f"less than {breaks[0]:g} {labels.unit} either way", "#d8d8d8", "o", 0.45, "#8a8a8a")
+    gone, joined = Mark(labels.gone, "#000000", "X", 2.0, "#ffffff"), Mark(
+        labels.joined, "#ffd92f", "P", 2.0, "#000000"
+    )
     return [gone, *reversed(less), same, *more, joined]
 
 
 def classes_of_difference(change: npt.NDArray[np.float64], breaks: Sequence[float]) -> Classes:
     """The places of changes among the marks: below 0 is lost."""
     grades = np.searchsorted(np.array(breaks), np.abs(change), side="right")
-    made: Classes = 1 + len(breaks) + np.where(change > 0, grades, -grades)
-    return made
+    classes: Classes = 1 + len(breaks) + np.where(change > 0, grades, -grades)
+    return classes
 
 
-def told_counts(classes: Classes, breaks: Sequence[float], words: Sequence[str]) -> str:
+def counts_stated(classes: Classes, breaks: Sequence[float], labels: Sequence[str]) -> str:
     """How many stops are cut off, lose, gain, and are new."""
     middle = 1 + len(breaks)
     spans = ((0, 1), (1, middle), (middle + 1, 2 * middle), (2 * middle, 2 * middle + 1))
     counts = [int(((classes >= begin) & (classes < end)).sum()) for begin, end in spans]
-    return ", ".join(f"{count:,} {word}" for count, word in zip(counts, words) if count or word in words[1:3])
+    return ", ".join(f"{count:,} {word}" for count, word in zip(counts, labels) if count or word in labels[1:3])
 
 
 def beside(pair: Pair) -> str:
     return f"{shown(pair.other)} compared with {shown(pair.base)}"
 
 
-def picture_of_time_difference(matrix: Matrix, stops: Stops, origin: str, wish: Wish) -> Picture:
+def picture_of_time_difference(matrix: Matrix, stops: Stops, origin: str, options: PictureOptions) -> Picture:
     """Travel times from an origin in a scenario beside the base."""
-    pair = pair_of(matrix, wish.base, wish.scenario, wish.share)
+    pair = pair_of(matrix, options.base, options.scenario, options.share)
     before, after = (matrix.seconds(name, pair.share, origin) for name in (pair.base, pair.other))
-    breaks = wish.breaks or MINUTES_OF_DIFFERENCE
-    words = Words("min", "slower", "faster", "cut off: not reached now", "new: not reached before")
-    marks = [*marks_of_difference(breaks, words), replace(NOT_REACHED, label="not reached in either")]
+    breaks = options.breaks or MINUTES_OF_DIFFERENCE
+    labels = DifferenceLabels("min", "slower", "faster", "cut off: not reached now", "new: not reached before")
+    marks = [*marks_of_difference(breaks, labels), replace(NOT_REACHED, label="not reached in either")]
     classes = classes_of_difference(np.nan_to_num((before - after).astype(np.float64) / 60), breaks)
     gone, new = np.isnan(after), np.isnan(before)
     classes[gone & ~new], classes[new & ~gone], classes[new & gone] = 0, len(marks) - 2, len(marks) - 1
-    counts = told_counts(classes, breaks, ("are cut off", "slower", "faster", "newly reached"))
-    title, told = (
+    counts = counts_stated(classes, breaks, ("are cut off", "slower", "faster", "newly reached"))
+    title, subtitle = (
         f"Travel time from {stops.name_of(origin)}: {beside(pair)}",
-        f"Of {len(matrix.stops):,} {wish.what} {counts}",
+        f"Of {len(matrix.stops):,} {options.what} {counts}",
     )
-    source = source_told(beside(pair), pair.share, matrix)
-    return Picture(title, told, "Change of travel time", marks, classes, source, matrix.places.get(origin))
+    source = source_of(beside(pair), pair.share, matrix)
+    return Picture(title, subtitle, "Change of travel time", marks, classes, source, matrix.places.get(origin))
 
 
-def picture_of_access_difference(matrix: Matrix, stops: Stops, wish: Wish) -> Picture:
+def picture_of_access_difference(matrix: Matrix, stops: Stops, options: PictureOptions) -> Picture:
     """Access at each origin in a scenario beside the base, in classes of percent."""
-    place, limit = matrix.limit(wish.within)
-    pair = pair_of(matrix, wish.base, wish.scenario, wish.share)
-    breaks = wish.breaks or PERCENT
-    words = Words("%", "lost", "gained", "cut off: all of it lost", "newly reached: none before")
-    marks = [*marks_of_difference(breaks, words), NO_ORIGIN]
+    place, limit = matrix.limit(options.within)
+    pair = pair_of(matrix, options.base, options.scenario, options.share)
+    breaks = options.breaks or PERCENT
+    labels = DifferenceLabels("%", "lost", "gained", "cut off: all of it lost", "newly reached: none before")
+    marks = [*marks_of_difference(breaks, labels), NO_ORIGIN]
     first, second = pair.access(place)
     percent = 100 * (second - first) / np.where(first == 0, 1, first)
     sides = sides_of(first, second)
     classes = classes_of_difference(percent, breaks)
     classes[sides.newly_reached], classes[sides.cut_off] = len(marks) - 2, 0
-    told = f"Of {len(classes):,} {wish.what} {sides.told()}"
+    subtitle = f"Of {len(classes):,} {options.what} {sides.sentence()}"
     order = np.argsort(percent, kind="stable")[:MOST_WORST]
     worst = [pair.origins[row] for row in order[percent[order] <= -breaks[0]].tolist()]
     if worst:
         most, lost = -percent[order[0]], int(first[order[0]] - second[order[0]])
-        told += f"; the most: {most:.0f} % ({lost:,} {wish.unit}) at {stops.name_of(worst[0])}"
-    title = f"Access from each {wish.what[:-1]}: {wish.unit}{within_told(limit)}, {beside(pair)}"
-    key, source = f"Change of access:\n{wish.unit}{within_told(limit)}", source_told(beside(pair), pair.share, matrix)
+        subtitle += f"; the most: {most:.0f} % ({lost:,} {options.unit}) at {stops.name_of(worst[0])}"
+    title = f"Access from each {options.what[:-1]}: {options.unit}{within_stated(limit)}, {beside(pair)}"
+    key, source = f"Change of access:\n{options.unit}{within_stated(limit)}", source_of(
+        beside(pair), pair.share, matrix
+    )
     drawn = matrix.stops_and_origins()
     classes = of_origins(drawn, pair.origins, classes, len(marks) - 1)
-    return Picture(title, told, key, marks, classes, source, None, first_names(drawn, worst, stops), drawn)
+    return Picture(title, subtitle, key, marks, classes, source, None, first_names(drawn, worst, stops), drawn)
 
 
 def first_names(drawn: Sequence[str], ordered: Sequence[str], stops: Stops) -> tuple[int, ...]:

@@ -8,7 +8,7 @@ from ..faults import BadInput
 from ..gtfs.stops import Projection
 from ..measures.service import Period, departures_by_piece
 from ..records import shown
-from .service import Day, period_told
+from .service import Day, period_shown
 from .texts import text_alone
 
 CLASSES = (1.0, 2.0, 4.0, 8.0, 16.0, 32.0)  # vehicles an hour, where wider lines begin
@@ -47,11 +47,11 @@ def figure_of(day: Day, scenario: str, period: Period) -> Any:
     axes.autoscale()
     axes.set_aspect("equal")
     axes.set_axis_off()
-    title = f"Vehicles an hour, both ways together: {shown(scenario)}, {period_told(period)}"
+    title = f"Vehicles an hour, both ways together: {shown(scenario)}, {period_shown(period)}"
     figure.text(MARGIN, 0.97, title, fontsize=13, fontweight="bold", va="top")
     labels = [f"less than {CLASSES[0]:g}", *(f"{low:g} to {high:g}" for low, high in zip(CLASSES, CLASSES[1:]))]
     labels.append(f"{CLASSES[-1]:g} and more")
     shown_classes = sorted(set(classes.tolist()))
-    marks = [Line2D([], [], color=COLOUR, linewidth=WIDTHS[it]) for it in shown_classes]
-    figure.legend(marks, [labels[it] for it in shown_classes], loc="lower left", frameon=True, fontsize=9)
+    marks = [Line2D([], [], color=COLOUR, linewidth=WIDTHS[place]) for place in shown_classes]
+    figure.legend(marks, [labels[place] for place in shown_classes], loc="lower left", frameon=True, fontsize=9)
     return figure

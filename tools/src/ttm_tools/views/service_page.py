@@ -2,22 +2,22 @@
 side, with what runs in all below.
 """
 
+from dataclasses import fields
 from html import escape
 from typing import BinaryIO, Iterator
 
 import numpy as np
 
-from ..measures.service import Running
+from ..measures.service import ServiceRuns, Service
 from ..records import shown
-from .service import Day, Groups, Line, period_told, stops_of, texts_of
+from .service import Day, Groups, ServiceLine, period_shown, stops_of, texts_of
 
 STYLE = """body{font-family:sans-serif;margin:1em;max-width:70em}table{border-collapse:collapse;margin:.5em 0}
 th,td{border:1px solid #999;padding:.2em .5em;text-align:left;vertical-align:top}td.n{text-align:right}
 h2{margin-top:1.5em}@media print{h2{break-after:avoid}tr{break-inside:avoid}}"""
-NUMBERS = ["departures", "headway, min", "greatest gap, min", "first", "last", "km/h", "vehicles", "hours", "km"]
 
 
-def write_page(out: BinaryIO, day: Day, groups: Groups, lines: list[Line], title: str) -> None:
+def write_page(out: BinaryIO, day: Day, groups: Groups, lines: list[ServiceLine], title: str) -> None:
     """Writes the page, as HTML that needs nothing beside it."""
     head = f'<!DOCTYPE html>\n<html lang="en"><meta charset="utf-8"><title>{escape(title)}</title>'
     out.write(f"{head}<style>{STYLE}</style>\n<h1>{escape(title)}</h1>\n".encode("utf-8", "backslashreplace"))
@@ -27,8 +27,8 @@ def write_page(out: BinaryIO, day: Day, groups: Groups, lines: list[Line], title
         if not own:
             continue
         minutes = {
-            name: (int(stops[name][place]), hours_of(it, groups, place, int(stops[name][place])))
-            for name, it in day.running.items()
+            name: (int(stops[name][place]), hours_of(running, groups, place, int(stops[name][place])))
+            for name, running in day.running.items()
         }
         for text in section_of(day, heading_of(key, groups), minutes, own):
             out.write(text.encode("utf-8", "backslashreplace"))
@@ -43,32 +43,34 @@ def heading_of(key: tuple[str, str], groups: Groups) -> str:
     return f"Route {name}" + (f", direction {shown(direction)}" if direction else "")
 
 
-def hours_of(running: Running, groups: Groups, place: int, stop: int) -> dict[int, list[int]]:
+def hours_of(running: ServiceRuns, groups: Groups, place: int, stop: int) -> dict[int, list[int]]:
     """The minutes of departure from a stop, by hour."""
     calls = running.calls
     chosen = (groups.of_trip[running.trip] == place)[calls.run] & (calls.stop == stop)
-    made: dict[int, list[int]] = {}
+    hours: dict[int, list[int]] = {}
     for time in np.sort(calls.depart[chosen]).tolist():
-        made.setdefault(time // 3600, []).append(time // 60 % 60)
-    return made
+        hours.setdefault(time // 3600, []).append(time // 60 % 60)
+    return hours
 
 
 def section_of(
-    day: Day, heading: str, minutes: dict[str, tuple[int, dict[int, list[int]]]], lines: list[Line]
+    day: Day, heading: str, minutes: dict[str, tuple[int, dict[int, list[int]]]], lines: list[ServiceLine]
 ) -> Iterator[str]:
     """The two tables of a route and direction."""
     all_stops = day.timetable.all_stops
     yield f"<h2>{escape(heading)}</h2>\n<table><tr><th>Hour</th>"
     for name, (stop, _) in minutes.items():
-        told = all_stops.name_of(day.timetable.stops[stop]) if stop >= 0 else "no departures"
-        yield f"<th>{escape(shown(name))}: {escape(told)}</th>"
+        name_of_stop = all_stops.name_of(day.timetable.stops[stop]) if stop >= 0 else "no departures"
+        yield f"<th>{escape(shown(name))}: {escape(name_of_stop)}</th>"
     yield "</tr>\n"
     for hour in sorted({hour for _, by_hour in minutes.values() for hour in by_hour}):
-        cells = [" ".join(f"{it:02}" for it in by_hour.get(hour, [])) for _, by_hour in minutes.values()]
-        yield f"<tr><th>{hour:02}</th>{''.join(f'<td>{it}</td>' for it in cells)}</tr>\n"
-    heads = "".join(f"<th>{it}</th>" for it in ["Period", "Scenario", *NUMBERS])
+        cells = [" ".join(f"{minute:02}" for minute in by_hour.get(hour, [])) for _, by_hour in minutes.values()]
+        yield f"<tr><th>{hour:02}</th>{''.join(f'<td>{cell}</td>' for cell in cells)}</tr>\n"
+    heads = "".join(
+        f"<th>{name}</th>" for name in ["Period", "Scenario", *(own.metadata["head"] for own in fields(Service))]
+    )
     yield f"</table>\n<table><tr>{heads}</tr>\n"
     for line in lines:
-        numbers = "".join(f'<td class="n">{it}</td>' for it in texts_of(line.service))
-        yield f"<tr><td>{period_told(line.period)}</td><td>{escape(shown(line.scenario))}</td>{numbers}</tr>\n"
+        numbers = "".join(f'<td class="n">{text}</td>' for text in texts_of(line.service))
+        yield f"<tr><td>{period_shown(line.period)}</td><td>{escape(shown(line.scenario))}</td>{numbers}</tr>\n"
     yield "</table>\n"

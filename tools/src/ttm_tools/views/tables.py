@@ -14,7 +14,9 @@ def write_table(out: BinaryIO, header: Sequence[str], rows: Sequence[Sequence[ob
     if form == CSV:
         write_rows(out, header, rows)
         return
-    lines = [[markdown(shown(str(text))) for text in row] for row in ([it.replace("_", " ") for it in header], *rows)]
+    lines = [
+        [markdown(shown(str(text))) for text in row] for row in ([column.replace("_", " ") for column in header], *rows)
+    ]
     bars = ["---"] * WORDS + ["---:"] * (len(header) - WORDS)
     for cells in (lines[0], bars, *lines[1:]):
         out.write(f"| {' | '.join(cells)} |\n".encode("utf-8", "backslashreplace"))

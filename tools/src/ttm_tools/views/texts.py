@@ -3,18 +3,18 @@
 import functools
 from typing import Callable, ParamSpec, TypeVar
 
-Words = ParamSpec("Words")
-Made = TypeVar("Made")
+Parameters = ParamSpec("Parameters")
+Result = TypeVar("Result")
 
 
-def text_alone(make: Callable[Words, Made]) -> Callable[Words, Made]:
+def text_alone(make: Callable[Parameters, Result]) -> Callable[Parameters, Result]:
     """Has matplotlib take the texts of a figure as they are."""
 
     @functools.wraps(make)
-    def made(*words: Words.args, **more: Words.kwargs) -> Made:
+    def wrapped(*args: Parameters.args, **more: Parameters.kwargs) -> Result:
         import matplotlib
 
         with matplotlib.rc_context({"text.parse_math": False}):
-            return make(*words, **more)
+            return make(*args, **more)
 
-    return made
+    return wrapped

@@ -24,7 +24,7 @@ SCALE = "viridis"
 
 
 @dataclass(frozen=True)
-class Column:
+class WindowColumn:
     """A window of a day, and what each place has in it."""
 
     day: str  # YYYY-MM-DD
@@ -36,12 +36,12 @@ class Column:
     @property
     def span(self) -> tuple[float, float]:
         """Where it begins and ends, in hours."""
-        begin, end = (int(it[:2]) + int(it[3:]) / 60 for it in (self.first, self.last))
+        begin, end = (int(clock[:2]) + int(clock[3:]) / 60 for clock in (self.first, self.last))
         return begin, end + 1 / 60  # the last minute counts
 
 
 @dataclass(frozen=True)
-class Told:
+class FigureLabels:
     """What the pictures say."""
 
     kind: str  # what is measured, such as "jobs within 30 minutes"
@@ -66,18 +66,20 @@ def figure_with(title: str, height: float) -> Any:
     return figure
 
 
-def days_of(columns: Sequence[Column]) -> list[tuple[str, list[Column]]]:
+def days_of(columns: Sequence[WindowColumn]) -> list[tuple[str, list[WindowColumn]]]:
     """The windows of each day."""
-    return [(day, list(own)) for day, own in itertools.groupby(columns, lambda it: it.day)]
+    return [(day, list(own)) for day, own in itertools.groupby(columns, lambda column: column.day)]
 
 
 @text_alone
-def figure_by_time(columns: Sequence[Column], scenarios: Sequence[str], people: Floats, told: Told) -> Any:
+def figure_by_time(
+    columns: Sequence[WindowColumn], scenarios: Sequence[str], people: Floats, labels: FigureLabels
+) -> Any:
     """A panel for each day: the mean over people, and that of the tenth that has least, along the hours."""
     days = days_of(columns)
     across = min(ACROSS, len(days))
     rows = math.ceil(len(days) / across)
-    figure = figure_with(f"{told.kind} by time of day: mean of {told.people}", HEAD + 3.2 * rows + FOOT)
+    figure = figure_with(f"{labels.kind} by time of day: mean of {labels.people}", HEAD + 3.2 * rows + FOOT)
     panels = figure.subplots(rows, across, sharex=True, sharey=True, squeeze=False)
     high = figure.get_figheight()
     figure.subplots_adjust(0.09, FOOT / high, 0.98, 1 - HEAD / high, 0.06, 0.22)
@@ -88,22 +90,22 @@ def figure_by_time(columns: Sequence[Column], scenarios: Sequence[str], people: 
         axes.grid(axis="y", color="#dddddd", linewidth=0.6)
         axes.tick_params(labelsize=8)
         draw_levels(axes, own, scenarios, people)
-    ends = [end for it in columns for end in it.span]
+    ends = [end for column in columns for end in column.span]
     hours = range(math.floor(min(ends)), math.ceil(max(ends)) + 1)
     panels[0, 0].set(ylim=(0, None), xlim=(hours[0], hours[-1]), xticks=hours[:: 1 + len(hours) // 9])
     for axes in panels[:, 0]:
-        axes.set_ylabel(told.unit, parse_math=False)
+        axes.set_ylabel(labels.unit, parse_math=False)
         axes.yaxis.set_major_formatter("{x:,.10g}")
     panels[0, 0].legend(frameon=False, fontsize=8)
     figure.text(0.5, 0.12 / high, "departure, hour of the day", ha="center", fontsize=9)
     return figure
 
 
-def draw_levels(axes: Any, columns: Sequence[Column], scenarios: Sequence[str], people: Floats) -> None:
+def draw_levels(axes: Any, columns: Sequence[WindowColumn], scenarios: Sequence[str], people: Floats) -> None:
     """Two lines for each scenario: a bar over each window's time, and thin lines between their middles."""
-    spans = np.array([it.span for it in columns])
+    spans = np.array([column.span for column in columns])
     for (place, name), (row, style) in itertools.product(enumerate(scenarios), enumerate(("solid", "dashed"))):
-        found = np.array([levels(it.numbers[place], people)[row] for it in columns])
+        found = np.array([levels(column.numbers[place], people)[row] for column in columns])
         label = shown(name) + (", tenth that has least" if row else "")
         how: dict[str, Any] = {"color": COLOURS[place % len(COLOURS)], "linestyle": style}
         axes.plot(spans.mean(axis=1), found, linewidth=0.8, label=label, **how)
@@ -111,15 +113,15 @@ def draw_levels(axes: Any, columns: Sequence[Column], scenarios: Sequence[str], 
 
 
 @text_alone
-def figure_of_heat(columns: Sequence[Column], scenario: int, told: Told) -> Any:
+def figure_of_heat(columns: Sequence[WindowColumn], scenario: int, labels: FigureLabels) -> Any:
     """A row for each place, ordered by its mean, and a column for each window."""
-    numbers = np.stack([it.numbers[scenario] for it in columns], axis=1)
+    numbers = np.stack([column.numbers[scenario] for column in columns], axis=1)
     order = np.argsort(-numbers.mean(axis=1), kind="stable")
-    figure = figure_with(f"{told.kind}: each of {len(order):,} {told.places} by window", 7.0)
+    figure = figure_with(f"{labels.kind}: each of {len(order):,} {labels.places} by window", 7.0)
     axes = figure.add_axes((0.09, 0.17, 0.76, 0.72))
     image = axes.imshow(numbers[order], aspect="auto", interpolation="nearest", cmap=SCALE, vmin=0)
-    names = [it.name for it in columns]
-    axes.set(xticks=range(len(columns)), ylabel=f"{told.places}, the one with most on top")
+    names = [column.name for column in columns]
+    axes.set(xticks=range(len(columns)), ylabel=f"{labels.places}, the one with most on top")
     turned = {"rotation": 45, "ha": "right"} if sum(map(len, names)) > 60 else {}
     axes.set_xticklabels(names, fontsize=8, parse_math=False, **turned)
     begin = 0
@@ -128,32 +130,32 @@ def figure_of_heat(columns: Sequence[Column], scenario: int, told: Told) -> Any:
         begin += len(own)
         axes.axvline(begin - 0.5, color="white", linewidth=2.0)
     bar = figure.colorbar(image, cax=figure.add_axes((0.87, 0.17, 0.025, 0.72)))
-    bar.set_label(told.unit, parse_math=False)
+    bar.set_label(labels.unit, parse_math=False)
     bar.ax.yaxis.set_major_formatter("{x:,.10g}")
     return figure
 
 
 @text_alone
-def figure_of_maps(columns: Sequence[Column], scenario: int, stops: Stops, told: Told) -> Any:
+def figure_of_maps(columns: Sequence[WindowColumn], scenario: int, stops: Stops, labels: FigureLabels) -> Any:
     """A small map for each window, with one scale of colours."""
     drawn, counts = columns[:MOST_MAPS], {len(own) for _, own in days_of(columns)}
     projection = Projection(stops.latitudes, stops.longitudes)
     east, north = projection.east(stops.longitudes), projection.north(stops.latitudes)
     across = max(counts) if len(counts) == 1 and max(counts) in range(2, MOST_ACROSS + 1) else min(ACROSS, len(drawn))
     rows = math.ceil(len(drawn) / across)
-    figure = figure_with(f"{told.kind}, by window", HEAD + 10.4 / across * rows + 0.3)
+    figure = figure_with(f"{labels.kind}, by window", HEAD + 10.4 / across * rows + 0.3)
     panels = figure.subplots(rows, across, squeeze=False)
     high = figure.get_figheight()
     figure.subplots_adjust(0.02, 0.2 / high, 0.87, 1 - HEAD / high, 0.05, 0.16)
-    most = max(float(it.numbers[scenario].max()) for it in drawn) or 1.0
+    most = max(float(column.numbers[scenario].max()) for column in drawn) or 1.0
     size = min(30.0, max(1.5, 9000 / max(1, len(east)) / math.sqrt(len(drawn))))
     for axes in panels.flat[len(drawn) :]:
         axes.set_visible(False)
-    for axes, it in zip(panels.flat, drawn):
-        marks = axes.scatter(east, north, s=size, c=it.numbers[scenario], cmap=SCALE, vmin=0, vmax=most, marker="s")
+    for axes, column in zip(panels.flat, drawn):
+        marks = axes.scatter(east, north, s=size, c=column.numbers[scenario], cmap=SCALE, vmin=0, vmax=most, marker="s")
         axes.set(xticks=[], yticks=[], aspect="equal")
-        axes.set_title(f"{it.day} {it.name}", fontsize=9, parse_math=False)
+        axes.set_title(f"{column.day} {column.name}", fontsize=9, parse_math=False)
     bar = figure.colorbar(marks, cax=figure.add_axes((0.89, 0.2 / high, 0.022, 1 - (HEAD + 0.2) / high)))
-    bar.set_label(told.unit, parse_math=False)
+    bar.set_label(labels.unit, parse_math=False)
     bar.ax.yaxis.set_major_formatter("{x:,.10g}")
     return figure

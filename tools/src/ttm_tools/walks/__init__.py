@@ -5,7 +5,7 @@ from ..gtfs.stops import Stops
 from .straight import Pace, Walks, distances, points_of, read_walks, straight_walks
 
 NEAR = 100.0  # metres to a street
-__all__ = ["NEAR", "Pace", "Walks", "distances", "points_of", "read_walks", "straight_walks", "told", "walks_of"]
+__all__ = ["NEAR", "Pace", "Walks", "distances", "points_of", "read_walks", "straight_walks", "summary", "walks_of"]
 
 
 def walks_of(
@@ -23,7 +23,7 @@ def walks_of(
     return street_walks(stops, pace, read_streets(streets), near, first)
 
 
-def told(walks: Walks, what: str, near: float) -> str:
+def summary(walks: Walks, what: str, near: float) -> str:
     """What isn't as one would wish of the places between which there are walks."""
     found = [f"{walks.lost} {what} have no coordinates"]
     if walks.far:

@@ -1,4 +1,4 @@
-"""Ways between places, counted while they are found: more than `ttm` takes are told before they fill the memory."""
+"""Ways between places, counted while they are found: more than `ttm` takes are reported before they fill the memory."""
 
 from typing import Callable
 
@@ -17,7 +17,7 @@ class TooManyWalks(BadInput):
     """More walks than `ttm` takes."""
 
 
-class Found:
+class WaysFound:
     """Ways as they are found, of which several may be between two places."""
 
     def __init__(self, path: str, first: int | None, least: Callable[[list[Ways]], Ways], directions: int) -> None:
@@ -37,9 +37,9 @@ class Found:
 
     def all(self) -> Ways:
         """The shortest way between any two places."""
-        made = self.least(self.ways)
-        self.ways, self.count = [made], len(made[0])
+        shortest = self.least(self.ways)
+        self.ways, self.count = [shortest], len(shortest[0])
         if self.count * self.directions > MOST_PAIRS:
-            told = f"more than the {MOST_PAIRS:,} walks that ttm takes: a shorter --limit, or fewer places"
-            raise TooManyWalks(self.path, told)
-        return made
+            text = f"more than the {MOST_PAIRS:,} walks that ttm takes: a shorter --limit, or fewer places"
+            raise TooManyWalks(self.path, text)
+        return shortest

@@ -34,8 +34,8 @@ class Reach:
         begin, end = self.begin[there], self.end[there]
         part = np.minimum(1.0, after[begin] / self.metres[there])[:, None]
         places = np.stack([self.longitudes, self.latitudes], axis=1)
-        made: Floats = np.concatenate([places[begin], places[begin] + part * (places[end] - places[begin])], axis=1)
-        return made
+        pieces: Floats = np.concatenate([places[begin], places[begin] + part * (places[end] - places[begin])], axis=1)
+        return pieces
 
     def left_at_nodes(self, left: Floats) -> Floats:
         """How many metres are left at each node, below 0 where one doesn't come: the most that any place gives, which
@@ -54,8 +54,8 @@ class Reach:
         end = np.concatenate([self.end, nodes])
         metres = np.concatenate([np.maximum(self.metres, 1e-9), most - left[places] + 1e-9])
         found = dijkstra(csr_matrix((metres, (begin, end)), shape=(count + 1, count + 1)), indices=count, limit=most)
-        made: Floats = np.where(np.isfinite(found), most - found, -1.0)[:count]
-        return made
+        after: Floats = np.where(np.isfinite(found), most - found, -1.0)[:count]
+        return after
 
 
 def reach_of(streets: Streets, latitudes: Floats, longitudes: Floats, pace: Pace, near: float) -> Reach:
@@ -70,8 +70,8 @@ def reach_of(streets: Streets, latitudes: Floats, longitudes: Floats, pace: Pace
 
     def along(numbers: Floats) -> Floats:
         low, high = (numbers[ends[put.piece]] for ends in (streets.begin, streets.end))
-        made: Floats = np.concatenate([numbers, low + put.along * (high - low)])
-        return made
+        numbers_along: Floats = np.concatenate([numbers, low + put.along * (high - low)])
+        return numbers_along
 
     return Reach(along(streets.latitudes), along(streets.longitudes), begin, end, graph.metres, beside)
 
@@ -80,5 +80,5 @@ def strip(pieces: Floats, kilometres: Callable[[Floats, Floats], tuple[Floats, F
     """The area within some metres of pieces of streets, as a shape in kilometres."""
     from shapely.geometry import MultiLineString
 
-    begin, end = (np.stack(kilometres(pieces[:, it], pieces[:, it + 1]), axis=1).tolist() for it in (0, 2))
+    begin, end = (np.stack(kilometres(pieces[:, column], pieces[:, column + 1]), axis=1).tolist() for column in (0, 2))
     return MultiLineString([(one, other) for one, other in zip(begin, end) if one != other]).buffer(width / 1000)

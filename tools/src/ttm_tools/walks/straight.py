@@ -17,7 +17,7 @@ from ..faults import BadInput
 from ..gtfs.fields import Floats
 from ..gtfs.stops import EARTH, Stops
 from ..records import Rounded, rows, shown
-from .counting import Found, Places, Ways
+from .counting import WaysFound, Places, Ways
 
 ROUND = list(itertools.product((-1, 0, 1), repeat=3))  # a cube and those that touch it
 HALF = [step for step in ROUND if step >= (0, 0, 0)]
@@ -39,8 +39,8 @@ class Pace:
 
     def seconds(self, metres: Floats) -> npt.NDArray[np.int64]:
         """The time of straight lines, in whole seconds, rounded up."""
-        made: npt.NDArray[np.int64] = np.ceil(np.round(metres * self.detour / self.speed, 6)).astype(np.int64)
-        return made
+        whole: npt.NDArray[np.int64] = np.ceil(np.round(metres * self.detour / self.speed, 6)).astype(np.int64)
+        return whole
 
 
 @dataclass(frozen=True)
@@ -61,7 +61,7 @@ class Walks:
 
 
 @dataclass(frozen=True)
-class Doors:
+class Entrances:
     """Points at which stops are reached from outside of their stations, `inside` metres of way from the stop itself."""
 
     stop: Places
@@ -73,15 +73,15 @@ def points_of(latitudes: Floats, longitudes: Floats) -> Floats:
     """Places on the globe, in metres from its middle."""
     north, east = np.radians(latitudes), np.radians(longitudes)
     across = np.cos(north)
-    made: Floats = EARTH * np.stack([across * np.cos(east), across * np.sin(east), np.sin(north)], axis=-1)
-    return made
+    points: Floats = EARTH * np.stack([across * np.cos(east), across * np.sin(east), np.sin(north)], axis=-1)
+    return points
 
 
 def distances(a: Floats, b: Floats) -> Floats:
     """Metres over ground between points of the globe."""
     chord = np.sqrt(((a - b) ** 2).sum(axis=-1))
-    made: Floats = 2 * EARTH * np.arcsin(np.minimum(1.0, chord / (2 * EARTH)))
-    return made
+    metres: Floats = 2 * EARTH * np.arcsin(np.minimum(1.0, chord / (2 * EARTH)))
+    return metres
 
 
 def near_pairs(points: Floats, metres: float) -> Iterator[tuple[Places, Places]]:
@@ -115,8 +115,8 @@ def cubes_of(points: Floats, metres: float) -> Places:
     """The cube of each point, as one number."""
     cubes = np.floor(points / max(metres, 1.0)).astype(np.int64)
     cubes -= cubes.min(axis=0, initial=0) - 1
-    made: Places = (cubes[:, 0] * (1 << 21) + cubes[:, 1]) * (1 << 21) + cubes[:, 2]
-    return made
+    keys: Places = (cubes[:, 0] * (1 << 21) + cubes[:, 1]) * (1 << 21) + cubes[:, 2]
+    return keys
 
 
 def cube_beside(keys: Places, sorted_keys: Places, step: tuple[int, ...]) -> tuple[Places, Places]:
@@ -136,7 +136,7 @@ def ranges(begin: Places, end: Places) -> Iterator[tuple[Places, Places]]:
         yield number, begin[number] + within
 
 
-def doors_of(points: Floats, stations: list[str], entrances: dict[str, Floats]) -> Doors:
+def doors_of(points: Floats, stations: list[str], entrances: dict[str, Floats]) -> Entrances:
     """Where each stop is reached from outside: at the entrances of its station, or where it stands."""
     entered = np.array([station in entrances for station in stations], dtype=np.bool_)
     alone = np.flatnonzero(~entered)
@@ -147,10 +147,10 @@ def doors_of(points: Floats, stations: list[str], entrances: dict[str, Floats]) 
         where.append(there)
         inside.append(distances(points[number : number + 1], there))
     order = np.argsort(np.concatenate(stop), kind="stable")
-    return Doors(np.concatenate(stop)[order], np.concatenate(where)[order], np.concatenate(inside)[order])
+    return Entrances(np.concatenate(stop)[order], np.concatenate(where)[order], np.concatenate(inside)[order])
 
 
-def ways(points: Floats, stations: list[str], entrances: dict[str, Floats], metres: float, found: Found) -> Ways:
+def ways(points: Floats, stations: list[str], entrances: dict[str, Floats], metres: float, found: WaysFound) -> Ways:
     """The shortest way between two stops, the lower first, in metres before any detour, where it is at most so long."""
     doors = doors_of(points, stations, entrances)
     numbers = {station: number for number, station in enumerate(dict.fromkeys(stations))}
@@ -213,7 +213,7 @@ def straight_walks(stops: Stops, pace: Pace, first: int | None = None) -> Walks:
     called = stops.kinds == 0
     chosen = np.flatnonzero(called & stops.placed)
     points = points_of(stops.latitudes[chosen], stops.longitudes[chosen])
-    found = Found(stops.path, first and int(np.searchsorted(chosen, first)), shortest, directions=2)
+    found = WaysFound(stops.path, first and int(np.searchsorted(chosen, first)), shortest, directions=2)
     stations = [stops.stations[place] for place in chosen]
     low, high, length = ways(points, stations, entrances_of(stops), pace.metres, found)
     seconds = pace.seconds(length)

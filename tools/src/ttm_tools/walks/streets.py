@@ -14,9 +14,9 @@ import numpy as np
 from .. import progress
 from ..gtfs.fields import Floats
 from ..gtfs.stops import Stops
-from .counting import Found, Places, Ways
+from .counting import WaysFound, Places, Ways
 from .osm import Flags, Streets
-from .straight import Doors, Pace, Walks, distances, doors_of, entrances_of, inside_ways, points_of, ranges
+from .straight import Entrances, Pace, Walks, distances, doors_of, entrances_of, inside_ways, points_of, ranges
 
 PIECE = 100.0  # metres of the pieces in which streets are looked for
 LEAST_SIDE = 300.0  # metres of a cube
@@ -83,8 +83,8 @@ def short_pieces(begin: Floats, end: Floats) -> tuple[Places, Floats, Floats]:
 
 def at(begin: Floats, end: Floats, piece: Places, along: Floats) -> Floats:
     """Points on pieces."""
-    made: Floats = begin[piece] + (end[piece] - begin[piece]) * along[:, None]
-    return made
+    points: Floats = begin[piece] + (end[piece] - begin[piece]) * along[:, None]
+    return points
 
 
 def nearest_on(begin: Floats, end: Floats, piece: Places, points: Floats) -> Snapped:
@@ -180,8 +180,8 @@ def ranges_of(graph: Graph, nodes: Places) -> Iterator[tuple[Places, Places]]:
 def close(points: Floats, nodes: Places, begins: Places, most: float) -> Places:
     """Those nodes that may be at most so many metres from one of some others."""
     low, high = points[begins].min(axis=0) - most, points[begins].max(axis=0) + most
-    made: Places = nodes[((points[nodes] >= low) & (points[nodes] <= high)).all(axis=1)]
-    return made
+    kept: Places = nodes[((points[nodes] >= low) & (points[nodes] <= high)).all(axis=1)]
+    return kept
 
 
 def searched(
@@ -198,7 +198,7 @@ def searched(
     sources = sources[np.argsort(cubes.key[sources], kind="stable")]
     keys, counts = np.unique(cubes.key[sources], return_counts=True)
     groups = np.split(sources, np.cumsum(counts)[:-1]) if len(keys) else []
-    for key, begins in progress.told(zip(keys.tolist(), groups), len(keys), "streets", "cubes"):
+    for key, begins in progress.shown(zip(keys.tolist(), groups), len(keys), "streets", "cubes"):
         nodes = close(graph.points, cubes.around(key), begins, most)
         ends = nodes[nodes >= first]
         ends = ends[(extra[ends - first] <= most) & only.ends[ends - first]]
@@ -212,40 +212,70 @@ def searched(
             yield some[one] - first, ends[other] - first, metres[one, other]
 
 
+@dataclass(frozen=True)
+class OnStreets:
+    """The stops of a feed that have a place, put on streets."""
+
+    chosen: Places  # their places among all stops
+    points: Floats
+    stations: list[str]
+    entrances: dict[str, Floats]
+    doors: Entrances
+    put: Snapped  # of each door
+    beside: Floats  # metres from each door to its street
+
+    def ways(self, streets: Streets, pace: Pace, only: Ends) -> Iterator[Ways]:
+        """The shortest ways along streets, and within stations, between those of these stops that may be ends: of
+        several between two stops one is the shortest.
+        """
+        most, may = longest(pace), Ends(only.begins[self.chosen], only.ends[self.chosen])
+        extra = self.beside + self.doors.inside * pace.detour
+        yield from between_doors(graph_of(streets, self.put), self.doors, extra, most, may)
+        for a, b, metres in inside_ways(self.points, self.stations, self.entrances, most / pace.detour):
+            for one, other in ((a, b), (b, a)):
+                both = may.begins[one] & may.ends[other]
+                yield one[both], other[both], metres[both] * pace.detour
+
+
+def longest(pace: Pace) -> float:
+    """The longest way in metres; a thousandth of a millimetre more, since seconds decide."""
+    return pace.limit * pace.speed + 1e-6
+
+
+def stops_on_streets(stops: Stops, streets: Streets, pace: Pace, near: float) -> OnStreets:
+    """The stops at which vehicles call, on their streets."""
+    chosen = np.flatnonzero((stops.kinds == 0) & stops.placed)
+    points = points_of(stops.latitudes[chosen], stops.longitudes[chosen])
+    stations, entrances = [stops.stations[place] for place in chosen], entrances_of(stops)
+    doors = doors_of(points, stations, entrances)
+    put = snapped(streets, doors.point)
+    beside = np.where(put.metres <= near, put.metres, put.metres * pace.detour)
+    return OnStreets(chosen, points, stations, entrances, doors, put, beside)
+
+
 def street_walks(
     stops: Stops, pace: Pace, streets: Streets, near: float, first: int | None = None, only: Ends | None = None
 ) -> Walks:
     """The footpaths along streets between all stops of a feed at which vehicles call, or between the first so many
     and all; where it is said which of them may be ends, between these.
     """
-    called = stops.kinds == 0
-    chosen = np.flatnonzero(called & stops.placed)
-    points = points_of(stops.latitudes[chosen], stops.longitudes[chosen])
-    stations, entrances = [stops.stations[place] for place in chosen], entrances_of(stops)
-    doors, most = doors_of(points, stations, entrances), pace.limit * pace.speed + 1e-6
-    put = snapped(streets, doors.point)
-    beside = np.where(put.metres <= near, put.metres, put.metres * pace.detour)
-    found = Found(stops.path, first and int(np.searchsorted(chosen, first)), least, directions=1)
-    some_ends = only or Ends(called, called)
-    chosen_ends = Ends(some_ends.begins[chosen], some_ends.ends[chosen])
-    extra = beside + doors.inside * pace.detour
-    for some in between_doors(graph_of(streets, put), doors, extra, most, chosen_ends):
+    called, there, most = stops.kinds == 0, stops_on_streets(stops, streets, pace, near), longest(pace)
+    chosen = there.chosen
+    found = WaysFound(stops.path, first and int(np.searchsorted(chosen, first)), least, directions=1)
+    for some in there.ways(streets, pace, only or Ends(called, called)):
         found.take(*some)
-    for a, b, metres in inside_ways(points, stations, entrances, most / pace.detour):
-        for one, other in ((a, b), (b, a)):
-            may = chosen_ends.begins[one] & chosen_ends.ends[other]
-            found.take(one[may], other[may], metres[may] * pace.detour)
     origins, destinations, metres = found.all()
     seconds = Pace(pace.limit, pace.speed, 1.0).seconds(metres)
     kept = seconds <= pace.limit
-    lost, far = int((called & ~stops.placed).sum()), doors.stop[(put.metres > near) & (beside <= most)]
-    apart = len(chosen) - len(np.unique(doors.stop[beside <= most]))
+    is_far = (there.put.metres > near) & (there.beside <= most)
+    lost, far = int((called & ~stops.placed).sum()), len(np.unique(there.doors.stop[is_far]))
+    apart = len(chosen) - len(np.unique(there.doors.stop[there.beside <= most]))
     ends = (chosen[origins[kept]], chosen[destinations[kept]])
-    return Walks(stops.identifiers, *ends, seconds[kept], lost, len(np.unique(far)), apart)
+    return Walks(stops.identifiers, *ends, seconds[kept], lost, far, apart)
 
 
 def between_doors(
-    graph: Graph, doors: Doors, extra: Floats, most: float, only: Ends
+    graph: Graph, doors: Entrances, extra: Floats, most: float, only: Ends
 ) -> Iterator[tuple[Places, Places, Floats]]:
     """The shortest ways between stops by way of their doors; `only` is of the stops."""
     first, may = len(graph.points) - len(doors.stop), Ends(only.begins[doors.stop], only.ends[doors.stop])

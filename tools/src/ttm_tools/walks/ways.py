@@ -38,15 +38,15 @@ class Ways:
         """The points of the nodes, and the connections as a matrix of scipy."""
         from scipy.sparse import csr_matrix
 
-        made = graph_of(self.streets, self.put)
-        count = len(made.points)
-        return made.points, csr_matrix((made.metres, made.end, made.begins), shape=(count, count))
+        found = graph_of(self.streets, self.put)
+        count = len(found.points)
+        return found.points, csr_matrix((found.metres, found.end, found.begins), shape=(count, count))
 
     @cached_property
     def beside(self) -> Floats:
         """How far each place is from its street, metres."""
-        made: Floats = np.where(self.put.metres <= self.near, self.put.metres, self.put.metres * self.pace.detour)
-        return made
+        metres: Floats = np.where(self.put.metres <= self.near, self.put.metres, self.put.metres * self.pace.detour)
+        return metres
 
     @property
     def most(self) -> float:
@@ -72,10 +72,10 @@ class Ways:
             found[some] = dijkstra(matrix, indices=sources[some], limit=self.most)[:, others]
         metres = found.T if turned else found
         metres = metres + self.beside[: len(begins), None] + self.beside[len(begins) :]
-        made: Seconds = np.full(metres.shape, np.nan)
+        whole: Seconds = np.full(metres.shape, np.nan)
         there = metres <= self.most
-        made[there] = Pace(self.pace.limit, self.pace.speed, 1.0).seconds(metres[there])
-        return np.where(made <= self.pace.limit, made, np.nan)
+        whole[there] = Pace(self.pace.limit, self.pace.speed, 1.0).seconds(metres[there])
+        return np.where(whole <= self.pace.limit, whole, np.nan)
 
     def way(self, begin: int, end: int) -> tuple[Floats, float]:
         """The points of the shortest way from one place to another, these with it, and its metres; none where there is
@@ -105,7 +105,7 @@ def on_streets(streets: Streets, latitudes: Floats, longitudes: Floats) -> tuple
 def degrees_of(points: Floats) -> Floats:
     """Longitude and latitude of points of the globe."""
     length = np.linalg.norm(points, axis=-1)
-    made: Floats = np.degrees(
+    degrees: Floats = np.degrees(
         np.stack([np.arctan2(points[..., 1], points[..., 0]), np.arcsin(points[..., 2] / length)], axis=-1)
     )
-    return made
+    return degrees

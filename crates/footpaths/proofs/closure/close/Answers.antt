@@ -1,6 +1,6 @@
 use Rattle.std.proofs.Common.{◌≡◌, ◌∙◌}
 use Rattle.timetable.specs.Footpaths.{rows_of}
-use Rattle.footpaths.proofs.Fits.{no_fault}
+use Rattle.footpaths.proofs.ClosuresAreFeet.{no_fault}
 use Rattle.footpaths.proofs.closure.close.Goals as goal
 
 pub unreachable-requires : goal.unreachable-requires

@@ -1,4 +1,4 @@
-use Rattle.footpaths.proofs.Unique.{closures_are_unique}
+use Rattle.footpaths.proofs.UniqueClosures.{closures_are_unique}
 use Rattle.footpaths.proofs.laws.closures_are_unique.Goals as goal
 
 pub returns : goal.returns

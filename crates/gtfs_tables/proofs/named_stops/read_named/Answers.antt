@@ -26,7 +26,7 @@ returns-clause-good c =
     let stops = c.args.feed.now.stops in
     let (faults, rows) = headed c.args.name (map (λ text. text.now) c.args.required.now) row_of
     (checks c.args.is_counted stops) (records_of c.args.bytes.now) (fields_of c.in_ok-file.file.header)
-    c.in_ok-file.file.rows
+    c.in_ok-file.file.records
     c.in_ok-file.ensures.columns c.in_ok-file.ensures.records in
     let good = rw c.columns_in.ensures at c.take_records-read.ensures.good in
     table_given c.take_records-read.result c.take_records-read.new.table c.and.result _ _ c.and.ensures good
@@ -36,7 +36,7 @@ pub returns-clause-fault : goal.returns-clause-fault
 returns-clause-fault c =
     let (faults, rows) = headed c.args.name (map (λ text. text.now) c.args.required.now) row_of
     (checks c.args.is_counted c.args.feed.now.stops) (records_of c.args.bytes.now)
-    (fields_of c.in_ok-file.file.header) c.in_ok-file.file.rows
+    (fields_of c.in_ok-file.file.header) c.in_ok-file.file.records
     c.in_ok-file.ensures.columns c.in_ok-file.ensures.records in
     let told = rw c.columns_in.ensures at c.take_records-read.ensures.fault in
     fault_told c.take_records-read.result c.take_records-read.new.table c.and.result _ _ c.and.ensures told

@@ -12,8 +12,8 @@ use Rattle.gtfs_tables.specs.declared.catalog.Catalog.{Catalog}
 use Rattle.gtfs_tables.specs.declared.trip.FeedTrip.{FeedTrip}
 use Rattle.gtfs_tables.specs.Files.{catalog_faults, faults_of_frequencies, faults_of_stop_times, faults_of_transfers}
 use Rattle.gtfs_tables.specs.Files.{files_of}
-use Rattle.gtfs_tables.proofs.Sound.{departures_count, events_count, feed_is_sound, index_is}
-use Rattle.gtfs_tables.proofs.Told.{first_of_four}
+use Rattle.gtfs_tables.proofs.FilesGiveAFeed.{departures_count, events_count, feed_is_sound, index_is}
+use Rattle.gtfs_tables.proofs.FirstFileFault.{first_of_four}
 use Rattle.gtfs_tables.proofs.read.read_feed.Goals as goal
 
 pub returns-in_err-catalog-clause-fault : goal.returns-in_err-catalog-clause-fault

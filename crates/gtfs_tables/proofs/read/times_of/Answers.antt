@@ -1,5 +1,5 @@
 use Rattle.std.proofs.Common.{ap}
-use Rattle.gtfs_tables.proofs.Times.{times_fault, times_good}
+use Rattle.gtfs_tables.proofs.EqualIdentifiers.{times_fault, times_good}
 use Rattle.gtfs_tables.specs.Files.{bytes_of, files_of, stops_in, trip_ids_in}
 use Rattle.gtfs_tables.proofs.read.times_of.Goals as goal
 

@@ -1,6 +1,6 @@
 use Rattle.std.proofs.Common.{◌≡◌, ◌≢◌, ℕ, ◌<◌, inl, inr, ◌∙◌, sym, slice_index, arith}
 use Rattle.std.proofs.lemmas.Bool.{cases_lt, false≢true}
-use Rattle.rounds.proofs.BatchRows.{lower_arrival}
+use Rattle.rounds.proofs.ArrivalInEachLane.{lower_arrival}
 use Rattle.rounds.proofs.batches.are_told.Goals.{else-not-is_near-via-then-not-is_near+else-not-is_reached}
 use Rattle.rounds.proofs.batches.are_told.Goals.{else-not-is_near-via-else-not-is_near}
 use Rattle.rounds.proofs.batches.are_told.Goals as goal
@@ -14,7 +14,7 @@ loop-stop-preserved g c l p h below departs never = elim (cases_lt p c.loop-stop
       rw e (elim c.else-not-is_near.branch [
         | else-not-is_near-via-then-not-is_near+else-not-is_reached w ↦
             let low =
-            lower_arrival g.R.Row.labels c.args.ride.now c.args.ready.now s l w.index-ride-stop.result
+            lower_arrival g.R.LaneLabels.labels c.args.ride.now c.args.ready.now s l w.index-ride-stop.result
             w.index-ready-stop.result w.index-ride-stop.result w.index-ready-stop.result w.lower_of.result
             w.index-ride-stop.is w.index-ready-stop.is (omega (
               arith,
@@ -32,10 +32,11 @@ returns-then-not-is_reached g c =
       told = (
         λ no. absurd (false≢true no),
         λ h.
-            let reached : (l : ℕ) → l < g.R.Row.LANES → slice_index (g.R.Row.labels c.args.departs) l ≢ g.R.Row.NEVER →
-            slice_index (g.R.Row.labels c.lower_of.result) l ≢ g.R.Row.NEVER = λ l lt departs never. (
+            let reached : (l : ℕ) → l < g.R.LaneLabels.LANES →
+            slice_index (g.R.LaneLabels.labels c.args.departs) l ≢ g.R.LaneLabels.NEVER →
+            slice_index (g.R.LaneLabels.labels c.lower_of.result) l ≢ g.R.LaneLabels.NEVER = λ l lt departs never. (
             let low =
-            lower_arrival g.R.Row.labels c.args.ride.now c.args.ready.now s l c.index-ride-stop.result
+            lower_arrival g.R.LaneLabels.labels c.args.ride.now c.args.ready.now s l c.index-ride-stop.result
             c.index-ready-stop.result c.index-ride-stop.result c.index-ready-stop.result c.lower_of.result
             c.index-ride-stop.is c.index-ready-stop.is (omega (
               arith,

@@ -5,6 +5,7 @@ use Rattle.rounds.proofs.batches.are_told.Given as goal
 
 abbrev pub invariant-loop-stop : goal.invariant-loop-stop
 invariant-loop-stop g v =
-    (l p : ℕ) → l < g.R.Row.LANES → p < v.stop → slice_index (g.R.Row.labels v.departs) l ≢ g.R.Row.NEVER →
-    arrival (lane l (labels_in g.R.Row.labels v.ride)) (lane l (labels_in g.R.Row.labels v.ready)) p
-    ≡ g.R.Row.NEVER → slice_index v.last p < v.base + g.R.Row.NEVER
+    (l p : ℕ) → l < g.R.LaneLabels.LANES → p < v.stop →
+    slice_index (g.R.LaneLabels.labels v.departs) l ≢ g.R.LaneLabels.NEVER →
+    arrival (lane l (labels_in g.R.LaneLabels.labels v.ride)) (lane l (labels_in g.R.LaneLabels.labels v.ready)) p
+    ≡ g.R.LaneLabels.NEVER → slice_index v.last p < v.base + g.R.LaneLabels.NEVER

@@ -1,7 +1,7 @@
 use Rattle.std.proofs.Common.{◌≡◌, ◌≢◌, ℕ, ◌+◌, ◌*◌, ◌<◌, inl, inr, slice_index, sym, ◌∙◌, subst}
 use Rattle.std.proofs.Common.{arith}
 use Rattle.std.proofs.lemmas.Bool.{cases_lt}
-use Rattle.useful_minutes.proofs.Planning.{not_far}
+use Rattle.useful_minutes.proofs.SearchedMinutes.{not_far}
 use Rattle.rounds.specs.Batches.{IsSearchedAt}
 use Rattle.rounds.proofs.batches.departs_of.Goals as goal
 use Rattle.rounds.proofs.batches.departs_of.Goals.{then-from-l, else-from-l}
@@ -10,23 +10,23 @@ pub overflow_sub-time : goal.overflow_sub-time
 overflow_sub-time g c =
     let q = c.args.query in
     let s =
-    not_far q.window.minutes q.searched.now c.requires.asked.searched g.R.Row.LANES c.args.from c.loop-l.l
-    g.met.R.Row.some (omega (arith, c.loop-l-test.true, c.LANES-lanes.ensures)) c.if-from-l.true in
+    not_far q.window.minutes q.searched.now c.requires.asked.searched g.R.LaneLabels.LANES c.args.from c.loop-l.l
+    g.met.R.LaneLabels.some (omega (arith, c.loop-l-test.true, c.LANES-lanes.ensures)) c.if-from-l.true in
     omega (arith, s.0, c.requires.base)
 
 pub alight-departs-requires-clause-arrive : goal.alight-departs-requires-clause-arrive
 alight-departs-requires-clause-arrive g c =
     let q = c.args.query in
     let s =
-    not_far q.window.minutes q.searched.now c.requires.asked.searched g.R.Row.LANES c.args.from c.loop-l.l
-    g.met.R.Row.some (omega (arith, c.loop-l-test.true, c.LANES-lanes.ensures)) c.if-from-l.true in
+    not_far q.window.minutes q.searched.now c.requires.asked.searched g.R.LaneLabels.LANES c.args.from c.loop-l.l
+    g.met.R.LaneLabels.some (omega (arith, c.loop-l-test.true, c.LANES-lanes.ensures)) c.if-from-l.true in
     omega (arith, s.0, s.1, c.requires.base, c.requires.near, c.loop-l-test.true, c.LANES-lanes.ensures)
 
 pub loop-l-preserved : goal.loop-l-preserved
 loop-l-preserved g c =
     let q = c.args.query in
-    let lanes = g.R.Row.LANES in
-    let labels = g.R.Row.labels in
+    let lanes = g.R.LaneLabels.LANES in
+    let labels = g.R.LaneLabels.labels in
     let old = c.loop-l.invariant in
     let l = c.loop-l.l in
     let here : l < lanes = omega (arith, c.loop-l-test.true, c.LANES-lanes.ensures) in
@@ -36,7 +36,8 @@ loop-l-preserved g c =
     elim c.if-from-l.branch [
       | then-from-l w ↦
           let s =
-          not_far q.window.minutes q.searched.now c.requires.asked.searched lanes c.args.from l g.met.R.Row.some (omega (
+          not_far q.window.minutes q.searched.now c.requires.asked.searched lanes c.args.from l g.met.R.LaneLabels.some
+          (omega (
             arith,
             here,
           )) w.if-from-l.true in
@@ -46,12 +47,14 @@ loop-l-preserved g c =
           λ k h ne. told.others k h (λ e. let n = number k h in ne (omega (arith, e, n))) in
           rw w.departs-is (record {
             done = λ k below h. elim (cases_lt k l) [
-              | inl lt ↦ subst (λ (x : ℕ). IsSearchedAt q.window q.searched.now c.args.base g.R.Row.NEVER (c.args.from
+              | inl lt ↦ subst (λ (x : ℕ). IsSearchedAt q.window q.searched.now c.args.base g.R.LaneLabels.NEVER
+                  (c.args.from
                   + k) x) (sym (same k h (λ e. omega (arith, e, lt)))) (old.done k lt h)
               | inr ge ↦
                   let e : l ≡ k = omega (arith, ge, below) in
                   let is = told.rides l here (number l here) in
-                  subst (λ (j : ℕ). IsSearchedAt q.window q.searched.now c.args.base g.R.Row.NEVER (c.args.from + j)
+                  subst (λ (j : ℕ). IsSearchedAt q.window q.searched.now c.args.base g.R.LaneLabels.NEVER
+                  (c.args.from + j)
                   (slice_index (labels w.alight-departs.result) j)) e (record {
                     live = λ _. omega (arith, is, s.0, c.requires.base);
                     dead = λ past. absurd (omega (arith, past, w.if-from-l.true));

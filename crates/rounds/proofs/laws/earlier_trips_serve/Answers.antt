@@ -1,4 +1,4 @@
-use Rattle.rounds.proofs.Leaving.{earlier_serve}
+use Rattle.rounds.proofs.TripsLeftOut.{earlier_serve}
 use Rattle.rounds.proofs.laws.earlier_trips_serve.Goals as goal
 
 pub returns : goal.returns

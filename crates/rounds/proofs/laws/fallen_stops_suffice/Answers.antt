@@ -1,4 +1,4 @@
-use Rattle.rounds.proofs.Leaving.{fallen_suffice, fallen_full}
+use Rattle.rounds.proofs.TripsLeftOut.{fallen_suffice, fallen_full}
 use Rattle.rounds.proofs.laws.fallen_stops_suffice.Goals as goal
 
 pub returns-clause-trip : goal.returns-clause-trip

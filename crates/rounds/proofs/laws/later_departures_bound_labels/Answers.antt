@@ -1,4 +1,4 @@
-use Rattle.rounds.proofs.Later.{later_ready_no_earlier, later_ridden_no_earlier}
+use Rattle.rounds.proofs.LaterStarts.{later_ready_no_earlier, later_ridden_no_earlier}
 use Rattle.rounds.proofs.laws.later_departures_bound_labels.Goals as goal
 
 pub returns-clause-ready : goal.returns-clause-ready

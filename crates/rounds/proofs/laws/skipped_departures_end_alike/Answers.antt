@@ -1,4 +1,4 @@
-use Rattle.rounds.proofs.Skipping.{all_end_alike, all_follow}
+use Rattle.rounds.proofs.SkippedDepartures.{all_end_alike, all_follow}
 use Rattle.rounds.proofs.laws.skipped_departures_end_alike.Goals as goal
 
 pub returns-clause-ends : goal.returns-clause-ends

@@ -1,14 +1,14 @@
 use Rattle.std.proofs.Common.{◌≡◌, ◌≤◌, ◌*◌, ℕ, List, length, sym, ◌∙◌, ap, subst}
 use Rattle.std.proofs.lemmas.Option.{same_Some}
-use Rattle.timetable.specs.Steps.{Lowers}
-use Rattle.timetable.proofs.Known.{all_at}
+use Rattle.timetable.specs.RoundSteps.{Lowers}
+use Rattle.timetable.proofs.KnownParts.{all_at}
 use Rattle.timetable.specs.LineViews.{rows_of_line}
 use Rattle.trip_lanes.specs.Lane.{lane, labels_in}
 use Rattle.rounds.specs.Cut.{cut_trips}
 use Rattle.rounds.specs.Scan.{CarriesLine}
 use Rattle.rounds.proofs.CutNetworks.{cut_line, cut_stops, cut_none_overtakes, table_view}
-use Rattle.rounds.proofs.LineTrips.{line_at}
-use Rattle.rounds.proofs.Lined.{rows_long, line_scanned, call_stops}
+use Rattle.rounds.proofs.LinesSuffice.{line_at}
+use Rattle.rounds.proofs.TripsAsRows.{rows_long, line_scanned, call_stops}
 use Rattle.rounds.proofs.scan.scan_trips.Goals as goal
 
 pub scan_line-requires-clause-times : goal.scan_line-requires-clause-times
@@ -24,7 +24,7 @@ scan_line-requires-clause-times g c =
 pub scan_line-requires-clause-stops : goal.scan_line-requires-clause-stops
 scan_line-requires-clause-stops g c =
     let base = c.args.round.base in
-    let cap = g.R.Row.NEVER in
+    let cap = g.R.LaneLabels.NEVER in
     let trips = c.args.round.trips.now in
     let line = c.trips_of-row.result.now in
     let stops = length c.args.ride.now in
@@ -39,13 +39,13 @@ scan_line-requires-clause-stops g c =
 
 pub scan_line-requires-clause-few : goal.scan_line-requires-clause-few
 scan_line-requires-clause-few g c = all_at (λ (row : List ℕ). length row
-    ≤ g.R.Row.NEVER) c.args.round.lines.now.lines c.args.line c.trips_of-row.result.now c.requires.short
+    ≤ g.R.LaneLabels.NEVER) c.args.round.lines.now.lines c.args.line c.trips_of-row.result.now c.requires.short
     c.trips_of-row.ensures
 
 pub returns-clause-lanes : goal.returns-clause-lanes
 returns-clause-lanes g c row at l h =
     let base = c.args.round.base in
-    let cap = g.R.Row.NEVER in
+    let cap = g.R.LaneLabels.NEVER in
     let trips = cut_trips base cap c.args.round.trips.now in
     let line = c.trips_of-row.result.now in
     let lines = c.args.round.lines.now in
@@ -59,9 +59,9 @@ returns-clause-lanes g c row at l h =
     let long = rows_long trips line is in
     let order = cut_none_overtakes base cap c.args.round.trips.now line whole in
     let was = c.requires.before line c.trips_of-row.ensures l h in
-    let ready = lane l (labels_in g.R.Row.labels c.args.round.labels.ready.now) in
-    let old = lane l (labels_in g.R.Row.labels c.args.ride.now) in
-    let new = lane l (labels_in g.R.Row.labels c.scan_line.new.ride) in
+    let ready = lane l (labels_in g.R.LaneLabels.labels c.args.round.labels.ready.now) in
+    let old = lane l (labels_in g.R.LaneLabels.labels c.args.ride.now) in
+    let new = lane l (labels_in g.R.LaneLabels.labels c.scan_line.new.ride) in
     let same : line ≡ row = same_Some line row (sym c.trips_of-row.ensures ∙ at) in
     subst (λ (x : List ℕ). Lowers (CarriesLine ready trips x) old new) same
     (line_scanned trips line is c.args.first was.before ready old new was.first was.settled

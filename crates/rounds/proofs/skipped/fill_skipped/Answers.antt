@@ -5,48 +5,40 @@ use Rattle.std.proofs.lemmas.Bool.{cases_lt}
 use Rattle.std.proofs.lemmas.List.{get_or_default}
 use Rattle.timetable.specs.Least.{IsLeastOrNever}
 use Rattle.timetable.specs.Journeys.{IsDuration}
-use Rattle.useful_minutes.proofs.Planning.{few_searched, searched_whole}
+use Rattle.useful_minutes.proofs.SearchedMinutes.{few_searched, plan_steps, searched_whole}
 use Rattle.rounds.specs.Table.{batches_of, label_of}
 use Rattle.rounds.specs.Window.{departure}
-use Rattle.rounds.proofs.Skipping.{filled_in}
+use Rattle.rounds.proofs.SkippedDepartures.{filled_in}
 use Rattle.rounds.proofs.skipped.fill_skipped.Goals as goal
 
 pub fill_in-requires-clause-rows : goal.fill_in-requires-clause-rows
-fill_in-requires-clause-rows c =
-    let e = ap length c.as_mut_slice-room.ensures.value in (
-      batches_of c.args.query.window.minutes,
-      omega (arith, e, c.in_ok-near.ensures.len, c.in_ok-near.near.ok.0),
-      c.requires.packed.size ∙ ap (λ (x : ℕ). x * batches_of c.args.query.window.minutes) (sym c.stops-stops.ensures),
-    )
-
-pub fill_in-requires-clause-positions : goal.fill_in-requires-clause-positions
-fill_in-requires-clause-positions c =
-    let e = ap length c.as_mut_slice-room.ensures.value in
-    omega (arith, e, c.in_ok-near.ensures.len, c.in_ok-near.near.ok.0, c.requires.plan.long)
+fill_in-requires-clause-rows c = (
+  batches_of c.args.query.window.minutes,
+  c.requires.plan.long,
+  c.requires.packed.size ∙ ap (λ (x : ℕ). x * batches_of c.args.query.window.minutes) (sym c.stops-stops.ensures),
+)
 
 pub fill_in-requires-clause-waits : goal.fill_in-requires-clause-waits
-fill_in-requires-clause-waits c =
-    let e = ap length c.as_mut_slice-room.ensures.value in
-    omega (arith, e, c.in_ok-near.ensures.len, c.in_ok-near.near.ok.0, c.requires.plan.too)
+fill_in-requires-clause-waits c = c.requires.plan.too ∙ sym c.requires.plan.long
+
+pub fill_in-requires-clause-steps : goal.fill_in-requires-clause-steps
+fill_in-requires-clause-steps c = plan_steps _ _ _ _ _ c.requires.plan
 
 pub fill_in-requires-clause-within : goal.fill_in-requires-clause-within
 fill_in-requires-clause-within c k d l =
-    let e = ap length c.as_mut_slice-room.ensures.value in
     let q = c.args.query in
     let plan = c.requires.plan in
-    let positions = c.args.positions.now in
-    let few = few_searched q.window.minutes q.searched.now plan.are in
-    let same = get_or_default positions k d 0 l in
-    let room : 16 * batches_of q.window.minutes ≡ length c.as_mut_slice-room.result.now =
-    omega (arith, e, c.in_ok-near.ensures.len, c.in_ok-near.near.ok.0) in
+    let same = get_or_default c.args.positions.now k d 0 l in
     elim (cases_lt k q.window.minutes) [
-      | inl lt ↦
-          let s = (plan.each k lt).within in
-          omega (arith, same, s, few, room)
-      | inr ge ↦
-          let s = plan.past k ge (omega (arith, l, plan.long)) in
-          omega (arith, same, s, l, plan.long, room)
+      | inl lt ↦ let s = (plan.each k lt).within in omega (arith, same, s)
+      | inr ge ↦ let s = plan.past k ge (omega (arith, l, plan.long)) in omega (arith, same, s)
     ]
+
+pub fill_in-requires-clause-few : goal.fill_in-requires-clause-few
+fill_in-requires-clause-few c =
+    let few = few_searched c.args.query.window.minutes c.args.query.searched.now c.requires.plan.are in
+    let other = c.if-query-minutes.false in
+    omega (arith, few, other, c.requires.plan.long)
 
 pub returns : goal.returns
 returns c =
@@ -58,10 +50,8 @@ returns c =
     let positions = c.args.positions.now in
     let searched = q.searched.now in
     let rows = batches_of w.minutes in
-    let e = ap length c.as_mut_slice-room.ensures.value in
-    let room : length c.as_mut_slice-room.result.now ≡ 16 * rows =
-    omega (arith, e, c.in_ok-near.ensures.len, c.in_ok-near.near.ok.0) in
-    let filled = c.fill_in.ensures in
+    let room = plan.long in
+    let filled = c.in_ok-fill_in.ensures in
     let walked = c.walk_alone.ensures in
     let stops : c.stops-stops.result ≡ n.stops = c.stops-stops.ensures in
     let few = few_searched w.minutes searched plan.are in
@@ -83,9 +73,9 @@ returns c =
       dead = λ p m there past l.
           let kept = walked.kept p m there past l in
           let label = filled.filled rows p m room (omega (arith, there, stops)) (omega (arith, l, room)) in
-          let itself = plan.past m past l in
-          let none = packed.dead p m there (omega (arith, few, past)) l in
-          let same = ap (λ (x : ℕ). label_of w.minutes c.args.labels.now p x) itself in
+          let after = plan.past m past l in
+          let none = packed.dead p (length searched) there (omega arith) (omega (arith, few, past, l)) in
+          let same = ap (λ (x : ℕ). label_of w.minutes c.args.labels.now p x) after in
           omega (arith, kept, label, same, none);
     }
 

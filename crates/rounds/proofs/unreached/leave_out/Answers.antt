@@ -1,16 +1,17 @@
 use Rattle.std.proofs.Common.{◌<◌, inl, inr, arith}
 use Rattle.std.proofs.lemmas.Bool.{cases_eq}
 use Rattle.std.proofs.lemmas.List.{get_or-set_same, get_or-set_other}
-use Rattle.rounds.proofs.BatchRows.{lower_arrival}
+use Rattle.rounds.proofs.ArrivalInEachLane.{lower_arrival}
 use Rattle.rounds.proofs.unreached.leave_out.Goals as goal
 
 pub loop-stop-preserved : goal.loop-stop-preserved
 loop-stop-preserved g c =
     let s = c.loop-stop.stop in
-    let some : 0 < g.R.Row.LANES = omega (arith, g.met.R.Row.some) in
+    let some : 0 < g.R.LaneLabels.LANES = omega (arith, g.met.R.LaneLabels.some) in
     let here = get_or-set_same c.loop-stop.last s c.number_of-number.result 0 (omega arith) in
     let low =
-    lower_arrival g.R.Row.labels c.args.ride.now c.args.ready.now s 0 c.index-ride-stop.result c.index-ready-stop.result
+    lower_arrival g.R.LaneLabels.labels c.args.ride.now c.args.ready.now s 0 c.index-ride-stop.result
+    c.index-ready-stop.result
     c.index-ride-stop.result c.index-ready-stop.result c.lower_of.result
     c.index-ride-stop.is c.index-ready-stop.is (omega (arith, c.requires.ride)) (omega (
       arith,

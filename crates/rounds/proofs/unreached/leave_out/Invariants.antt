@@ -7,6 +7,7 @@ abbrev pub invariant-loop-stop : goal.invariant-loop-stop
 invariant-loop-stop g v =
     record {
       falls : (p : ℕ) → slice_index v.last p ≤ slice_index v.initial.last p;
-      kept : (p : ℕ) → arrival (lane 0 (labels_in g.R.Row.labels v.ride)) (lane 0 (labels_in g.R.Row.labels v.ready)) p
-          ≢ g.R.Row.NEVER → slice_index v.last p ≡ slice_index v.initial.last p;
+      kept : (p : ℕ) → arrival (lane 0 (labels_in g.R.LaneLabels.labels v.ride))
+          (lane 0 (labels_in g.R.LaneLabels.labels v.ready)) p
+          ≢ g.R.LaneLabels.NEVER → slice_index v.last p ≡ slice_index v.initial.last p;
     }

@@ -1,6 +1,6 @@
 use Rattle.std.proofs.Common.{inl, inr}
 use Rattle.std.proofs.lemmas.Result.{err_from_is_err_and}
-use Rattle.scenarios.proofs.Fitting.{too_large}
+use Rattle.scenarios.proofs.RunsTooLarge.{too_large}
 use Rattle.scenarios.proofs.networks.kept_trips.Goals as goal
 
 pub returns-in_err-add_run-clause-fault : goal.returns-in_err-add_run-clause-fault

@@ -7,8 +7,8 @@ use Rattle.std.proofs.lemmas.List.{length-map}
 use Rattle.std.proofs.lemmas.List.FromFn.{length-map-range_with_len}
 use Rattle.std.specs.List.{range_with_len}
 use Rattle.service_days.specs.Instances.{departing, runs_of_row}
-use Rattle.service_days.proofs.Departing.{length_of_row, row_more}
-use Rattle.service_days.proofs.Listing.{fault_of_more}
+use Rattle.service_days.proofs.DepartureCounts.{length_of_row, row_more}
+use Rattle.service_days.proofs.RunLists.{fault_of_more}
 use Rattle.service_days.proofs.departures.add_row.Goals as goal
 
 pub returns-then-count-room-clause-fault : goal.returns-then-count-room-clause-fault

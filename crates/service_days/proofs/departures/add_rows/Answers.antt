@@ -1,7 +1,7 @@
 use Rattle.std.proofs.Common.{refl}
 use Rattle.std.proofs.lemmas.Result.{err_from_is_err_and}
 use Rattle.service_days.specs.Instances.{runs_of_row}
-use Rattle.service_days.proofs.Listing.{fault_of_part}
+use Rattle.service_days.proofs.RunLists.{fault_of_part}
 use Rattle.service_days.proofs.departures.add_rows.Goals as goal
 
 pub returns-in_err-add_row-clause-fault : goal.returns-in_err-add_row-clause-fault

@@ -1,5 +1,5 @@
 use Rattle.std.proofs.Common.{arith}
-use Rattle.service_days.proofs.Departing.{departures_by_count, departures_by_quotient}
+use Rattle.service_days.proofs.DepartureCounts.{departures_by_count, departures_by_quotient}
 use Rattle.service_days.proofs.departures.departure_count.Goals as goal
 
 pub returns-then-row-clause-departures : goal.returns-then-row-clause-departures

@@ -2,7 +2,7 @@ use Rattle.std.proofs.Common.{◌≡◌, ◌+◌, ◌-◌, List, arith, rules, s
 use Rattle.std.specs.Prelude.{All}
 use Rattle.service_days.specs.Instances.{IsRun, runs_of_days}
 use Rattle.service_days.specs.declared.run.Run.{Run}
-use Rattle.service_days.proofs.Running.{all_runs}
+use Rattle.service_days.proofs.RunFacts.{all_runs}
 use Rattle.service_days.proofs.instances.active.Goals as goal
 
 pub returns-clause-runs : goal.returns-clause-runs

@@ -6,7 +6,7 @@ use Rattle.gtfs_tables.specs.declared.trip.FeedTrip.{FeedTrip}
 use Rattle.service_days.specs.Instances.{runs_if}
 use Rattle.service_days.specs.declared.run.Run.{Run}
 use Rattle.std.proofs.Common.{List}
-use Rattle.service_days.proofs.Listing.{fault_of_part, list_more, list_whole, numbered}
+use Rattle.service_days.proofs.RunLists.{fault_of_part, list_more, list_whole, numbered}
 use Rattle.service_days.proofs.instances.add_day.Goals as goal
 
 pub returns-in_err-add_if_running-clause-fault : goal.returns-in_err-add_if_running-clause-fault

@@ -4,7 +4,7 @@ use Rattle.std.proofs.lemmas.List.FromFn.{length-range_with_len}
 use Rattle.std.specs.List.{range_with_len}
 use Rattle.service_days.specs.Instances.{IsListFault, runs_of_day}
 use Rattle.service_days.specs.declared.run.Run.{Run}
-use Rattle.service_days.proofs.Listing.{fault_of_part, list_more, list_whole, number_at}
+use Rattle.service_days.proofs.RunLists.{fault_of_part, list_more, list_whole, number_at}
 use Rattle.service_days.proofs.instances.add_days.Goals as goal
 
 pub returns-in_err-add_day-clause-fault : goal.returns-in_err-add_day-clause-fault

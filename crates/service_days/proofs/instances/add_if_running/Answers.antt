@@ -5,7 +5,7 @@ use Rattle.gtfs_tables.specs.declared.trip.FeedTrip.{FeedTrip}
 use Rattle.service_days.specs.Services.{runs_on}
 use Rattle.service_days.specs.Instances.{IsListFault, runs_of_trip}
 use Rattle.service_days.specs.declared.run.Run.{Run}
-use Rattle.service_days.proofs.Listing.{all_at, left_out, read_at, taken_in}
+use Rattle.service_days.proofs.RunLists.{all_at, left_out, read_at, taken_in}
 use Rattle.service_days.proofs.instances.add_if_running.Goals as goal
 
 pub returns-then-not-index-clause-good : goal.returns-then-not-index-clause-good

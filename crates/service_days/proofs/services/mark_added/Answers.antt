@@ -1,7 +1,7 @@
 use Rattle.std.proofs.Common.{◌+◌, ap, ◌==◌, ◌&&◌, ◌∙◌, Bool, false, get_or, sym, arith, ℕ}
 use Rattle.table_files.specs.declared.calendar_dates.ExceptionRow.{ExceptionRow}
 use Rattle.gtfs_tables.specs.Feed.{day_number}
-use Rattle.service_days.proofs.Marking.{marked, still_marked}
+use Rattle.service_days.proofs.ServiceMarks.{marked, still_marked}
 use Rattle.service_days.proofs.services.mark_added.Goals as goal
 use Rattle.service_days.proofs.services.mark_added.Goals.{then-adds, else-adds}
 

@@ -2,7 +2,7 @@ use Rattle.std.proofs.Common.{◌+◌, false, get_or, refl, arith}
 use Rattle.std.specs.List.{list_any}
 use Rattle.gtfs_tables.specs.Feed.{calendar_data, exception_data}
 use Rattle.service_days.specs.Services.{adds, removes, schedules}
-use Rattle.service_days.proofs.Marking.{added_by_rows, marked_in_turn, removed_by_rows, scheduled_by_rows}
+use Rattle.service_days.proofs.ServiceMarks.{added_by_rows, marked_in_turn, removed_by_rows, scheduled_by_rows}
 use Rattle.service_days.proofs.services.mark_running.Goals as goal
 
 pub returns : goal.returns

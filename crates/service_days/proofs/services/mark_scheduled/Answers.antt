@@ -2,7 +2,7 @@ use Rattle.std.proofs.Common.{◌+◌, ap, ◌∙◌, Bool, false, get_or, sym, 
 use Rattle.table_files.specs.declared.calendar.CalendarRow.{CalendarRow}
 use Rattle.service_days.specs.Services.{covers}
 use Rattle.gtfs_tables.specs.Feed.{calendar_data}
-use Rattle.service_days.proofs.Marking.{marked, still_marked}
+use Rattle.service_days.proofs.ServiceMarks.{marked, still_marked}
 use Rattle.service_days.proofs.services.mark_scheduled.Goals as goal
 use Rattle.service_days.proofs.services.mark_scheduled.Goals.{then-covers, else-covers}
 

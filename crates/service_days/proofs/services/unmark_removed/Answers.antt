@@ -1,7 +1,7 @@
 use Rattle.std.proofs.Common.{◌+◌, ap, ◌==◌, ◌&&◌, ◌∙◌, Bool, false, not, get_or, sym, arith, ℕ}
 use Rattle.table_files.specs.declared.calendar_dates.ExceptionRow.{ExceptionRow}
 use Rattle.gtfs_tables.specs.Feed.{day_number}
-use Rattle.service_days.proofs.Marking.{unmarked, still_unmarked}
+use Rattle.service_days.proofs.ServiceMarks.{unmarked, still_unmarked}
 use Rattle.service_days.proofs.services.unmark_removed.Goals as goal
 use Rattle.service_days.proofs.services.unmark_removed.Goals.{then-removes, else-removes}
 

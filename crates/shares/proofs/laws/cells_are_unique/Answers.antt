@@ -1,5 +1,5 @@
-use Rattle.shares.proofs.There.{cells_there}
-use Rattle.shares.proofs.Unique.{cell_unique, cells_unique}
+use Rattle.shares.proofs.CellsExist.{cells_there}
+use Rattle.shares.proofs.CellsUnique.{cell_unique, cells_unique}
 use Rattle.shares.proofs.laws.cells_are_unique.Goals as goal
 
 pub returns-clause-cell : goal.returns-clause-cell

@@ -1,7 +1,7 @@
 use Rattle.std.proofs.Common.{◌<◌, ◌∙◌, None, get_or, length, arith, ap, take, List, ℕ, Option}
 use Rattle.std.proofs.lemmas.List.{take_all}
 use Rattle.shares.specs.Opportunities.{access_of}
-use Rattle.shares.proofs.Summing.{access_next}
+use Rattle.shares.proofs.AccessByStops.{access_next}
 use Rattle.shares.proofs.opportunities.access_at.Goals as goal
 
 pub loop-i-preserved : goal.loop-i-preserved

@@ -1,5 +1,5 @@
 use Rattle.rounds.specs.Table.{at}
-use Rattle.shares.proofs.Attaining.{counted_in, counted_out}
+use Rattle.shares.proofs.MinutesWithinLimits.{counted_in, counted_out}
 use Rattle.shares.proofs.opportunities.count_at.Goals as goal
 
 pub returns-then-is_reached-clause-value : goal.returns-then-is_reached-clause-value

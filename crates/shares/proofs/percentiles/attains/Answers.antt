@@ -1,6 +1,6 @@
 use Rattle.std.proofs.Common.{◌∙◌}
 use Rattle.rounds.specs.Table.{known_of, label_in}
-use Rattle.shares.proofs.Counting.{attains_counted, count_live}
+use Rattle.shares.proofs.MinutesCounted.{attains_counted, count_live}
 use Rattle.shares.proofs.percentiles.attains.Goals as goal
 
 pub returns : goal.returns

@@ -1,7 +1,7 @@
 use Rattle.std.proofs.Common.{ℕ, sym, subst}
 use Rattle.rounds.specs.Table.{at, known_of, label_in, IsLeastOrNone}
 use Rattle.shares.specs.Percentiles.{Attains, HoldMinutes}
-use Rattle.shares.proofs.Attaining.{cell_alike}
+use Rattle.shares.proofs.MinutesWithinLimits.{cell_alike}
 use Rattle.shares.proofs.percentiles.cell.Goals as goal
 
 pub least_attained-requires-clause-lanes : goal.least_attained-requires-clause-lanes

@@ -2,7 +2,7 @@ use Rattle.std.proofs.Common.{◌∙◌, ℕ, Option, Vec, Global, map, ap}
 use Rattle.std.specs.List.{range_with_len}
 use Rattle.std.proofs.lemmas.Result.{IfOk-weaker}
 use Rattle.shares.specs.Percentiles.{AreCells, AreCellsAt}
-use Rattle.shares.proofs.AllStops.{all_cells, all_within, stop_no}
+use Rattle.shares.proofs.CellsOfAllStops.{all_cells, all_within, stop_no}
 use Rattle.shares.proofs.percentiles.cells.Goals as goal
 
 pub cells_at-requires-clause-stops : goal.cells_at-requires-clause-stops

@@ -5,7 +5,7 @@ use Rattle.std.proofs.lemmas.List.{length-append}
 use Rattle.std.proofs.lemmas.Option.{slice_get_within, slice_get-get_or}
 use Rattle.timetable.specs.declared.trips.StopNo.{StopNo}
 use Rattle.shares.specs.Percentiles.{IsCell}
-use Rattle.shares.proofs.Attaining.{cells_at_more}
+use Rattle.shares.proofs.MinutesWithinLimits.{cells_at_more}
 use Rattle.shares.proofs.percentiles.cells_at.Goals as goal
 
 pub loop-k-preserved : goal.loop-k-preserved

@@ -3,7 +3,7 @@ use Rattle.std.proofs.lemmas.List.Sums.{count_by-le-length}
 use Rattle.std.proofs.lemmas.Simd.{bitmask_splat, ones-mask_l}
 use Rattle.std.specs.Int.RustNames.{count_ones}
 use mir.Syntax.{w32}
-use Rattle.shares.proofs.Counting.{count_lanes}
+use Rattle.shares.proofs.MinutesCounted.{count_lanes}
 use Rattle.shares.proofs.percentiles.count_batch.Goals as goal
 
 pub returns-clause-count : goal.returns-clause-count

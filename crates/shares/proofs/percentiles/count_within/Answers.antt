@@ -1,5 +1,5 @@
 use Rattle.std.proofs.Common.{arith}
-use Rattle.shares.proofs.Counting.{count_batches}
+use Rattle.shares.proofs.MinutesCounted.{count_batches}
 use Rattle.shares.proofs.percentiles.count_within.Goals as goal
 
 pub loop-batch-preserved : goal.loop-batch-preserved

@@ -3,7 +3,7 @@ use Rattle.std.proofs.lemmas.Bool.{cases_lt}
 use Rattle.std.proofs.lemmas.Simd.{get_or-replicate}
 use Rattle.timetable.specs.declared.least.TheConstants.{NEVER}
 use Rattle.shares.specs.Percentiles.{known_label}
-use Rattle.shares.proofs.Counting.{never_known, reached_more}
+use Rattle.shares.proofs.MinutesCounted.{never_known, reached_more}
 use Rattle.shares.proofs.percentiles.greatest.Goals as goal
 
 neither : (a b : ℕ) → a ≢ NEVER → b ≢ NEVER → max a b ≢ NEVER

@@ -1,7 +1,7 @@
 use Rattle.std.proofs.Common.{◌≡◌, ◌∙◌, ℕ, eqb, ltb, length, max, get_or, replicate, ap, refl, arith}
 use Rattle.std.proofs.lemmas.Simd.{get_or-replicate}
 use Rattle.timetable.specs.declared.least.TheConstants.{NEVER}
-use Rattle.trip_lanes.proofs.Select.{chosen, sel_at, length-chosen, max_if}
+use Rattle.trip_lanes.proofs.VectorChoices.{chosen, sel_at, length-chosen, max_if}
 use Rattle.shares.specs.Percentiles.{known_label}
 use Rattle.shares.proofs.percentiles.higher_of.Goals as goal
 use mir.Syntax.{w32}

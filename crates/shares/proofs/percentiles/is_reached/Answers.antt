@@ -2,7 +2,7 @@ use Rattle.std.proofs.Common.{◌≡◌, ◌<◌, ◌≤◌, ℕ, Some, sym, sub
 use Rattle.std.specs.Prelude.{IsTrue, ◌↔◌}
 use Rattle.rounds.specs.Table.{at, known_of, label_in}
 use Rattle.shares.specs.Percentiles.{Attains, HoldMinutes}
-use Rattle.shares.proofs.Attaining.{reached_further, reached_nearer}
+use Rattle.shares.proofs.MinutesWithinLimits.{reached_further, reached_nearer}
 use Rattle.shares.proofs.percentiles.is_reached.Goals as goal
 
 pub attains-requires-clause-lanes : goal.attains-requires-clause-lanes

@@ -2,7 +2,7 @@ use Rattle.std.proofs.Common.{◌≡◌, ◌≤◌, ◌+◌, ◌-◌, ◌/◌, �
 use Rattle.std.proofs.lemmas.Bool.{cases_lt}
 use Rattle.shares.specs.Percentiles.{Attains}
 use Rattle.rounds.specs.Table.{known_of, label_in}
-use Rattle.shares.proofs.Attaining.{attains_more, attains_top}
+use Rattle.shares.proofs.MinutesWithinLimits.{attains_more, attains_top}
 use Rattle.shares.proofs.percentiles.least_attained.Goals as goal
 
 pub loop-low-preserved : goal.loop-low-preserved

@@ -3,7 +3,7 @@ use Rattle.std.proofs.Common.{sym, subst, arith}
 use Rattle.std.proofs.lemmas.Bool.{lt-ltb, le-ltb}
 use Rattle.std.proofs.lemmas.Grind.{pow_more}
 use Rattle.shares.specs.Planes.{AreMasks, count_of, has, words_of}
-use Rattle.shares.proofs.Narrowing.{Narrowed, high, ones_few, step_ones, step_zeros, narrowed_first, narrowed_last}
+use Rattle.shares.proofs.RankBitByBit.{Narrowed, high, ones_few, step_ones, step_zeros, narrowed_first, narrowed_last}
 use Rattle.shares.proofs.planes.descend.Goals as goal
 use Rattle.shares.proofs.planes.descend.Goals.{then-zeros-left, else-zeros-left}
 

@@ -1,5 +1,5 @@
 use Rattle.std.proofs.Common.{◌≡◌, ◌<◌, ◌-◌, ◌^◌, length}
-use Rattle.shares.proofs.Narrowing.{Narrowed}
+use Rattle.shares.proofs.RankBitByBit.{Narrowed}
 use Rattle.shares.proofs.planes.descend.Given as goal
 
 abbrev pub invariant-loop-k : goal.invariant-loop-k

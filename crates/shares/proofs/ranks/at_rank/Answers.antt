@@ -1,7 +1,7 @@
 use Rattle.std.proofs.Common.{◌≡◌, ◌+◌, ◌*◌, ◌/◌, ◌-◌, ℕ, subst, arith}
 use Rattle.shares.specs.Planes.{IsRanked}
-use Rattle.shares.proofs.Ranking.{rank_of}
-use Rattle.shares.proofs.Planed.{minutes_shown, cell_ranked, none_ranked}
+use Rattle.shares.proofs.RankAmongMinutes.{rank_of}
+use Rattle.shares.proofs.RankIsCell.{minutes_shown, cell_ranked, none_ranked}
 use Rattle.shares.proofs.ranks.at_rank.Goals as goal
 
 pub value_at-value-requires-clause-rank : goal.value_at-value-requires-clause-rank

@@ -2,7 +2,7 @@ use Rattle.std.proofs.Common.{◌∙◌, ℕ, Option, Vec, Global, map, ap}
 use Rattle.std.specs.List.{range_with_len}
 use Rattle.std.proofs.lemmas.Result.{IfOk-weaker}
 use Rattle.shares.specs.Percentiles.{AreCellsOf, AreCellsOfAt}
-use Rattle.shares.proofs.AllStops.{all_lists, all_within, stop_no}
+use Rattle.shares.proofs.CellsOfAllStops.{all_lists, all_within, stop_no}
 use Rattle.shares.proofs.ranks.cells_of.Goals as goal
 
 pub cells_of_at-requires-clause-stops : goal.cells_of_at-requires-clause-stops

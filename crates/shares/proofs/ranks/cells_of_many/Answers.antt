@@ -3,7 +3,7 @@ use Rattle.std.proofs.lemmas.Option.{slice_get_within, slice_get-get_or}
 use Rattle.timetable.specs.declared.trips.StopNo.{StopNo}
 use Rattle.shares.specs.Ranks.{AreLonger}
 use Rattle.shares.specs.Percentiles.{HoldMinutes}
-use Rattle.shares.proofs.Ranking.{AreBegun, begun_next, written_back}
+use Rattle.shares.proofs.RankAmongMinutes.{AreBegun, begun_next, written_back}
 use Rattle.shares.proofs.ranks.cells_of_many.Goals as goal
 
 pub push_cells-requires-clause-lanes : goal.push_cells-requires-clause-lanes

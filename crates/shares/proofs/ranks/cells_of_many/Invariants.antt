@@ -1,5 +1,5 @@
 use Rattle.std.proofs.Common.{◌≡◌, length}
-use Rattle.shares.proofs.Ranking.{AreBegun}
+use Rattle.shares.proofs.RankAmongMinutes.{AreBegun}
 use Rattle.shares.proofs.ranks.cells_of_many.Given as goal
 
 abbrev pub invariant-loop-n : goal.invariant-loop-n

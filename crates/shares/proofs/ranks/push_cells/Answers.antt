@@ -1,6 +1,6 @@
 use Rattle.std.proofs.Common.{◌<◌, length, get_or, arith}
 use Rattle.std.proofs.lemmas.Option.{slice_get_within, slice_get-get_or}
-use Rattle.shares.proofs.Ranking.{longer_next}
+use Rattle.shares.proofs.RankAmongMinutes.{longer_next}
 use Rattle.shares.proofs.ranks.push_cells.Goals as goal
 
 pub loop-k-preserved : goal.loop-k-preserved

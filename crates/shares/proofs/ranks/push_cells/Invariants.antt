@@ -1,4 +1,4 @@
-use Rattle.shares.proofs.Ranking.{AreLongerBelow}
+use Rattle.shares.proofs.RankAmongMinutes.{AreLongerBelow}
 use Rattle.shares.proofs.ranks.push_cells.Given as goal
 
 abbrev pub invariant-loop-k : goal.invariant-loop-k

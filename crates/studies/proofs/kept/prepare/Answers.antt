@@ -26,14 +26,16 @@ returns-in_err-check_names-clause-no_run g c =
     let i = inputs_of c.args.inputs.now in
     let s = c.args.settings.now in
     let e = c.in_err-check_names.field-0.0 in
-    err_by IsOfNoRun c.from_residual.result e c.from_residual.ensures.1 (names_no_run e i.scenarios c.in_err-check_names.ensures.fault)
+    err_by IsOfNoRun c.from_residual.result e c.from_residual.ensures.1
+    (names_no_run e i.scenarios c.in_err-check_names.ensures.fault)
 
 pub returns-in_err-held-clause-fault : goal.returns-in_err-held-clause-fault
 returns-in_err-held-clause-fault g c =
     let i = inputs_of c.args.inputs.now in
     let s = c.args.settings.now in
     let e = c.in_err-held.field-0.0 in
-    err_by (λ (e : StudyFault). Tells e i s) c.from_residual-in_err-held.result (fault.Feed e) c.from_residual-in_err-held.ensures.1
+    err_by (λ (e : StudyFault). Tells e i s) c.from_residual-in_err-held.result (fault.Feed e)
+    c.from_residual-in_err-held.ensures.1
     (feed_told i s e (are_named i s c.in_ok-check_names.ensures.good) c.in_err-held.ensures.fault)
 
 pub returns-in_err-held-clause-no_run : goal.returns-in_err-held-clause-no_run
@@ -51,7 +53,8 @@ returns-in_err-walks-clause-fault g c =
     let is = is_feed i s c.in_ok-held.held.value feed c.as_ref-feed.ensures c.in_ok-held.ensures.good
     c.in_ok-held.ensures.feed in
     let e = c.in_err-walks.field-0.0 in
-    err_by (λ (e : StudyFault). Tells e i s) c.from_residual-in_err-walks.result (fault.Feed e) c.from_residual-in_err-walks.ensures.1
+    err_by (λ (e : StudyFault). Tells e i s) c.from_residual-in_err-walks.result (fault.Feed e)
+    c.from_residual-in_err-walks.ensures.1
     (direct_told i s e feed (are_named i s c.in_ok-check_names.ensures.good) is c.in_err-walks.ensures.fault)
 
 pub returns-in_err-walks-clause-no_run : goal.returns-in_err-walks-clause-no_run
@@ -72,7 +75,8 @@ returns-in_err-tables-clause-fault g c =
     let is = is_feed i s c.in_ok-held.held.value feed c.as_ref-feed.ensures c.in_ok-held.ensures.good
     c.in_ok-held.ensures.feed in
     let e = c.in_err-tables.field-0.0 in
-    err_by (λ (e : StudyFault). Tells e i s) c.from_residual-in_err-tables.result e c.from_residual-in_err-tables.ensures.1
+    err_by (λ (e : StudyFault). Tells e i s) c.from_residual-in_err-tables.result e
+    c.from_residual-in_err-tables.ensures.1
     (tables_told i s e feed (are_named i s c.in_ok-check_names.ensures.good) is c.in_ok-walks.ensures.good
     c.in_err-tables.ensures.fault)
 
@@ -84,7 +88,8 @@ returns-in_err-tables-clause-no_run g c =
     let is = is_feed i s c.in_ok-held.held.value feed c.as_ref-feed.ensures c.in_ok-held.ensures.good
     c.in_ok-held.ensures.feed in
     let e = c.in_err-tables.field-0.0 in
-    err_by IsOfNoRun c.from_residual-in_err-tables.result e c.from_residual-in_err-tables.ensures.1 (tables_no_run e i feed c.in_err-tables.ensures.fault)
+    err_by IsOfNoRun c.from_residual-in_err-tables.result e c.from_residual-in_err-tables.ensures.1
+    (tables_no_run e i feed c.in_err-tables.ensures.fault)
 
 pub network_parts-requires-clause-read : goal.network_parts-requires-clause-read
 network_parts-requires-clause-read g c =
@@ -114,7 +119,8 @@ returns-in_err-parts-clause-fault g c =
     let i = inputs_of c.args.inputs.now in
     let s = c.args.settings.now in
     let e = c.in_err-parts.field-0.0 in
-    err_by (λ (e : StudyFault). Tells e i s) c.from_residual-in_err-parts.result e c.from_residual-in_err-parts.ensures.1
+    err_by (λ (e : StudyFault). Tells e i s) c.from_residual-in_err-parts.result e
+    c.from_residual-in_err-parts.ensures.1
     (c.in_err-parts.ensures.fault)
 
 pub returns-in_err-parts-clause-no_run : goal.returns-in_err-parts-clause-no_run
@@ -122,7 +128,8 @@ returns-in_err-parts-clause-no_run g c =
     let i = inputs_of c.args.inputs.now in
     let s = c.args.settings.now in
     let e = c.in_err-parts.field-0.0 in
-    err_by IsOfNoRun c.from_residual-in_err-parts.result e c.from_residual-in_err-parts.ensures.1 (c.in_err-parts.ensures.no_run)
+    err_by IsOfNoRun c.from_residual-in_err-parts.result e c.from_residual-in_err-parts.ensures.1
+    c.in_err-parts.ensures.no_run
 
 pub make_networks-requires-clause-few : goal.make_networks-requires-clause-few
 make_networks-requires-clause-few g c =
@@ -170,7 +177,8 @@ returns-in_err-networks-clause-fault g c =
     let are_parts = subst (λ (p : NetworkParts). AreNetworkParts i s p) (sym c.as_ref-parts.ensures)
     c.in_ok-parts.ensures.parts in
     let e = c.in_err-networks.field-0.0 in
-    err_by (λ (e : StudyFault). Tells e i s) c.from_residual-in_err-networks.result e c.from_residual-in_err-networks.ensures.1
+    err_by (λ (e : StudyFault). Tells e i s) c.from_residual-in_err-networks.result e
+    c.from_residual-in_err-networks.ensures.1
     (networks_told i s feed parts c.deref-8.result.now c.deref-7.result.now feed_is are_parts c.deref-8.ensures.value
     c.deref-7.ensures.value e c.in_err-networks.ensures.fault)
 
@@ -184,7 +192,8 @@ returns-in_err-networks-clause-no_run g c =
     let are_parts = subst (λ (p : NetworkParts). AreNetworkParts i s p) (sym c.as_ref-parts.ensures)
     c.in_ok-parts.ensures.parts in
     let e = c.in_err-networks.field-0.0 in
-    err_by IsOfNoRun c.from_residual-in_err-networks.result e c.from_residual-in_err-networks.ensures.1 (c.in_err-networks.ensures.no_run)
+    err_by IsOfNoRun c.from_residual-in_err-networks.result e c.from_residual-in_err-networks.ensures.1
+    c.in_err-networks.ensures.no_run
 
 pub returns-clause-feed : goal.returns-clause-feed
 returns-clause-feed g c =

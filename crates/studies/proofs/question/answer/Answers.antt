@@ -7,7 +7,7 @@ use Rattle.studies.specs.Parts.{feed_in, point_faults}
 use Rattle.studies.specs.Stages.{TellsTables}
 use Rattle.studies.specs.Study.{AreNetworks, Tells, TellsBy}
 use Rattle.studies.proofs.AnyGate.{any_gates, by_gate, tables_no_run}
-use Rattle.studies.proofs.Asking.{question_networks, question_told}
+use Rattle.studies.proofs.QuestionOfKept.{question_networks, question_told}
 use Rattle.studies.proofs.StudyFacts.{err_by}
 use Rattle.studies.proofs.question.answer.Goals as goal
 

@@ -2,7 +2,7 @@ use Rattle.std.proofs.Common.{◌≡◌, ◌+◌, ◌++◌, ◌∷◌, [], arith
 use Rattle.std.proofs.lemmas.Grind.{common_steps}
 use Rattle.studies.specs.Answers.{IsAnswer}
 use Rattle.studies.specs.Inputs.{inputs_of}
-use Rattle.studies.proofs.Answered.{is_answer, one_more}
+use Rattle.studies.proofs.AnswersInOrder.{is_answer, one_more}
 use Rattle.studies.proofs.question.answers.Goals as goal
 
 pub loop-question-preserved : goal.loop-question-preserved

@@ -11,7 +11,8 @@ use Rattle.studies.specs.Inputs.{inputs_of}
 use Rattle.studies.specs.Settings.{query_of as asked_of}
 use Rattle.studies.specs.Stages.{AreTables}
 use Rattle.studies.specs.Study.{AreNetworks, TellsBy}
-use Rattle.studies.proofs.Saw.{told_ok}
+use Rattle.studies.specs.Watched.{SawFault}
+use Rattle.studies.proofs.WatchSaw.{run_seen, text_seen, told_ok}
 use Rattle.studies.proofs.StudyFacts.{err_by, means, network_count, run_told, study_fits, study_with, text_made}
 use Rattle.studies.proofs.StudyFacts.{text_told}
 use Rattle.studies.proofs.study.text_of.Goals as goal
@@ -53,6 +54,26 @@ returns-in_err-matrix-clause-run g c =
     (means i s feed tables networks c.as_slice-2.result.now c.as_slice-3.result.now (query_of c.asked.result) feed_is
     are_tables are_networks c.as_slice-2.ensures.value c.as_slice-3.ensures.value asked)
     c.in_err-matrix.ensures.fault))
+
+pub returns-in_err-matrix-clause-told_fault : goal.returns-in_err-matrix-clause-told_fault
+returns-in_err-matrix-clause-told_fault g c =
+    let i = inputs_of c.args.asked.now.inputs.now in
+    let s = c.args.asked.now.settings.now in
+    let feed = c.as_ref-feed.result.now in
+    let feed_is = c.as_ref-feed.ensures ∙ c.requires.feed in
+    let tables = c.args.asked.now.tables.now in
+    let are_tables = subst (λ (d : FeedData). AreTables i d tables) (sym c.as_ref-feed.ensures) c.requires.tables in
+    let networks = c.as_slice.result.now in
+    let are_networks = subst (λ (l : List Net). AreNetworks i s l) (sym c.as_slice.ensures.value)
+    c.requires.networks in
+    let asked = c.asked.ensures ∙ ap (λ (l : List StopNo). asked_of s l) c.as_slice-4.ensures.value in
+    let saw = g.W.Watch.saw c.args.watch.now in
+    let e = c.in_err-matrix.field-0.0 in
+    err_by (λ (e : StudyFault). SawFault saw e i s) c.from_residual.result (fault.Run e) c.from_residual.ensures.1
+    (run_seen saw i s _ e
+    (means i s feed tables networks c.as_slice-2.result.now c.as_slice-3.result.now (query_of c.asked.result) feed_is
+    are_tables are_networks c.as_slice-2.ensures.value c.as_slice-3.ensures.value asked)
+    c.in_err-matrix.ensures.told_fault)
 
 pub text_of_matrix-requires-clause-scenarios : goal.text_of_matrix-requires-clause-scenarios
 text_of_matrix-requires-clause-scenarios g c =
@@ -112,16 +133,11 @@ returns-clause-told g c =
 
 pub returns-clause-run : goal.returns-clause-run
 returns-clause-run g c =
-    let i = inputs_of c.args.asked.now.inputs.now in
-    let s = c.args.asked.now.settings.now in
-    let feed = c.as_ref-feed.result.now in
-    let feed_is = c.as_ref-feed.ensures ∙ c.requires.feed in
-    let tables = c.args.asked.now.tables.now in
-    let are_tables = subst (λ (d : FeedData). AreTables i d tables) (sym c.as_ref-feed.ensures) c.requires.tables in
-    let networks = c.as_slice.result.now in
-    let are_networks = subst (λ (l : List Net). AreNetworks i s l) (sym c.as_slice.ensures.value)
-    c.requires.networks in
-    let asked = c.asked.ensures ∙ ap (λ (l : List StopNo). asked_of s l) c.as_slice-4.ensures.value in
-    let decides = g.G.Gate.decides c.args.gate.now in
-    let was_told = g.G.Gate.was_told c.args.gate.now in
-    text_told i s decides was_told c.text_of_matrix.result c.text_of_matrix.ensures.fault
+    text_told (inputs_of c.args.asked.now.inputs.now) c.args.asked.now.settings.now
+    (g.G.Gate.decides c.args.gate.now) (g.G.Gate.was_told c.args.gate.now) c.text_of_matrix.result
+    c.text_of_matrix.ensures.fault
+
+pub returns-clause-told_fault : goal.returns-clause-told_fault
+returns-clause-told_fault g c =
+    text_seen (g.W.Watch.saw c.args.watch.now) (inputs_of c.args.asked.now.inputs.now) c.args.asked.now.settings.now
+    c.text_of_matrix.result c.text_of_matrix.ensures.fault

@@ -12,7 +12,7 @@ use Rattle.studies.specs.Inputs.{InputFiles, inputs_of}
 use Rattle.studies.specs.Parts.{point_faults}
 use Rattle.studies.specs.Stages.{AreTables, TellsTables}
 use Rattle.studies.proofs.FewOrigins.{few_origins}
-use Rattle.studies.proofs.Firsts.{none_of_both, tells_left, tells_right}
+use Rattle.studies.proofs.FirstOfLists.{none_of_both, tells_left, tells_right}
 use Rattle.studies.proofs.StudyFacts.{err_by}
 use Rattle.studies.proofs.tables.read_tables.Goals as goal
 

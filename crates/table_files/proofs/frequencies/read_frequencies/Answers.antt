@@ -14,7 +14,7 @@ pub returns-clause-good : goal.returns-clause-good
 returns-clause-good c =
     let trips = c.args.trips.now in
     let (faults, rows) = headed file.Frequencies required row_of (checks trips) (records_of c.args.bytes.now)
-    (fields_of c.in_ok-file.file.header) c.in_ok-file.file.rows
+    (fields_of c.in_ok-file.file.header) c.in_ok-file.file.records
     c.in_ok-file.ensures.columns c.in_ok-file.ensures.records in
     let good = rw c.columns_in.ensures at c.read_records-read.ensures.good in
     let all = both c.read_records-read.result _ _ good c.read_records-read.ensures.room in
@@ -31,7 +31,7 @@ returns-in_err-file-clause-fault c =
 pub returns-clause-fault : goal.returns-clause-fault
 returns-clause-fault c =
     let (faults, rows) = headed file.Frequencies required row_of (checks c.args.trips.now) (records_of c.args.bytes.now)
-    (fields_of c.in_ok-file.file.header) c.in_ok-file.file.rows
+    (fields_of c.in_ok-file.file.header) c.in_ok-file.file.records
     c.in_ok-file.ensures.columns c.in_ok-file.ensures.records in
     let told = rw c.columns_in.ensures at c.read_records-read.ensures.fault in
     fault_told c.read_records-read.result c.read_records-read.new.table c.and.result _ _ c.and.ensures told

@@ -25,7 +25,7 @@ into_places-requires-clause-in_range c =
 pub returns-in_ok-into_places-in-Ok-clause-good : goal.returns-in_ok-into_places-in-Ok-clause-good
 returns-in_ok-into_places-in-Ok-clause-good c =
     let (faults, rows) = headed file.Stops required row_of checks (records_of c.args.bytes.now)
-    (fields_of c.in_ok-file.file.header) c.in_ok-file.file.rows
+    (fields_of c.in_ok-file.file.header) c.in_ok-file.file.records
     c.in_ok-file.ensures.columns c.in_ok-file.ensures.records in
     let good = IfOk-at_ok _ c.in-Ok.is (rw c.columns_in.ensures at c.read_records-read.ensures.good) in
     let room = IfOk-at_ok _ c.in-Ok.is c.read_records-read.ensures.room in
@@ -41,7 +41,7 @@ returns-in_err-file-clause-fault c =
 pub returns-in-Err-clause-fault : goal.returns-in-Err-clause-fault
 returns-in-Err-clause-fault c =
     let (faults, rows) = headed file.Stops required row_of checks (records_of c.args.bytes.now)
-    (fields_of c.in_ok-file.file.header) c.in_ok-file.file.rows
+    (fields_of c.in_ok-file.file.header) c.in_ok-file.file.records
     c.in_ok-file.ensures.columns c.in_ok-file.ensures.records in
     let told = IfErr-at_err _ c.in-Err.is (rw c.columns_in.ensures at c.read_records-read.ensures.fault) in
     subst (Tells c.in-Err.fault) (sym faults) told

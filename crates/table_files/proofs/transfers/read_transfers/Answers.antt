@@ -18,7 +18,7 @@ pub returns-clause-in_range : goal.returns-clause-in_range
 returns-clause-in_range c =
     table_given c.read_records-read.result c.read_records-read.new.table c.and.result _ _ c.and.ensures
     c.read_records-read.ensures.good
-    (λ _ g. links_in_range c.args.places.now (map (row_at c.columns_in.result) c.in_ok-file.file.rows)
+    (λ _ g. links_in_range c.args.places.now (map (row_at c.columns_in.result) c.in_ok-file.file.records)
     c.read_records-read.new.table.links.items c.known.ensures g.1.links)
 
 pub returns-in_err-file-clause-fault : goal.returns-in_err-file-clause-fault

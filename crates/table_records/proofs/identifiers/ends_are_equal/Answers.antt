@@ -1,5 +1,5 @@
 use Rattle.std.proofs.Common.{◌≤◌, ◌∙◌, arith, length, sym}
-use Rattle.table_records.proofs.Near.{equal_ends, found_same}
+use Rattle.table_records.proofs.DistinctTexts.{equal_ends, found_same}
 use Rattle.table_records.proofs.identifiers.ends_are_equal.Goals as goal
 
 pub returns-then-eq : goal.returns-then-eq

@@ -3,7 +3,7 @@ use Rattle.std.proofs.Common.{Some, IsTrue, rules, sym, ◌∙◌, arith}
 use Rattle.std.proofs.lemmas.Bool.{false≢true}
 use Rattle.std.proofs.lemmas.Option.{slice_get-get_or}
 use Rattle.timetable.specs.declared.trips.Event.{Event}
-use Rattle.timetable.proofs.Rows.{at_more, at_all}
+use Rattle.timetable.proofs.ElementsInRange.{at_more, at_all}
 use Rattle.timetable.proofs.last_arrivals.note_arrivals.Goals as goal
 use Rattle.timetable.proofs.last_arrivals.note_arrivals.Goals.{then-event, else-event}
 

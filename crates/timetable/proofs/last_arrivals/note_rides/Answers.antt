@@ -5,7 +5,7 @@ use Rattle.timetable.specs.declared.trips.Event.{Event}
 use Rattle.timetable.specs.declared.trips.Trip.{Trip}
 use Rattle.timetable.specs.LastArrivals.{Comes}
 use Rattle.timetable.specs.Trips.{EventsRise}
-use Rattle.timetable.proofs.Rows.{is_at}
+use Rattle.timetable.proofs.ElementsInRange.{is_at}
 use Rattle.timetable.proofs.last_arrivals.note_rides.Goals as goal
 
 pub loop-trip-init : goal.loop-trip-init

@@ -2,7 +2,7 @@ use Rattle.std.proofs.Common.{rules, ◌≡◌, ℕ, ◌+◌, ◌<◌, ◌≤◌
 use Rattle.std.proofs.Common.{Some, sym, ◌∙◌, ap, arith}
 use Rattle.std.proofs.lemmas.Option.{slice_get-get_or}
 use Rattle.timetable.specs.declared.trips.StopNo.{StopNo}
-use Rattle.timetable.proofs.Rows.{at_more, at_all}
+use Rattle.timetable.proofs.ElementsInRange.{at_more, at_all}
 use Rattle.timetable.proofs.last_arrivals.walk_on.Goals as goal
 
 -- the number of a stop is as it was, or the end of some walk there

@@ -1,4 +1,4 @@
-use Rattle.timetable.proofs.Renumbering.{durations_stay, labels_stay}
+use Rattle.timetable.proofs.RenumberedJourneys.{durations_stay, labels_stay}
 use Rattle.timetable.proofs.least.renumbered_stops_keep_durations.Goals as goal
 
 pub returns-clause-durations : goal.returns-clause-durations

@@ -1,6 +1,6 @@
 use Rattle.std.proofs.Common.{◌≡◌, length, subst, arith, ℕ}
 use Rattle.timetable.specs.LineViews.{rows_of_line, AreTimes}
-use Rattle.timetable.proofs.Viewing.{times_more, times_none}
+use Rattle.timetable.proofs.LineLayout.{times_more, times_none}
 use Rattle.timetable.proofs.views.times_of.Goals as goal
 
 pub loop-trip-init : goal.loop-trip-init

@@ -2,9 +2,9 @@ use Rattle.std.proofs.Common.{◌≡◌, ◌∙◌, sym, ap, length, get_or, map
 use Rattle.timetable.specs.FlatLists.{lists_of}
 use Rattle.timetable.specs.Lines.{IsLine}
 use Rattle.timetable.specs.LineViews.{events_of, call_of, IsCalls, IsTimes}
-use Rattle.timetable.proofs.Known.{all_at}
-use Rattle.timetable.proofs.Adding.{lists_of_push}
-use Rattle.timetable.proofs.Viewing.{for_more, row_long, events_read}
+use Rattle.timetable.proofs.KnownParts.{all_at}
+use Rattle.timetable.proofs.ListsAddedTo.{lists_of_push}
+use Rattle.timetable.proofs.LineLayout.{for_more, row_long, events_read}
 use Rattle.timetable.proofs.views.views_of.Goals as goal
 
 pub times_of-requires : goal.times_of-requires

@@ -1,4 +1,4 @@
-use Rattle.trip_events.proofs.Ascending.{ascend}
+use Rattle.trip_events.proofs.RecordsAscend.{ascend}
 use Rattle.trip_events.proofs.OneOrder.{keeps_all, one_order}
 use Rattle.trip_events.proofs.order.one_order.Goals as goal
 

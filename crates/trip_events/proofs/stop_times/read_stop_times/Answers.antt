@@ -32,7 +32,7 @@ returns-in_err-read-clause-fault c =
     let (e, is, same_error) = err_from_is_err_and c.from_residual-in_err-read.result
     c.from_residual-in_err-read.ensures.1 in
     let (faults, rows) = headed file.StopTimes required row_of (checks c.args.trips.now c.args.stops.now)
-    (records_of c.args.bytes.now) (fields_of c.in_ok-file.file.header) c.in_ok-file.file.rows
+    (records_of c.args.bytes.now) (fields_of c.in_ok-file.file.header) c.in_ok-file.file.records
     c.in_ok-file.ensures.columns c.in_ok-file.ensures.records in
     let told = rw c.columns_in.ensures at c.in_err-read.ensures.fault in
     rw (is, same_error) (tells_more c.in_err-read.field-0.0 _ _
@@ -41,7 +41,7 @@ returns-in_err-read-clause-fault c =
 pub returns-clause-good : goal.returns-clause-good
 returns-clause-good c =
     let (faults, rows) = headed file.StopTimes required row_of (checks c.args.trips.now c.args.stops.now)
-    (records_of c.args.bytes.now) (fields_of c.in_ok-file.file.header) c.in_ok-file.file.rows
+    (records_of c.args.bytes.now) (fields_of c.in_ok-file.file.header) c.in_ok-file.file.records
     c.in_ok-file.ensures.columns c.in_ok-file.ensures.records in
     let good = rw c.columns_in.ensures at c.in_ok-read.ensures.good in
     IfOk-weaker c.events_of_trips.result _ _

@@ -3,7 +3,7 @@ use Rattle.std.proofs.Common.{slice_index, Some, arith, sym, ◌∙◌, ap, subs
 use Rattle.std.proofs.lemmas.Bool.{cases_lt, cases_Bool, false≢true}
 use Rattle.std.proofs.lemmas.List.{get_or-set_same, get_or-set_other, length-set}
 use Rattle.std.proofs.lemmas.Option.{slice_get_within, get_or_from_slice_get, slice_get-get_or}
-use Rattle.trip_lanes.proofs.Lower.{row_lane}
+use Rattle.trip_lanes.proofs.LoweredStop.{row_lane}
 use Rattle.trip_lanes.specs.Falls.{HasFallen}
 use Rattle.trip_lanes.specs.declared.falls.Fall.{Fall}
 use Rattle.trip_lanes.proofs.falls.falls_of.Goals as goal
@@ -24,7 +24,7 @@ loop-stop-preserved g c =
     let before = c.args.before.now in
     let ready = c.args.ready.now in
     let falls = c.loop-stop.falls in
-    let labels = g.R.Row.labels in
+    let labels = g.R.LaneLabels.labels in
     let within : s < length falls = omega arith in
     record {
       same = elim c.if-fallen-stop.branch [ then-fallen-stop w ↦ search rules | else-fallen-stop w ↦ search rules ];

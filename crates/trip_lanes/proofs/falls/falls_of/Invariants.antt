@@ -8,8 +8,8 @@ abbrev pub invariant-loop-stop : goal.invariant-loop-stop
 invariant-loop-stop g v =
     record {
       same : length v.falls ≡ length v.initial.falls;
-      falls : (l p : ℕ) (f : Fall) → l < g.R.Row.LANES → p < v.stop → slice_get v.falls p ≡ Some f →
+      falls : (l p : ℕ) (f : Fall) → l < g.R.LaneLabels.LANES → p < v.stop → slice_get v.falls p ≡ Some f →
           slice_get v.fallen p ≡ Some true →
-          HasFallen (slice_index (lane l (labels_in g.R.Row.labels v.before)) p)
-          (slice_index (lane l (labels_in g.R.Row.labels v.ready)) p) f;
+          HasFallen (slice_index (lane l (labels_in g.R.LaneLabels.labels v.before)) p)
+          (slice_index (lane l (labels_in g.R.LaneLabels.labels v.ready)) p) f;
     }

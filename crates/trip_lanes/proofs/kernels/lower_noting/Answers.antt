@@ -2,18 +2,18 @@ use Rattle.std.proofs.Common.{◌≡◌, ◌<◌, length, arith, get_or, false, 
 use Rattle.std.proofs.Common.{inl, inr}
 use Rattle.std.proofs.lemmas.Bool.{false≢true, cases_lt, cases_Bool}
 use Rattle.std.proofs.lemmas.Option.{slice_get-get_or, get_or_from_slice_get}
-use Rattle.trip_lanes.proofs.Noting.{noted_first, noted_again}
+use Rattle.trip_lanes.proofs.LabelsBeforeFalls.{noted_first, noted_again}
 use Rattle.std.proofs.lemmas.List.{map-set, length-map}
 use Rattle.trip_lanes.specs.Lane.{lane, labels_in}
 use Rattle.trip_lanes.specs.Scan.{NothingLower}
-use Rattle.trip_lanes.proofs.Again.{nothing_lowers}
-use Rattle.trip_lanes.proofs.Lower.{lowers_set, marks_fell, row_labels, row_lane}
-use Rattle.trip_lanes.proofs.Carry.{marks_none}
+use Rattle.trip_lanes.proofs.NothingLowerStays.{nothing_lowers}
+use Rattle.trip_lanes.proofs.LoweredStop.{lowers_set, marks_fell, row_labels, row_lane}
+use Rattle.trip_lanes.proofs.TripInOneLane.{marks_none}
 use Rattle.trip_lanes.proofs.kernels.lower_noting.Goals as goal
 
 pub returns-then-changed-clause-lanes : goal.returns-then-changed-clause-lanes
 returns-then-changed-clause-lanes g c l h =
-    let labels = g.R.Row.labels in
+    let labels = g.R.LaneLabels.labels in
     let xs = labels_in labels c.args.ready.now in
     let row = c.index-ready-stop.result in
     let read = row_lane labels c.args.ready.now c.args.stop l row row c.index-ready-stop.is c.requires.stop in
@@ -29,7 +29,7 @@ returns-then-changed-clause-lanes g c l h =
 
 pub returns-else-changed-clause-lanes : goal.returns-else-changed-clause-lanes
 returns-else-changed-clause-lanes g c l h =
-    let labels = g.R.Row.labels in
+    let labels = g.R.LaneLabels.labels in
     let xs = labels_in labels c.args.ready.now in
     let row = c.index-ready-stop.result in
     let read = row_lane labels c.args.ready.now c.args.stop l row row c.index-ready-stop.is c.requires.stop in
@@ -45,7 +45,7 @@ returns-else-changed-clause-lanes g c l h =
 
 pub returns-then-changed-clause-fallen : goal.returns-then-changed-clause-fallen
 returns-then-changed-clause-fallen g c =
-    let labels = g.R.Row.labels in
+    let labels = g.R.LaneLabels.labels in
     let xs = labels_in labels c.args.ready.now in
     let row = c.index-ready-stop.result in
     let read = row_labels labels c.args.ready.now c.args.stop row row c.index-ready-stop.is c.requires.stop in
@@ -58,11 +58,11 @@ returns-then-changed-clause-fallen g c =
     )) (omega (arith, long, c.requires.fallen)) (rw read (c.changed.ensures.0 c.if-changed.true)))
 
 pub returns-else-changed-clause-fallen : goal.returns-else-changed-clause-fallen
-returns-else-changed-clause-fallen g c = marks_none (labels_in g.R.Row.labels c.args.ready.now) c.args.fallen.now
+returns-else-changed-clause-fallen g c = marks_none (labels_in g.R.LaneLabels.labels c.args.ready.now) c.args.fallen.now
 
 pub returns-then-changed-clause-before : goal.returns-then-changed-clause-before
 returns-then-changed-clause-before g c l was h are =
-    let labels = g.R.Row.labels in
+    let labels = g.R.LaneLabels.labels in
     let s = c.args.stop in
     let old = c.index-ready-stop.result in
     let ready = c.args.ready.now in

@@ -3,14 +3,14 @@ use Rattle.std.proofs.lemmas.Bool.{false≢true, cases_lt}
 use Rattle.std.proofs.lemmas.List.{map-set, length-map}
 use Rattle.trip_lanes.specs.Lane.{lane, labels_in}
 use Rattle.trip_lanes.specs.Scan.{NothingLower}
-use Rattle.trip_lanes.proofs.Again.{nothing_lowers}
-use Rattle.trip_lanes.proofs.Lower.{lowers_set, marks_fell, row_labels, row_lane}
-use Rattle.trip_lanes.proofs.Carry.{marks_none}
+use Rattle.trip_lanes.proofs.NothingLowerStays.{nothing_lowers}
+use Rattle.trip_lanes.proofs.LoweredStop.{lowers_set, marks_fell, row_labels, row_lane}
+use Rattle.trip_lanes.proofs.TripInOneLane.{marks_none}
 use Rattle.trip_lanes.proofs.kernels.lower_row.Goals as goal
 
 pub returns-then-changed-clause-lanes : goal.returns-then-changed-clause-lanes
 returns-then-changed-clause-lanes g c l h =
-    let labels = g.R.Row.labels in
+    let labels = g.R.LaneLabels.labels in
     let xs = labels_in labels c.args.labels.now in
     let row = c.index-labels-stop.result in
     let read = row_lane labels c.args.labels.now c.args.stop l row row c.index-labels-stop.is c.requires.stop in
@@ -26,7 +26,7 @@ returns-then-changed-clause-lanes g c l h =
 
 pub returns-else-changed-clause-lanes : goal.returns-else-changed-clause-lanes
 returns-else-changed-clause-lanes g c l h =
-    let labels = g.R.Row.labels in
+    let labels = g.R.LaneLabels.labels in
     let xs = labels_in labels c.args.labels.now in
     let row = c.index-labels-stop.result in
     let read = row_lane labels c.args.labels.now c.args.stop l row row c.index-labels-stop.is c.requires.stop in
@@ -42,7 +42,7 @@ returns-else-changed-clause-lanes g c l h =
 
 pub returns-then-changed-clause-marks : goal.returns-then-changed-clause-marks
 returns-then-changed-clause-marks g c =
-    let labels = g.R.Row.labels in
+    let labels = g.R.LaneLabels.labels in
     let xs = labels_in labels c.args.labels.now in
     let row = c.index-labels-stop.result in
     let read = row_labels labels c.args.labels.now c.args.stop row row c.index-labels-stop.is c.requires.stop in
@@ -55,4 +55,4 @@ returns-then-changed-clause-marks g c =
     )) (omega (arith, long, c.requires.same)) (rw read (c.changed.ensures.0 c.if-changed.true)))
 
 pub returns-else-changed-clause-marks : goal.returns-else-changed-clause-marks
-returns-else-changed-clause-marks g c = marks_none (labels_in g.R.Row.labels c.args.labels.now) c.args.marked.now
+returns-else-changed-clause-marks g c = marks_none (labels_in g.R.LaneLabels.labels c.args.labels.now) c.args.marked.now

@@ -22,7 +22,7 @@ returns-then-depart-fall-2-clause-kept g c l r h on =
 
 pub returns-then-depart-fall-2-clause-caught : goal.returns-then-depart-fall-2-clause-caught
 returns-then-depart-fall-2-clause-caught g c l r before h up fall below catches =
-    let ready = slice_index (g.R.Row.labels c.args.ready.now) l in
+    let ready = slice_index (g.R.LaneLabels.labels c.args.ready.now) l in
     let lower : ready < before = omega (arith, catches.in_time, catches.fresh) in
     elim (cases_lt r c.args.first) [
       | inl early ↦ absurd (let e = c.requires.early up r early in let low = fall.low lower in

@@ -12,11 +12,12 @@ use Rattle.trip_lanes.specs.Falls.{HasFallen, AreFalls}
 use Rattle.trip_lanes.specs.Lane.{lane, labels_in}
 use Rattle.trip_lanes.specs.Ranks.{Rides, Ascend}
 use Rattle.trip_lanes.specs.Rows.{IsCutViewOf, NoneOvertakes, IsCaught}
-use Rattle.trip_lanes.proofs.Lower.{row_lane}
-use Rattle.trip_lanes.proofs.Carry.{lane_falls, marks_then}
-use Rattle.trip_lanes.proofs.Lining.{LineAt, at_position, slice_get_row, line_alight, line_pass, line_board, line_stay}
-use Rattle.trip_lanes.proofs.Lining.{line_past}
-use Rattle.trip_lanes.proofs.Falling.{falls_of_none}
+use Rattle.trip_lanes.proofs.LoweredStop.{row_lane}
+use Rattle.trip_lanes.proofs.TripInOneLane.{lane_falls, marks_then}
+use Rattle.trip_lanes.proofs.LineByPositions.{LineAt, at_position, slice_get_row, line_alight, line_pass, line_board}
+use Rattle.trip_lanes.proofs.LineByPositions.{line_stay}
+use Rattle.trip_lanes.proofs.LineByPositions.{line_past}
+use Rattle.trip_lanes.proofs.FallsCompose.{falls_of_none}
 use Rattle.trip_lanes.proofs.line_scan.scan_line.Goals as goal
 use Rattle.trip_lanes.proofs.line_scan.scan_line.Goals.{then-call+then-span, else-call}
 use Rattle.trip_lanes.proofs.line_scan.scan_line.Goals.{else-call-via-then-call+else-span, else-call-via-else-call}
@@ -33,10 +34,10 @@ no_fall = record { low = 0; high = 0; top = 0 }
 pub loop-position-preserved : goal.loop-position-preserved
 loop-position-preserved g c =
     let x = c.loop-position.position in
-    let lanes = g.R.Row.LANES in
-    let never = g.R.Row.NEVER in
+    let lanes = g.R.LaneLabels.LANES in
+    let never = g.R.LaneLabels.NEVER in
     let base = c.args.line.base in
-    let labels = g.R.Row.labels in
+    let labels = g.R.LaneLabels.labels in
     let now = labels_in labels c.args.labels.ready.now in
     let calls = c.args.line.calls.now in
     let times = c.args.line.times.now in
@@ -205,12 +206,12 @@ loop-position-preserved g c =
 
 pub returns-clause-lanes : goal.returns-clause-lanes
 returns-clause-lanes g c rows view size order l h =
-    let ready = lane l (labels_in g.R.Row.labels c.args.labels.ready.now) in
+    let ready = lane l (labels_in g.R.LaneLabels.labels c.args.labels.ready.now) in
     (c.loop-position.invariant.lanes rows view size order l ready h
     (falls_of_none ready c.args.labels.falls.now)).falls
 
 pub returns-clause-caught : goal.returns-clause-caught
 returns-clause-caught g c rows view size order l r j before h are low caught =
-    line_past before (lane l (labels_in g.R.Row.labels c.args.labels.ready.now)) rows c.args.from
+    line_past before (lane l (labels_in g.R.LaneLabels.labels c.args.labels.ready.now)) rows c.args.from
     c.loop-position.position (length c.args.line.calls.now) view.positions c.loop-position-test.false
     (c.loop-position.invariant.lanes rows view size order l before h are) r j low caught

@@ -3,13 +3,13 @@ use Rattle.std.proofs.lemmas.Bool.{false≢true}
 use Rattle.std.proofs.lemmas.Option.{get_or_from_slice_get}
 use Rattle.std.proofs.lemmas.List.{length-map}
 use Rattle.timetable.specs.Footpaths.{IsFoot}
-use Rattle.timetable.proofs.Known.{foot_in_range}
-use Rattle.trip_lanes.proofs.Walking.{transfer_one, transfer_each}
+use Rattle.timetable.proofs.KnownParts.{foot_in_range}
+use Rattle.trip_lanes.proofs.WalksByStops.{transfer_one, transfer_each}
 use Rattle.trip_lanes.specs.Lane.{lane, labels_in}
-use Rattle.trip_lanes.proofs.Lower.{row_lane}
-use Rattle.trip_lanes.proofs.Carry.{lane_falls, marks_then}
-use Rattle.trip_lanes.proofs.LaneWalk.{later_is, change_ends, changed_by}
-use Rattle.trip_lanes.proofs.Marked.{transfer_skip}
+use Rattle.trip_lanes.proofs.LoweredStop.{row_lane}
+use Rattle.trip_lanes.proofs.TripInOneLane.{lane_falls, marks_then}
+use Rattle.trip_lanes.proofs.WalkInOneLane.{later_is, change_ends, changed_by}
+use Rattle.trip_lanes.proofs.UnmarkedStops.{transfer_skip}
 use Rattle.trip_lanes.proofs.marked_walks.transfer_marked.Goals as goal
 use Rattle.trip_lanes.proofs.marked_walks.transfer_marked.Goals.{then-marked-stop, else-marked-stop}
 
@@ -24,34 +24,37 @@ pub loop-stop-preserved : goal.loop-stop-preserved
 loop-stop-preserved g c =
     let feet = c.args.feet.now in
     let x = c.loop-stop.stop in
-    let rows = labels_in g.R.Row.labels in
+    let rows = labels_in g.R.LaneLabels.labels in
     let within : x < length c.args.ride.now = omega arith in
     record {
       same = elim c.if-marked-stop.branch [ then-marked-stop w ↦ search rules | else-marked-stop w ↦ search rules ];
       lanes = λ k l. elim c.if-marked-stop.branch [
         | then-marked-stop w ↦
-            let read = row_lane g.R.Row.labels c.args.ride.now x k w.index-ride-stop.result w.index-ride-stop.result
+            let read = row_lane g.R.LaneLabels.labels c.args.ride.now x k w.index-ride-stop.result
+            w.index-ride-stop.result
             w.index-ride-stop.is within in
             let ride = lane k (rows c.args.ride.now) in
-            let before : (p : ℕ) → slice_index (lane k (rows c.loop-stop.ready)) p ≤ g.R.Row.NEVER = λ p.
+            let before : (p : ℕ) → slice_index (lane k (rows c.loop-stop.ready)) p ≤ g.R.LaneLabels.NEVER = λ p.
             let f = c.requires.fits k p l in
             let a = lane_falls (lane k (rows c.args.ready.now)) (lane k (rows c.loop-stop.ready))
             (c.loop-stop.invariant.lanes k l) p in
             omega arith in
-            let fits : (p : ℕ) → slice_index (lane k (rows w.lower_noting.new.ready)) p ≤ g.R.Row.NEVER = λ p.
+            let fits : (p : ℕ) → slice_index (lane k (rows w.lower_noting.new.ready)) p ≤ g.R.LaneLabels.NEVER = λ p.
             let f = before p in
             let b = lane_falls (lane k (rows c.loop-stop.ready)) (lane k (rows w.lower_noting.new.ready))
             (w.lower_noting.ensures.lanes k l) p in
             omega arith in
             rw w.ready-is (transfer_one feet ride x w.leaving.result.now w.leaving.ensures
             (c.loop-stop.invariant.lanes k l)
-            (change_ends g.R.Row.NEVER feet ride x (lane k (rows c.loop-stop.ready))
-            (lane k (rows w.lower_noting.new.ready)) g.met.R.Row.never_fits before
-            (changed_by g.R.Row.NEVER x (slice_index (g.R.Row.labels w.later.result) k) (slice_index ride x)
+            (change_ends g.R.LaneLabels.NEVER feet ride x (lane k (rows c.loop-stop.ready))
+            (lane k (rows w.lower_noting.new.ready)) g.met.R.LaneLabels.never_fits before
+            (changed_by g.R.LaneLabels.NEVER x (slice_index (g.R.LaneLabels.labels w.later.result) k)
+            (slice_index ride x)
             w.change.result (slice_index feet.changes x) (rw read (w.later.ensures k l)) w.change.ensures
             (w.lower_noting.ensures.lanes k l)))
-            (later_is g.R.Row.NEVER w.leaving.result.now (slice_index ride x) (lane k (rows w.lower_noting.new.ready))
-            (lane k (rows w.walk_noting.new.ready)) g.met.R.Row.never_fits fits
+            (later_is g.R.LaneLabels.NEVER w.leaving.result.now (slice_index ride x)
+            (lane k (rows w.lower_noting.new.ready))
+            (lane k (rows w.walk_noting.new.ready)) g.met.R.LaneLabels.never_fits fits
             (rw read (w.walk_noting.ensures.lanes k l))))
         | else-marked-stop w ↦
             rw w.ready-is (transfer_skip feet (lane k (rows c.args.ride.now)) x (lane k (rows c.args.ready.now))
@@ -90,12 +93,12 @@ loop-stop-preserved g c =
 
 pub returns-clause-lanes : goal.returns-clause-lanes
 returns-clause-lanes g c l h =
-    let rows = labels_in g.R.Row.labels in
+    let rows = labels_in g.R.LaneLabels.labels in
     let long : length (lane l (rows c.args.ready.now)) ≤ c.loop-stop.stop =
     omega (
       arith,
       length-map (rows c.args.ready.now) (λ w. slice_index w l),
-      length-map c.args.ready.now g.R.Row.labels,
+      length-map c.args.ready.now g.R.LaneLabels.labels,
     ) in
     transfer_each c.args.feet.now (lane l (rows c.args.ride.now)) c.loop-stop.stop long (omega arith)
     (c.loop-stop.invariant.lanes l h)

@@ -1,5 +1,5 @@
 use Rattle.std.proofs.Common.{◌*◌, arith}
-use Rattle.trip_lanes.proofs.Parts.{lane_of}
+use Rattle.trip_lanes.proofs.VectorParts.{lane_of}
 use Rattle.trip_lanes.proofs.narrow.eight_of.Goals as goal
 
 pub returns : goal.returns

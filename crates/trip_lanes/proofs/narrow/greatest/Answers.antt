@@ -1,5 +1,5 @@
 use Rattle.std.proofs.Common.{◌≡◌, ◌+◌, ◌*◌, ◌≤◌, ◌<◌, inl, inr, max, slice_index, arith}
-use Rattle.trip_lanes.proofs.Parts.{of_eights, in_eights, greatest_of_four}
+use Rattle.trip_lanes.proofs.VectorParts.{of_eights, in_eights, greatest_of_four}
 use Rattle.trip_lanes.proofs.narrow.greatest.Goals as goal
 
 pub returns-clause-above : goal.returns-clause-above

@@ -1,5 +1,5 @@
 use Rattle.std.proofs.Common.{arith}
-use Rattle.trip_lanes.proofs.Select.{higher_at}
+use Rattle.trip_lanes.proofs.VectorChoices.{higher_at}
 use Rattle.trip_lanes.proofs.narrow.higher_eight.Goals as goal
 use mir.Syntax.{w16}
 

@@ -1,5 +1,5 @@
 use Rattle.std.proofs.Common.{◌≡◌, ◌+◌, ◌*◌, ◌≤◌, ◌<◌, inl, inr, min, slice_index, arith}
-use Rattle.trip_lanes.proofs.Parts.{of_eights, in_eights, least_of_four}
+use Rattle.trip_lanes.proofs.VectorParts.{of_eights, in_eights, least_of_four}
 use Rattle.trip_lanes.proofs.narrow.least.Goals as goal
 
 pub returns-clause-below : goal.returns-clause-below

@@ -1,5 +1,5 @@
 use Rattle.std.proofs.Common.{arith}
-use Rattle.trip_lanes.proofs.Select.{smaller_at}
+use Rattle.trip_lanes.proofs.VectorChoices.{smaller_at}
 use Rattle.trip_lanes.proofs.narrow.lower_eight.Goals as goal
 use mir.Syntax.{w16}
 

@@ -1,5 +1,5 @@
 use Rattle.std.proofs.Common.{arith}
-use Rattle.trip_lanes.proofs.Choosing.{kept_at, marked_at}
+use Rattle.trip_lanes.proofs.ChoicesInOneLane.{kept_at, marked_at}
 use Rattle.trip_lanes.proofs.narrow.ridden.Goals as goal
 use mir.Syntax.{w16}
 

@@ -7,8 +7,8 @@ returns-clause-fits g c l h = omega (arith, c.lower_of.ensures l h, c.requires.f
 
 pub returns-clause-sound : goal.returns-clause-sound
 returns-clause-sound g c l r h on =
-    let was = g.R.Row.labels c.args.run in
-    let ready = g.R.Row.labels c.args.ready in
+    let was = g.R.LaneLabels.labels c.args.run in
+    let ready = g.R.LaneLabels.labels c.args.ready in
     let n = c.lower_of.ensures l h in
     elim (cases_lt c.args.depart (slice_index ready l)) [
       | inl late ↦
@@ -25,7 +25,7 @@ returns-clause-sound g c l r h on =
 pub returns-clause-kept : goal.returns-clause-kept
 returns-clause-kept g c l r h o =
     let n = c.lower_of.ensures l h in (
-      slice_index (g.R.Row.labels c.lower_of.result) l,
+      slice_index (g.R.LaneLabels.labels c.lower_of.result) l,
       omega (arith, n, o.1, o.2.on),
       record { on = refl; some = omega (arith, n, o.2.on, o.2.some) },
     )
@@ -34,7 +34,7 @@ pub returns-clause-caught : goal.returns-clause-caught
 returns-clause-caught g c l h soon =
     let n = c.lower_of.ensures l h in
     let o = c.catch.ensures.caught l h soon in (
-      slice_index (g.R.Row.labels c.lower_of.result) l,
+      slice_index (g.R.LaneLabels.labels c.lower_of.result) l,
       omega (arith, n, o),
       record { on = refl; some = omega (arith, n, o) },
     )

@@ -1,5 +1,5 @@
 use Rattle.std.proofs.Common.{arith}
-use Rattle.trip_lanes.proofs.Choosing.{fallen_at}
+use Rattle.trip_lanes.proofs.ChoicesInOneLane.{fallen_at}
 use Rattle.trip_lanes.proofs.wide.of_fallen.Goals as goal
 use mir.Syntax.{w32}
 

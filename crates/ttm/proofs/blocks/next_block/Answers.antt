@@ -19,7 +19,8 @@ returns-then-byte-eq-LF-clause-block g c =
     gathered_closed (g.I.Read.remaining c.args.input.now) mid left c.loop.gathered c.loop.begins c.in-Some.byte
     c.closed_block.result c.loop.invariant
     (subst (λ b. IsByte mid left b) c.in-Some.is c.in_ok-byte.ensures.byte)
-    (is_end c.loop.begins c.in-Some.byte c.if-begins.true c.if-byte-eq-LF.true) c.closed_block.ensures.closed c.closed_block.ensures.words
+    (is_end c.loop.begins c.in-Some.byte c.if-begins.true c.if-byte-eq-LF.true) c.closed_block.ensures.closed
+    c.closed_block.ensures.words
 
 pub loop-preserved : goal.loop-preserved
 loop-preserved g c =

@@ -16,7 +16,7 @@ returns-in-Ok-clause-ended g c =
     let status = exit_status c.end.result in
     let kept = inputs_of c.in-Ok.kept.inputs in
     inr
-    (same_talk finds kept (inputs_of c.args.inputs.now) c.in-Ok.kept.settings.now c.args.task.now.settings known left out
-    put err told status c.in-Ok.ensures.files c.in-Ok.ensures.settings
+    (same_talk finds kept (inputs_of c.args.inputs.now) c.in-Ok.kept.settings.now c.args.task.now.settings known left
+    out put err told status c.in-Ok.ensures.files c.in-Ok.ensures.settings
     (ends_talk finds kept c.in-Ok.kept.settings.now known left out put err told status c.talk.result
     c.talk.ensures.whole c.talk.ensures.fault c.end.ensures.ended))

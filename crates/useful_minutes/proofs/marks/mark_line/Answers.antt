@@ -1,31 +1,58 @@
-use Rattle.std.proofs.Common.{ℕ, ◌*◌, length, sym, ◌∙◌, ap, subst, arith}
-use Rattle.useful_minutes.specs.Marks.{IsInMinute}
-use Rattle.useful_minutes.proofs.Marking.{marks_alike, marks_none}
-use Rattle.useful_minutes.proofs.Riding.{row_long, departs_at, rides_past}
+use Rattle.std.proofs.Common.{ℕ, ◌*◌, length, ◌∙◌, ap, arith}
+use Rattle.useful_minutes.proofs.LineEvents.{row_long}
+use Rattle.useful_minutes.proofs.MarkedLines.{boardings_inside, calls_in_range, line_covers, times_of_line}
 use Rattle.useful_minutes.proofs.marks.mark_line.Goals as goal
+use Rattle.useful_minutes.proofs.marks.mark_line.Goals.{then-len-gt0, else-len-gt0}
+
+pub boardings_of-requires : goal.boardings_of-requires
+boardings_of-requires c =
+    let n = c.requires.walks.0 in
+    let has = c.requires.walks.2 in
+    let lines = c.args.lines.now in
+    let v = times_of_line n lines has.lined c.args.line c.calls_of-calls.result.now c.calls_of-calls.ensures in
+    record {
+      stops = calls_in_range n c.requires.walks.1 c.args.walks.now has.ok has.walked lines has.lined c.args.line v.row
+          c.calls_of-calls.result.now v.times v.at v.view;
+    }
 
 pub mark_trips-requires-clause-size : goal.mark_trips-requires-clause-size
 mark_trips-requires-clause-size c =
+    let has = c.requires.walks.2 in
     let row = c.trips_of-trips.result.now in
-    let view = c.requires.lines.viewed.view c.args.line row c.calls_of-positions.result.now c.times_of.result.now
-    c.trips_of-trips.ensures c.calls_of-positions.ensures c.times_of.ensures in
-    view.size ∙ ap (λ (k : ℕ). k * length c.calls_of-positions.result.now) (row_long c.args.network.now.trips row)
+    let view = has.lined.viewed.view c.args.line row c.calls_of-calls.result.now c.times_of.result.now
+    c.trips_of-trips.ensures c.calls_of-calls.ensures c.times_of.ensures in
+    view.size ∙ ap (λ (k : ℕ). k * length c.calls_of-calls.result.now) (row_long c.requires.walks.0.trips row)
 
-pub returns-then-position-positions : goal.returns-then-position-positions
-returns-then-position-positions c =
-    let trips = c.args.network.now.trips in
+pub mark_trips-requires-clause-inside : goal.mark_trips-requires-clause-inside
+mark_trips-requires-clause-inside c =
+    let has = c.requires.walks.2 in
     let row = c.trips_of-trips.result.now in
-    let calls = c.calls_of-positions.result.now in
-    let view = c.requires.lines.viewed.view c.args.line row calls c.times_of.result.now c.trips_of-trips.ensures
-    c.calls_of-positions.ensures c.times_of.ensures in
-    marks_alike (λ m h. let d = departs_at trips c.args.lines.now.lines c.args.line row c.trips_of-trips.ensures calls
-    c.times_of.result.now view c.args.position h.0 h.1 in
-    (d.0, d.1, subst (λ (x : ℕ). IsInMinute c.args.first m x) (sym d.2) h.2)) c.mark_trips.ensures
+    let calls = c.calls_of-calls.result.now in
+    let times = c.times_of.result.now in
+    let view = has.lined.viewed.view c.args.line row calls times c.trips_of-trips.ensures c.calls_of-calls.ensures
+    c.times_of.ensures in
+    rw c.deref.ensures.value (boardings_inside c.requires.walks.0 c.requires.walks.1 c.args.walks.now has.ok has.walked
+    c.args.lines.now has.lined c.args.line row calls times c.trips_of-trips.ensures view c.in_ok-boardings.boardings.items
+    c.in_ok-boardings.ensures)
 
-pub returns-else-position-positions : goal.returns-else-position-positions
-returns-else-position-positions c =
-    let trips = c.args.network.now.trips in
+pub returns-clause-covers : goal.returns-clause-covers
+returns-clause-covers c n origin has =
     let lines = c.args.lines.now in
-    marks_none c.args.marks.now (λ m h. let past = rides_past c.args.network.now.stops trips lines c.requires.lines
-    c.args.line c.calls_of-positions.result.now c.calls_of-positions.ensures c.args.position h.0 h.1 in
-    omega (arith, past, c.if-position-positions.false))
+    let line : ℕ = c.args.line in
+    let row = c.trips_of-trips.result.now in
+    let calls = c.calls_of-calls.result.now in
+    let bs = c.in_ok-boardings.boardings.items in
+    elim c.if-len-gt0.branch [
+      | then-len-gt0 w ↦
+          let times = w.times_of.result.now in
+          let view = has.lined.viewed.view line row calls times c.trips_of-trips.ensures c.calls_of-calls.ensures
+          w.times_of.ensures in
+          rw w.marks-is (line_covers n origin c.args.walks.now has.ok has.walked lines has.lined line row calls times
+          c.trips_of-trips.ensures view bs c.in_ok-boardings.ensures c.args.first w.mark_trips.new.marks
+          (rw w.deref.ensures.value at w.mark_trips.ensures.covers))
+      | else-len-gt0 w ↦
+          let v = times_of_line n lines has.lined line calls c.calls_of-calls.ensures in
+          line_covers n origin c.args.walks.now has.ok has.walked lines has.lined line v.row calls v.times v.at v.view bs
+          c.in_ok-boardings.ensures c.args.first c.if-len-gt0.marks
+          (λ r l k j seconds m inside here caught. absurd (omega (arith, inside, w.if-len-gt0.false, c.len.ensures, c.in_ok-boardings.boardings.ok.0)))
+    ]

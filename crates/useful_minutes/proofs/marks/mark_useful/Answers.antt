@@ -1,60 +1,51 @@
-use Rattle.std.proofs.Common.{◌≡◌, ℕ, ◌⊎◌, length, get_or, slice_get, Some, sym, subst}
-use Rattle.std.proofs.Common.{arith}
-use Rattle.std.proofs.lemmas.Option.{slice_get-get_or}
-use Rattle.timetable.specs.declared.trips.StopNo.{StopNo}
-use Rattle.timetable.proofs.Known.{foot_in_range, foot_short}
-use Rattle.useful_minutes.specs.Marks.{BoardsIn}
-use Rattle.useful_minutes.proofs.Marking.{marks_alike, marks_both, marks_first, marks_beside, Below}
-use Rattle.useful_minutes.proofs.Stopping.{MarksWalk, walk_marks, of_walks}
+use Rattle.std.proofs.Common.{ℕ, ◌≡◌, inl, inr, subst, arith}
+use Rattle.std.proofs.lemmas.Bool.{cases_lt}
+use Rattle.std.proofs.lemmas.Option.{slice_get_within}
+use Rattle.useful_minutes.specs.Marks.{CoversLine, HasWalks}
+use Rattle.useful_minutes.proofs.MarkedTrips.{grows_on}
+use Rattle.useful_minutes.proofs.MarkedLines.{covers_line_still}
 use Rattle.useful_minutes.proofs.marks.mark_useful.Goals as goal
 
-pub loop-stop-init : goal.loop-stop-init
-loop-stop-init c = marks_both c.mark_stop.ensures (marks_first c.mark_stop.new.marks)
+pub mark_line-requires-clause-walks : goal.mark_line-requires-clause-walks
+mark_line-requires-clause-walks c = (
+  c.args.network.now,
+  c.args.origin.0,
+  record {
+    ok = c.known.ensures;
+    lined = c.lines-lines.ensures;
+    walked = rw c.deref.ensures.value c.in_ok-walks.ensures;
+  },
+)
 
-pub overflow_add-first : goal.overflow_add-first
-overflow_add-first c =
+pub loop-line-preserved : goal.loop-line-preserved
+loop-line-preserved c =
     let n = c.args.network.now in
-    let row = c.leaving-stop-items.result.now in
-    let k = c.loop-stop.stop-index in
-    let none : StopNo × ℕ = (record { 0 = 0 }, 0) in
-    let here = slice_get-get_or row k none c.loop-stop-test.true in
-    let at : slice_get n.feet.walks c.args.origin.0 ≡ Some row = rw c.feet.ensures at c.leaving-stop-items.ensures in
-    let short = foot_short n.feet c.known.ensures.feet c.args.origin.0 (get_or row k none).0.0 (get_or row k none).1
-    (row, k, at, here) in
-    omega (arith, short, c.requires.first)
+    let origin : ℕ = c.args.origin.0 in
+    let old = c.loop-line.invariant in
+    let told = c.in_ok-mark_line.ensures in
+    let line = c.loop-line.line in
+    let lines = c.lines-lines.result.now in
+    let has : HasWalks n origin lines c.deref.result.now =
+    record {
+      ok = c.known.ensures;
+      lined = c.lines-lines.ensures;
+      walked = rw c.deref.ensures.value c.in_ok-walks.ensures;
+    } in
+    record {
+      grows = grows_on old.grows told.grows;
+      covers = λ k l. elim (cases_lt k line) [
+        | inl lt ↦ covers_line_still n origin c.args.first lines.lines k told.grows (old.covers k lt)
+        | inr ge ↦
+            let e : line ≡ k = omega (arith, ge, l) in
+            subst (CoversLine n origin c.args.first lines.lines c.mark_line.new.marks) e (told.covers n origin has)
+      ];
+    }
 
-pub mark_stop-requires-in-loop-stop-clause-stop : goal.mark_stop-requires-in-loop-stop-clause-stop
-mark_stop-requires-in-loop-stop-clause-stop c =
+pub returns-clause-covers : goal.returns-clause-covers
+returns-clause-covers c trip j m caught =
     let n = c.args.network.now in
-    let row = c.leaving-stop-items.result.now in
-    let k = c.loop-stop.stop-index in
-    let none : StopNo × ℕ = (record { 0 = 0 }, 0) in
-    let here = slice_get-get_or row k none c.loop-stop-test.true in
-    let at : slice_get n.feet.walks c.args.origin.0 ≡ Some row = rw c.feet.ensures at c.leaving-stop-items.ensures in
-    let target = foot_in_range n.feet c.known.ensures.feet c.args.origin.0 (get_or row k none).0.0 (get_or row k none).1
-    (row, k, at, here) in
-    omega (arith, target.0, c.known.ensures.in_range.lists)
-
-pub loop-stop-preserved : goal.loop-stop-preserved
-loop-stop-preserved c =
-    let n = c.args.network.now in
-    let row = c.leaving-stop-items.result.now in
-    let k = c.loop-stop.stop-index in
-    let none : StopNo × ℕ = (record { 0 = 0 }, 0) in
-    let here = slice_get-get_or row k none c.loop-stop-test.true in
-    marks_beside k c.loop-stop.invariant (marks_alike (λ m h. walk_marks n row c.args.first k m (get_or row k none) here
-    h) c.mark_stop-in-loop-stop.ensures)
-
-pub returns : goal.returns
-returns c =
-    let n = c.args.network.now in
-    let row = c.leaving-stop-items.result.now in
-    let at : slice_get n.feet.walks c.args.origin.0 ≡ Some row = rw c.feet.ensures at c.leaving-stop-items.ensures in
-    let all : c.loop-stop.stop-index ≡ length row = omega (
-      arith,
-      c.loop-stop-test.false,
-      c.loop-stop.auto.stop-index-end,
-    ) in
-    marks_alike (λ m u. subst (λ (i : ℕ). BoardsIn n c.args.origin.0 c.args.first m
-    ⊎ Below (MarksWalk n row c.args.first) i m) (sym all) (of_walks n c.args.origin.0 c.args.first row at m u))
-    c.loop-stop.invariant
+    let lined = c.lines-lines.ensures in
+    let line = lined.lines.all trip (slice_get_within n.trips trip caught.t caught.runs) in
+    let within = slice_get_within c.lines-lines.result.now.lines line.0 line.1.0 line.1.2 in
+    c.loop-line.invariant.covers line.0 (omega (arith, within, c.loop-line-test.false, c.count-line-end.ensures)) trip j
+    m line.1 caught

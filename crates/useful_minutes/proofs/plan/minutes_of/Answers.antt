@@ -1,6 +1,6 @@
 use Rattle.std.proofs.Common.{sym, ◌∙◌, arith}
 use Rattle.std.proofs.lemmas.Bool.{false≢true}
-use Rattle.useful_minutes.proofs.Planning.{picked_more, picked_same}
+use Rattle.useful_minutes.proofs.SearchedMinutes.{picked_more, picked_same}
 use Rattle.useful_minutes.proofs.plan.minutes_of.Goals as goal
 use Rattle.useful_minutes.proofs.plan.minutes_of.Goals.{then-marks-m+in_ok-push, else-marks-m+else-m-marks+else-next-m}
 

@@ -1,4 +1,4 @@
-use Rattle.useful_minutes.proofs.Planning.{Picked}
+use Rattle.useful_minutes.proofs.SearchedMinutes.{Picked}
 use Rattle.useful_minutes.proofs.plan.minutes_of.Given as goal
 
 abbrev pub invariant-loop-m : goal.invariant-loop-m

@@ -1,4 +1,4 @@
-use Rattle.useful_minutes.proofs.Planning.{all_skip_nothing}
+use Rattle.useful_minutes.proofs.SearchedMinutes.{all_skip_nothing}
 use Rattle.useful_minutes.proofs.plan.plan_for.Goals as goal
 
 pub returns-clause-skips : goal.returns-clause-skips

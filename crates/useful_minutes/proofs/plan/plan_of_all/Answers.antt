@@ -1,6 +1,6 @@
 use Rattle.std.proofs.Common.{rules, ◌≡◌, length, replicate, false, true, ap, ◌∙◌, slice_index_or, List, Bool}
 use Rattle.std.proofs.lemmas.List.{get_or-replicate, length-replicate}
-use Rattle.useful_minutes.proofs.Planning.{searches_all}
+use Rattle.useful_minutes.proofs.SearchedMinutes.{searches_all}
 use Rattle.useful_minutes.proofs.plan.plan_of_all.Goals as goal
 
 pub returns-clause-all : goal.returns-clause-all

@@ -1,6 +1,6 @@
 use Rattle.std.proofs.Common.{◌≡◌, ◌+◌, ◌<◌, length, inl, inr, refl, arith}
 use Rattle.std.proofs.lemmas.Bool.{cases_lt}
-use Rattle.useful_minutes.proofs.Planning.{no_less, stood_next, stood_more}
+use Rattle.useful_minutes.proofs.SearchedMinutes.{no_less, stood_next, stood_more}
 use Rattle.useful_minutes.proofs.plan.stand_ins.Goals as goal
 use Rattle.useful_minutes.proofs.plan.stand_ins.Goals.{then-searched-at, else-searched-at}
 

@@ -1,4 +1,4 @@
-use Rattle.useful_minutes.proofs.Planning.{StoodIn}
+use Rattle.useful_minutes.proofs.SearchedMinutes.{StoodIn}
 use Rattle.useful_minutes.proofs.plan.stand_ins.Given as goal
 
 abbrev pub invariant-loop-m : goal.invariant-loop-m

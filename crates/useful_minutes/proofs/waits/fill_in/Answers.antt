@@ -1,45 +1,13 @@
-use Rattle.std.proofs.Common.{◌≡◌, ℕ, ◌+◌, ◌*◌, ◌/◌, ◌%◌, inl, inr, List, length, slice_index}
-use Rattle.std.proofs.Common.{◌∙◌, ap, subst, arith}
-use Rattle.std.proofs.lemmas.Bool.{cases_lt}
-use Rattle.useful_minutes.specs.Waits.{label_at, label_from, waited}
-use Rattle.useful_minutes.proofs.Filled.{position_before, next_rows}
+use Rattle.std.proofs.Common.{◌+◌, ◌/◌, length, ap, arith}
 use Rattle.useful_minutes.proofs.waits.fill_in.Goals as goal
 
-pub loop-stop-preserved : goal.loop-stop-preserved
-loop-stop-preserved c =
-    let old = c.loop-stop.invariant in
-    let told = c.fill_stop.ensures in
-    let rows : ℕ = length c.args.near.now / 16 in
-    let sixteens : length c.args.near.now ≡ 16 * rows = let e = c.requires.rows.1 in omega (arith, e) in
-    let stop = c.loop-stop.stop in
+pub fill_stops-requires-clause-near : goal.fill_stops-requires-clause-near
+fill_stops-requires-clause-near c =
+    let e = ap length c.as_mut_slice-near.ensures.value in
+    let rows = c.requires.rows in
     record {
-      same = told.same ∙ old.same;
-      near = told.near ∙ old.near;
-      filled = λ p m l h. elim (cases_lt p stop) [
-        | inl lt ↦
-            let before = position_before rows p stop (m / 16) lt (omega (arith, h, sixteens)) in
-            ap (λ (row : List ℕ). slice_index row (m % 16)) (told.kept (p * rows + m / 16) (inl before))
-            ∙ old.filled p m lt h
-        | inr ge ↦
-            let e : stop ≡ p = omega (arith, ge, l) in
-            let position = slice_index c.args.positions.now m in
-            let was : label_from (stop * rows) c.loop-stop.labels position
-            ≡ label_at rows c.args.labels.now stop position =
-            ap (λ (row : List ℕ). slice_index row (position % 16))
-            (old.kept (stop * rows + position / 16) (omega arith)) in
-            subst (λ (q : ℕ). label_at rows c.fill_stop.new.labels q m ≡ waited
-            (label_at rows c.args.labels.now q position) (slice_index c.args.waits.now m)) e
-            (told.filled m (omega (arith, h, old.near))
-            ∙ ap (λ (x : ℕ). waited x (slice_index c.args.waits.now m)) was)
-      ];
-      kept = λ i l.
-          let next = next_rows rows stop in
-          told.kept i (inr (omega (arith, l, next, sixteens, old.near))) ∙ old.kept i (omega (arith, l, next));
+      rows = c.args.searched / 16 + 1;
+      size = omega (arith, e, c.in_ok-room.ensures.len, c.in_ok-room.room.ok.0);
+      few = omega (arith, c.requires.few, rows.1);
+      within = λ k d l. let low = c.requires.within k d l in omega (arith, low);
     }
-
-pub returns-clause-filled : goal.returns-clause-filled
-returns-clause-filled c rows p m long there l =
-    let e : length c.args.near.now / 16 ≡ rows = omega (arith, long) in
-    subst (λ (w : ℕ). label_at w c.loop-stop.labels p m ≡ waited
-    (label_at w c.args.labels.now p (slice_index c.args.positions.now m)) (slice_index c.args.waits.now m)) e
-    (c.loop-stop.invariant.filled p m (omega (arith, there, c.loop-stop-test.false)) l)

@@ -1,14 +1,25 @@
-use Rattle.std.proofs.Common.{ℕ, ◌+◌, ◌*◌, ◌∙◌, slice_index, refl, arith}
-use Rattle.std.proofs.lemmas.List.{length-set}
-use Rattle.useful_minutes.proofs.Filled.{set_one}
+use Rattle.std.proofs.Common.{◌≡◌, ◌*◌, ◌+◌, ◌-◌, ◌<◌, ℕ, inl, inr, ap, ◌∙◌, sym, arith, slice_index}
+use Rattle.std.proofs.lemmas.Bool.{cases_lt}
 use Rattle.useful_minutes.proofs.waits.stand_ins_of.Goals as goal
 
-pub loop-l-preserved : goal.loop-l-preserved
-loop-l-preserved c =
-    let old = c.loop-l.invariant in
+pub loop-part-preserved : goal.loop-part-preserved
+loop-part-preserved c =
+    let old = c.loop-part.invariant in
+    let put = c.put_four.ensures in
+    let part = c.loop-part.part in
+    let near = c.args.near.now in
+    let positions = c.args.positions.now in
     record {
-      size = length-set c.loop-l.taken c.loop-l.l _ ∙ old.size;
-      done = set_one c.loop-l.taken c.loop-l.l _
-          (λ (j : ℕ). slice_index c.args.near.now (slice_index c.args.positions.now (16 * c.args.row + j)))
-          (omega (arith, c.loop-l-test.true, old.size)) old.done refl;
+      size = put.same ∙ old.size;
+      done = λ k l. elim (cases_lt k (4 * part)) [
+        | inl lt ↦ put.kept k (inl lt) ∙ old.done k lt
+        | inr ge ↦
+            let j : ℕ = k - 4 * part in
+            let lane : j < 4 = omega (arith, ge, l) in
+            let here : 4 * part + j ≡ k = omega (arith, ge) in
+            let there : 4 * (4 * c.args.row + part) + j ≡ 16 * c.args.row + k = omega (arith, ge) in
+            ap (λ (i : ℕ). slice_index c.put_four.new.labels i) (sym here)
+            ∙ (put.put j lane ∙ (c.four_of.ensures j lane
+            ∙ ap (λ (i : ℕ). slice_index near (slice_index positions i)) there))
+      ];
     }

@@ -1,20 +1,20 @@
-use Rattle.std.proofs.Common.{◌≡◌, ℕ, ◌+◌, ◌*◌, ◌∙◌, slice_index, arith}
-use Rattle.std.proofs.lemmas.List.{length-set}
-use Rattle.useful_minutes.specs.Waits.{waited}
-use Rattle.useful_minutes.proofs.Filled.{set_one}
+use Rattle.std.proofs.Common.{◌*◌, ◌+◌, ◌-◌, ◌≤◌, ℕ, ap, ◌∙◌, arith, get_or, slice_index, length, take, drop, min}
+use Rattle.std.proofs.lemmas.Simd.{length-chunk}
+use Rattle.std.proofs.lemmas.List.{length-take, length-drop}
+use Rattle.trip_lanes.proofs.VectorParts.{lane_of}
+use Rattle.useful_minutes.proofs.LabelsInOrder.{waits_at}
 use Rattle.useful_minutes.proofs.waits.with_waits.Goals as goal
+use lib.Lanes.{chunk}
 
-pub loop-l-preserved : goal.loop-l-preserved
-loop-l-preserved c =
-    let old = c.loop-l.invariant in
-    let F : ℕ → ℕ =
-    λ j. waited (slice_index c.args.labels j) (slice_index c.args.waits.now (16 * c.args.row + j)) in
-    let is : c.saturating_add.result ≡ F c.loop-l.l = omega (arith, c.saturating_add.ensures) in
-    record {
-      size = length-set c.loop-l.later c.loop-l.l c.saturating_add.result ∙ old.size;
-      done = set_one c.loop-l.later c.loop-l.l c.saturating_add.result F (omega (
-        arith,
-        c.loop-l-test.true,
-        old.size,
-      )) old.done is;
-    }
+pub returns : goal.returns
+returns c l h =
+    let from : ℕ = 16 * c.args.row in
+    let all = c.args.waits.now in
+    let part = take (from + 16 - from) (drop from all) in
+    let part_len : 0 + 16 ≤ length part =
+    omega (arith, length-take (from + 16 - from) (drop from all), length-drop from all, c.requires) in
+    let waits = chunk 0 16 part in
+    let here = lane_of 16 all from l (omega (arith, c.requires)) h in
+    let fits : get_or waits l 0 ≤ 4294967295 = let f = (c.type_inv.waits (from + l)).fits in omega (arith, f, here.0) in
+    waits_at c.args.labels waits l h (omega arith) (length-chunk 0 16 part part_len) fits
+    ∙ ap (λ (w : ℕ). min (slice_index c.args.labels l + w) 4294967295) here.0

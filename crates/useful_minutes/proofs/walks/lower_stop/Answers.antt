@@ -1,7 +1,7 @@
 use Rattle.std.proofs.Common.{◌≡◌, ℕ, ◌+◌, ◌*◌, ◌/◌, ◌%◌, ◌<◌, inl, inr, min, ◌∙◌, ap, subst, arith}
 use Rattle.std.proofs.lemmas.Bool.{cases_lt}
 use Rattle.useful_minutes.specs.Waits.{label_at}
-use Rattle.useful_minutes.proofs.Filled.{lanes_differ}
+use Rattle.useful_minutes.proofs.FilledLabels.{lanes_differ}
 use Rattle.useful_minutes.proofs.walks.lower_stop.Goals as goal
 
 pub loop-m-preserved : goal.loop-m-preserved

@@ -2,10 +2,10 @@ use Rattle.std.proofs.Common.{◌≡◌, ℕ, ◌*◌, ◌<◌, inl, inr, get_or
 use Rattle.std.proofs.Common.{subst, arith}
 use Rattle.std.proofs.lemmas.Option.{slice_get-get_or}
 use Rattle.timetable.specs.declared.trips.StopNo.{StopNo}
-use Rattle.timetable.proofs.Known.{foot_in_range}
+use Rattle.timetable.proofs.KnownParts.{foot_in_range}
 use Rattle.useful_minutes.specs.Waits.{label_at}
-use Rattle.useful_minutes.proofs.Filled.{rows_within}
-use Rattle.useful_minutes.proofs.Alone.{walked_more, walked_all}
+use Rattle.useful_minutes.proofs.FilledLabels.{rows_within}
+use Rattle.useful_minutes.proofs.WalksAlone.{walked_more, walked_all}
 use Rattle.useful_minutes.proofs.walks.walk_alone.Goals as goal
 
 pub lower_stop-requires-in-loop-stop-clause-labels : goal.lower_stop-requires-in-loop-stop-clause-labels

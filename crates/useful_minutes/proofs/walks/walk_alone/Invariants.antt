@@ -1,6 +1,6 @@
 use Rattle.std.proofs.Common.{◌≡◌, ℕ, ◌*◌, ◌<◌, ◌≤◌, length}
 use Rattle.useful_minutes.specs.Waits.{label_at}
-use Rattle.useful_minutes.proofs.Alone.{IsWalkedBefore}
+use Rattle.useful_minutes.proofs.WalksAlone.{IsWalkedBefore}
 use Rattle.useful_minutes.proofs.walks.walk_alone.Given as goal
 
 abbrev pub invariant-loop-stop : goal.invariant-loop-stop

@@ -1,4 +1,4 @@
-use Rattle.work_book.proofs.Told.{some_run}
+use Rattle.work_book.proofs.ClosedBoards.{some_run}
 use Rattle.work_book.proofs.laws.closed_boards_are_runs.Goals as goal
 
 pub returns : goal.returns

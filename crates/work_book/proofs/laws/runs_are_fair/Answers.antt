@@ -1,5 +1,5 @@
-use Rattle.work_book.proofs.Fair.{reached_fair, new_fair}
-use Rattle.work_book.proofs.Nothing.{nothing_last}
+use Rattle.work_book.proofs.StepsAreFair.{reached_fair, new_fair}
+use Rattle.work_book.proofs.NothingIsLast.{nothing_last}
 use Rattle.work_book.specs.Book.{new_book}
 use Rattle.work_book.proofs.laws.runs_are_fair.Goals as goal
 

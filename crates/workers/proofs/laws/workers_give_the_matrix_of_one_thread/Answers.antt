@@ -1,5 +1,5 @@
 use Rattle.workers.specs.Study.{study_of}
-use Rattle.workers.proofs.Ended.{one_matrix}
+use Rattle.workers.proofs.RunEnds.{one_matrix}
 use Rattle.workers.proofs.laws.workers_give_the_matrix_of_one_thread.Goals as goal
 
 pub returns : goal.returns

@@ -1,7 +1,7 @@
 use Rattle.std.proofs.Common.{◌<◌, ℕ, subst, sym}
 use Rattle.std.specs.List.{All}
 use Rattle.timetable.specs.declared.trips.StopNo.{StopNo}
-use Rattle.shares.proofs.There.{cells_there}
+use Rattle.shares.proofs.CellsExist.{cells_there}
 use Rattle.workers.proofs.Shares.{at_all}
 use Rattle.workers.proofs.rows.given_of.Goals as goal
 

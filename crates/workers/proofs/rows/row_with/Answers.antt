@@ -3,7 +3,7 @@ use Rattle.std.specs.List.{All}
 use Rattle.timetable.specs.declared.trips.StopNo.{StopNo}
 use Rattle.workers.specs.Study.{study_of}
 use Rattle.workers.proofs.Shares.{row_is}
-use Rattle.workers.proofs.Wide.{stops_of}
+use Rattle.workers.proofs.WholeRows.{stops_of}
 use Rattle.workers.proofs.rows.row_with.Goals as goal
 
 pub cells_of_at-requires-clause-stops : goal.cells_of_at-requires-clause-stops

@@ -8,8 +8,8 @@ use Rattle.workers.specs.Held.{HoldsRows}
 use Rattle.workers.specs.Filling.{AreFilledAs}
 use Rattle.workers.specs.Outcomes.{is_short, is_some_short, joined}
 use Rattle.workers.specs.declared.worker.Worked.{Worked}
-use Rattle.workers.proofs.Fills.{fills}
-use Rattle.workers.proofs.Joined.{first_of_all, rest_of_all}
+use Rattle.workers.proofs.OffersFill.{fills}
+use Rattle.workers.proofs.OneMoreOfAll.{first_of_all, rest_of_all}
 use Rattle.workers.proofs.run.gather.Goals as goal
 
 -- one worker fewer is left to ask

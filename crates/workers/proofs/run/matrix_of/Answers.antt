@@ -1,6 +1,6 @@
 use Rattle.std.proofs.Common.{◌∙◌, sym}
-use Rattle.workers.proofs.Ended.{some_are}
-use Rattle.workers.proofs.Fills.{first_unkept}
+use Rattle.workers.proofs.RunEnds.{some_are}
+use Rattle.workers.proofs.OffersFill.{first_unkept}
 use Rattle.workers.proofs.run.matrix_of.Goals as goal
 
 pub returns-in-Err-3-clause-fault : goal.returns-in-Err-3-clause-fault

@@ -1,6 +1,6 @@
 use Rattle.std.proofs.Common.{◌≡◌}
 use Rattle.std.specs.Vec.Iter.{into_iter_items}
-use Rattle.collector.specs.Run.{offered}
+use Rattle.collector.specs.Offers.{offered}
 use Rattle.workers.proofs.run.offer_all.Given as goal
 
 abbrev pub invariant-loop-row : goal.invariant-loop-row

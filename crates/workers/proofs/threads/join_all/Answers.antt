@@ -1,6 +1,6 @@
 use Rattle.std.proofs.Common.{◌≡◌, vec_items, subst, arith}
 use Rattle.std.specs.Vec.Iter.{into_iter_items}
-use Rattle.workers.proofs.Joined.{first_of_all, rest_of_all, one_more_of_all}
+use Rattle.workers.proofs.OneMoreOfAll.{first_of_all, rest_of_all, one_more_of_all}
 use Rattle.workers.proofs.threads.join_all.Goals as goal
 
 pub loop-handle-preserved : goal.loop-handle-preserved

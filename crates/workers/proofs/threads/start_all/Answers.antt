@@ -1,6 +1,6 @@
 use Rattle.std.proofs.Common.{◌≡◌, vec_items, arith}
 use Rattle.std.specs.Vec.Iter.{into_iter_items}
-use Rattle.workers.proofs.Joined.{rest_of_all, one_more_of_all}
+use Rattle.workers.proofs.OneMoreOfAll.{rest_of_all, one_more_of_all}
 use Rattle.workers.proofs.threads.start_all.Goals as goal
 
 pub loop-seat-preserved-in-Some-start : goal.loop-seat-preserved-in-Some-start

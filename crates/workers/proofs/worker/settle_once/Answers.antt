@@ -2,8 +2,8 @@ use Rattle.std.proofs.Common.{ap, rules}
 use Rattle.work_book.specs.Board.{seen_by}
 use Rattle.work_book.specs.declared.rule.View.{View}
 use Rattle.workers.specs.Study.{study_of}
-use Rattle.workers.proofs.Holds.{holds_new, kept_same, more_none, more_once}
-use Rattle.workers.proofs.Knows.{told_more}
+use Rattle.workers.proofs.HeldRowsGrow.{holds_new, kept_same, more_none, more_once}
+use Rattle.workers.proofs.KnowledgeGrows.{told_more}
 use Rattle.workers.proofs.worker.settle_once.Goals as goal
 
 pub returns-in-Kept-clause-rows : goal.returns-in-Kept-clause-rows

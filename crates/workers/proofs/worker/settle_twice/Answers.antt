@@ -3,9 +3,10 @@ use Rattle.work_book.specs.Board.{seen_by}
 use Rattle.work_book.specs.declared.lease.Settled.TheVariants.{Kept, Double}
 use Rattle.work_book.specs.declared.rule.View.{View}
 use Rattle.workers.specs.Study.{study_of}
-use Rattle.workers.proofs.Holds.{holds_again, holds_new, holds_same, known_after, more_none, more_twice, settles_known}
-use Rattle.workers.proofs.Knows.{knows_both, knows_settled, told_more}
-use Rattle.workers.proofs.Times.{last_in}
+use Rattle.workers.proofs.HeldRowsGrow.{holds_again, holds_new, holds_same, known_after, more_none, more_twice}
+use Rattle.workers.proofs.HeldRowsGrow.{settles_known}
+use Rattle.workers.proofs.KnowledgeGrows.{knows_both, knows_settled, told_more}
+use Rattle.workers.proofs.JobCounts.{last_in}
 use Rattle.workers.proofs.worker.settle_twice.Goals as goal
 
 pub returns-in-Kept-clause-rows : goal.returns-in-Kept-clause-rows

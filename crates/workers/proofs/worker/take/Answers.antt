@@ -2,8 +2,8 @@ use Rattle.std.proofs.Common.{rules}
 use Rattle.work_book.specs.Board.{seen_by}
 use Rattle.workers.specs.Study.{study_of}
 use Rattle.workers.specs.declared.gates.Verdict.TheVariants.{Repeat, Work}
-use Rattle.workers.proofs.Doing.{does_as}
-use Rattle.workers.proofs.Knows.{told_same}
+use Rattle.workers.proofs.DoneAsDecided.{does_as}
+use Rattle.workers.proofs.KnowledgeGrows.{told_same}
 use Rattle.workers.proofs.worker.take.Goals as goal
 
 pub returns-then-look-clause-told : goal.returns-then-look-clause-told
@@ -41,5 +41,5 @@ returns-in-Repeat-clause-does g c =
     does_as (g.G.Gate.decides c.args.gate.now) (study_of c.args.study.now) c.args.lease
     (seen_by c.args.hands.now.seat) (seen_by c.look.new.seat) (seen_by c.settle_twice-done.new.hands.seat)
     c.args.hands.now.rows.items c.settle_twice-done.new.hands.rows.items (search rules) Repeat
-    c.settle_twice-done.result c.next_of-in-Repeat.result c.in-Repeat.ensures c.settle_twice-done.ensures.held c.next_of-in-Repeat.ensures.ok
-    c.next_of-in-Repeat.ensures.err
+    c.settle_twice-done.result c.next_of-in-Repeat.result c.in-Repeat.ensures c.settle_twice-done.ensures.held
+    c.next_of-in-Repeat.ensures.ok c.next_of-in-Repeat.ensures.err

@@ -5,9 +5,10 @@ use Rattle.work_book.specs.declared.rule.View.{View}
 use Rattle.workers.specs.Study.{study_of}
 use Rattle.workers.specs.declared.worker.Ending.TheVariants as ending
 use Rattle.workers.specs.Held.{AreTold, HasEnded, HoldsRows, KnowsAsMuch, WorkedFor}
-use Rattle.workers.proofs.Knows.{all_done_more, drawn_same, ended_at, knows_both, knows_same, one_more_done, told_end}
-use Rattle.workers.proofs.Times.{past_last, past_last_push, past_last_le}
-use Rattle.workers.proofs.Holds.{job_below}
+use Rattle.workers.proofs.KnowledgeGrows.{all_done_more, drawn_same, ended_at, knows_both, knows_same}
+use Rattle.workers.proofs.KnowledgeGrows.{one_more_done, told_end}
+use Rattle.workers.proofs.JobCounts.{past_last, past_last_push, past_last_le}
+use Rattle.workers.proofs.HeldRowsGrow.{job_below}
 use Rattle.workers.proofs.worker.work.Goals as goal
 
 pub take-requires-clause-lease : goal.take-requires-clause-lease

@@ -2,8 +2,8 @@ use Rattle.std.proofs.Common.{◌-◌, ◌*◌}
 use Rattle.work_book.specs.Board.{seen_by, IsOf}
 use Rattle.workers.specs.Study.{study_of}
 use Rattle.workers.specs.Held.{AreTold, HoldsRows}
-use Rattle.workers.proofs.Knows.{AreDone}
-use Rattle.workers.proofs.Times.{past_last}
+use Rattle.workers.proofs.KnowledgeGrows.{AreDone}
+use Rattle.workers.proofs.JobCounts.{past_last}
 use Rattle.workers.proofs.worker.work.Given as goal
 
 abbrev pub invariant-loop-lease : goal.invariant-loop-lease

@@ -137,12 +137,33 @@ const sliders = {
     if (shown.hidden) {
       return;
     }
-    const bounds = this.page.map.getBounds(), inside = Array.from(numbers.columns, (place) => isPlaced(place)
-      && bounds.contains([numbers.places[2 * place] / 1e6, numbers.places[2 * place + 1] / 1e6]));
-    const some = (cells) => cells.filter((_, column) => inside[column]);
-    shown.textContent = `Within the picture: ${changesTold(some(now), some(before))}`;
+    const inside = columnsWithin(this.page.map.getBounds());
+    shown.textContent = `Within the picture: ${changesTold(cellsAt(now, inside), cellsAt(before, inside))}`;
   },
 };
+
+/** The columns of the places within some bounds. */
+function columnsWithin(bounds) {
+  const [south, north] = [bounds.getSouth(), bounds.getNorth()], [west, east] = [bounds.getWest(), bounds.getEast()];
+  const found = new Int32Array(head.columns);
+  let count = 0;
+  for (let column = 0; column < head.columns; column++) {
+    const place = numbers.columns[column];
+    const latitude = numbers.places[2 * place] / 1e6, longitude = numbers.places[2 * place + 1] / 1e6;
+    if (isPlaced(place) && latitude >= south && latitude <= north && longitude >= west && longitude <= east) {
+      found[count++] = column;
+    }
+  }
+  return found.subarray(0, count);
+}
+
+function cellsAt(cells, columns) {
+  const found = new Uint8Array(columns.length);
+  for (let at = 0; at < columns.length; at++) {
+    found[at] = cells[columns[at]];
+  }
+  return found;
+}
 
 /** Lines by minutes, and where the slider stands. */
 function curveOf(lines, what, at) {

@@ -98,29 +98,35 @@ class Asker {
 
 const asker = new Asker();
 
-/** Travel times from a place in seconds, for each column, -1 where one isn't reached; null where it was overtaken. */
-async function secondsFrom(place, scenario, share) {
+/** The answer for a place in seconds: by scenario and percentile a number for each column, -1 where one isn't reached;
+ * null where it was overtaken.
+ */
+function answerFrom(place) {
   const { version, first, last, trips } = live;
-  const all = await asker.ask({ version, ...point.originOf(place), first, last, trips });
-  if (all === null) {
-    return null;
-  }
-  const begin = (scenario * head.shares.length + share) * head.columns;
-  return all.subarray(begin, begin + head.columns);
+  return asker.ask({ version, ...point.originOf(place), first, last, trips });
 }
 
-/** The same in whole minutes, rounded up, as the page has them. */
+const inMinutes = new WeakMap(); // answers in whole minutes, rounded up, as the page has them
+
+function minutesOf(answer) {
+  if (!inMinutes.has(answer)) {
+    const minutes = new Uint8Array(answer.length);
+    for (let cell = 0; cell < answer.length; cell++) {
+      minutes[cell] = answer[cell] < 0 ? NEVER : Math.min(LATER, Math.ceil(answer[cell] / 60));
+    }
+    inMinutes.set(answer, minutes);
+  }
+  return inMinutes.get(answer);
+}
+
+/** Travel times from a place in minutes, for each column; null where there are none, or the answer was overtaken. */
 async function minutesFrom(place, scenario, share) {
   try {
-    const seconds = await secondsFrom(place, scenario, share);
+    const answer = await answerFrom(place), begin = (scenario * head.shares.length + share) * head.columns;
     tellFault(null);
-    return seconds === null ? null : Uint8Array.from(seconds, minutesOf);
+    return answer === null ? null : minutesOf(answer).subarray(begin, begin + head.columns);
   } catch (fault) {
     tellFault(fault);
     return null;
   }
-}
-
-function minutesOf(seconds) {
-  return seconds < 0 ? NEVER : Math.min(LATER, Math.ceil(seconds / 60));
 }

@@ -18,8 +18,12 @@ const routes = {
     map.map.on("click", (event) => this.clicked(event));
     this.addControls();
     this.tellChanges(asked.told);
-    this.read_ = answerOf("routes", {}).then((it) => it.json()).then(({ routes: all }) => {
+    this.read_ = answerOf("routes", {}).then((it) => it.json()).then(({ routes: all, running }) => {
       this.all = all;
+      if (running !== null) {
+        numbers.running = Int32Array.from(running);
+        map.ground.draw();
+      }
       fill("route", made("option", "choose one", { value: -1 }), ...optionsOf(all.map((route) => route.name)));
     }).catch(tellFault);
     const wanted = this.wanted;
@@ -94,10 +98,11 @@ const routes = {
 
   /** The route whose line is nearest to a pixel. */
   routeAt(pixel) {
-    let [found, least] = [-1, NEAR_LINE ** 2];
+    const { x, y, scale } = this.page.worldAt(pixel);
+    let [found, least] = [-1, (NEAR_LINE / scale) ** 2];
     this.all.forEach(({ pairs }, route) => {
       for (let at = 0; at < pairs.length; at += 2) {
-        const far = farFrom(pixel, this.page.pixelOf(pairs[at]), this.page.pixelOf(pairs[at + 1]));
+        const far = farFrom(x, y, this.page.points, pairs[at], pairs[at + 1]);
         if (far < least) {
           [found, least] = [route, far];
         }
@@ -177,7 +182,6 @@ const routes = {
     drawn.forEach((of, scenario) => {
       for (const name of CHANGED_LINES) {
         numbers[`${name}-${scenario}`] = Int32Array.from(of[name]);
-        delete this.page.lines[`${name}-${scenario}`];
       }
     });
     const scenario = scenarios.length - 1;
@@ -228,12 +232,12 @@ const routes = {
   },
 };
 
-/** How far a point is from a line between two others, squared. */
-function farFrom(point, a, b) {
-  const along = b.subtract(a), length = along.x ** 2 + along.y ** 2, from = point.subtract(a);
-  const part = length === 0 ? 0 : Math.min(1, Math.max(0, (from.x * along.x + from.y * along.y) / length));
-  const rest = from.subtract(along.multiplyBy(part));
-  return rest.x ** 2 + rest.y ** 2;
+/** How far a point is from a line between two places, squared. */
+function farFrom(x, y, points, one, other) {
+  const east = points[2 * other] - points[2 * one], south = points[2 * other + 1] - points[2 * one + 1];
+  const right = x - points[2 * one], down = y - points[2 * one + 1], length = east * east + south * south;
+  const part = length === 0 ? 0 : Math.min(1, Math.max(0, (right * east + down * south) / length));
+  return (right - part * east) ** 2 + (down - part * south) ** 2;
 }
 
 additions.push(routes);

@@ -6,10 +6,11 @@ import numpy as np
 
 from ...gtfs.fields import Whole
 from ..base import NO_ROW
-from ..choice import chosen, stop_named, stops_named, told_stop
-from ..plan_file import Entry, near
+from ..choice import chosen, stop_named, stops_named, stop_shown
+from ...opening.kinds import near
+from ...opening.toml_file import Entry
 from ..state import State, Trip, in_range
-from .removals import kept_calls, told_lost
+from .removals import kept_calls, sentences_on_lost
 from .times import run_times
 
 
@@ -20,15 +21,15 @@ def extend(state: State, entry: Entry) -> list[str]:
     stop, trips = stop_named(state, entry, key, entry.text(key)), chosen(state, entry)
     found = [trip for trip in trips if trip.stop[place] == stop]
     if not found:
-        ends = sorted({told_stop(state, int(trip.stop[place])) for trip in trips})
-        told = f"is no stop at which trips of the route {'begin' if place == 0 else 'end'}"
-        raise entry.fault(f"{told}{near(entry.text(key), ends)}", key, entry.text(key))
+        ends = sorted({stop_shown(state, int(trip.stop[place])) for trip in trips})
+        message = f"is no stop at which trips of the route {'begin' if place == 0 else 'end'}"
+        raise entry.fault(f"{message}{near(entry.text(key), ends)}", key, entry.text(key))
     further = np.array(stops_named(state, entry, "stops"), dtype=np.int64)
     way = np.append(further, stop) if place == 0 else np.append(stop, further)
     run, dwell = run_times(state, entry, way)
     for trip in found:
-        made = begun_earlier(trip, further, run, dwell) if place == 0 else gone_on(trip, further, run, dwell)
-        state.change(trip, in_range(entry, made))
+        longer = begun_earlier(trip, further, run, dwell) if place == 0 else gone_on(trip, further, run, dwell)
+        state.change(trip, in_range(entry, longer))
     return []
 
 
@@ -56,7 +57,7 @@ def begun_earlier(trip: Trip, further: Whole, run: Whole, dwell: int) -> Trip:
     arrive = depart - dwell
     arrive[0] = depart[0]
     none = np.full(len(further), NO_ROW)
-    made = replace(
+    longer = replace(
         trip,
         stop=np.concatenate([further, trip.stop]),
         arrive=np.concatenate([arrive, [reached], trip.arrive[1:]]),
@@ -64,7 +65,7 @@ def begun_earlier(trip: Trip, further: Whole, run: Whole, dwell: int) -> Trip:
         row=np.concatenate([none, [NO_ROW], trip.row[1:]]),
         redrawn=True,
     )
-    return made.leaving(int(depart[0] - trip.depart[0]))
+    return longer.leaving(int(depart[0] - trip.depart[0]))
 
 
 def cut(state: State, entry: Entry) -> list[str]:
@@ -83,7 +84,7 @@ def cut(state: State, entry: Entry) -> list[str]:
             state.change(trip, replace(rest, redrawn=True))
     if not done:
         raise entry.fault("leaves all trips of the route as they are", key, entry.text(key))
-    return told_lost(lost)
+    return sentences_on_lost(lost)
 
 
 def kept_by(trip: Trip, stop: int, ends: bool) -> "np.ndarray[tuple[int, ...], np.dtype[np.bool_]]":

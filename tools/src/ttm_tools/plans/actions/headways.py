@@ -7,10 +7,12 @@ import numpy as np
 
 from ...gtfs.fields import clock
 from ..base import Headway
-from ..choice import chosen, directions_of, pattern_of, told_stop
+from ..choice import chosen, directions_of, pattern_of, stop_shown
 from ..days import service_of
-from ..plan_file import Entry
+from ...opening.kinds import TIME
+from ...opening.toml_file import Entry
 from ..state import State, Trip, in_range
+from .lines import EVERY
 
 
 def headway(state: State, entry: Entry) -> list[str]:
@@ -19,7 +21,7 @@ def headway(state: State, entry: Entry) -> list[str]:
     """
     from .oftener import oftener
 
-    start, end = entry.time("from"), entry.time("to")
+    start, end = entry.read("from", TIME), entry.read("to", TIME)
     if end <= start:
         raise entry.fault(f"isn't after from, {clock(start)}", "to", clock(end))
     by_route: dict[str, list[Trip]] = {}
@@ -27,12 +29,12 @@ def headway(state: State, entry: Entry) -> list[str]:
         by_route.setdefault(trip.route, []).append(trip)
     groups = [group for trips in by_route.values() for group in directions_of(trips)]
     if entry.one_of("every", "times") == "every":
-        times = range(start, end, entry.whole("every", 1, 86_400))
+        times = range(start, end, entry.read("every", EVERY))
         return [line for group in groups for line in thinned(state, entry, group, times, end)]
-    told = [line for group in groups for line in oftener(state, entry, group, start, end)]
+    sentences = [line for group in groups for line in oftener(state, entry, group, start, end)]
     if not state.changes:
         raise entry.fault(f"leaves nothing between {clock(start)} and {clock(end)} to be added to", "times")
-    return told
+    return sentences
 
 
 def thinned(state: State, entry: Entry, trips: Sequence[Trip], times: range, end: int) -> list[str]:
@@ -48,10 +50,10 @@ def thinned(state: State, entry: Entry, trips: Sequence[Trip], times: range, end
             state.change(trip, rest)
     for number, time in enumerate(times, 1):
         state.add(in_range(entry, copy_of(state, typical, number, time, service)))
-    ends = " to ".join(told_stop(state, int(typical.stop[place])) for place in (0, -1))
+    ends = " to ".join(stop_shown(state, int(typical.stop[place])) for place in (0, -1))
     count = sum(departures_in(trip, times.start, end) for trip in inside)
-    told = f"route {typical.route}, {ends}: {count:,} departures give way to {len(times):,}"
-    return [f"{told}, copies of trip {typical.label} ({len(typical.stop)} calls, {clock(typical.seconds)})"]
+    sentence = f"route {typical.route}, {ends}: {count:,} departures give way to {len(times):,}"
+    return [f"{sentence}, copies of trip {typical.label} ({len(typical.stop)} calls, {clock(typical.seconds)})"]
 
 
 def departures_in(trip: Trip, start: int, end: int) -> int:
@@ -90,15 +92,15 @@ def without(trip: Trip, start: int, end: int) -> Trip | None:
     """A trip without its departures of a period; none where none is left."""
     if not trip.headways:
         return None
-    kept = [part for it in trip.headways for part in parts(it, start, end)]
+    kept = [part for headway in trip.headways for part in parts(headway, start, end)]
     return replace(trip, headways=tuple(kept)) if kept else None
 
 
 def parts(row: Headway, start: int, end: int) -> list[Headway]:
     """The departures of a row before a period, and those after it."""
     times = np.array(row.departures, dtype=np.int64)
-    made = []
+    rows = []
     for some in (times[times < start], times[times >= end]):
         if len(some):
-            made.append(Headway(int(some[0]), int(some[-1]) + 1, row.seconds, row.row))
-    return made
+            rows.append(Headway(int(some[0]), int(some[-1]) + 1, row.seconds, row.row))
+    return rows

@@ -7,9 +7,14 @@ from ...records import shown
 from ..base import NO_ROW
 from ..choice import stops_named
 from ..days import service_named
-from ..plan_file import Entry
+from ...opening.kinds import FLAG, TIME, whole
+from ...opening.toml_file import Entry
+from ..new_records import ROUTE_TYPE
 from ..state import State, Trip, in_range
 from .times import run_times
+
+EVERY = whole(1, 86_400)  # seconds
+PERIOD = {"first": TIME, "last": TIME, "every": EVERY}
 
 
 def add_line(state: State, entry: Entry) -> list[str]:
@@ -25,23 +30,25 @@ def add_line(state: State, entry: Entry) -> list[str]:
     run, dwell = run_times(state, entry, way)
     service, times = service_named(state.base, entry), departures_of(entry)
     state.lines[route] = named(entry)
-    for direction, (stops, seconds) in enumerate(((way, run), (way[::-1], run[::-1]))[: 1 + entry.flag("both", True)]):
+    for direction, (stops, seconds) in enumerate(
+        ((way, run), (way[::-1], run[::-1]))[: 1 + entry.read("both", FLAG, True)]
+    ):
         for number, time in enumerate(times, 1):
             arrive, depart = times_of(time, seconds, dwell)
             label, none = f"{route}-{direction}#{number}", np.full(len(stops), NO_ROW)
             trip = Trip(label, -1, True, route, service, str(direction), stops, arrive, depart, none, redrawn=True)
             state.add(in_range(entry, trip))
     length = int(run.sum()) + dwell * (len(way) - 2)
-    told = f"route {route}: {len(way):,} stops in {clock(length)}; {len(times):,} departures from each end"
+    sentence = f"route {route}: {len(way):,} stops in {clock(length)}; {len(times):,} departures from each end"
     agency = entry.text("agency", "") or state.base.first_agency
-    return [told, *([f"route {route}: of the agency {shown(agency)}"] if agency else [])]
+    return [sentence, *([f"route {route}: of the agency {shown(agency)}"] if agency else [])]
 
 
 def named(entry: Entry) -> Entry:
     """The action, whose words for routes.txt are texts and numbers as they have to be."""
     entry.text("name", entry.text("route"))
     entry.text("agency", "")
-    entry.whole("type", 0, 1_702, default=3)
+    entry.read("type", ROUTE_TYPE, 3)
     return entry
 
 
@@ -54,11 +61,11 @@ def times_of(time: int, run: Whole, dwell: int) -> tuple[Whole, Whole]:
 
 def departures_of(entry: Entry) -> list[int]:
     """The departures of all periods, each once; the last one of a period counts."""
-    made = set[int]()
+    times = set[int]()
     for period in entry.inner("departures"):
-        period.only(("first", "last", "every"))
-        first, last, every = period.time("first"), period.time("last"), period.whole("every", 1, 86_400)
+        period.only([*PERIOD])
+        first, last, every = (period.read(key, kind) for key, kind in PERIOD.items())
         if last < first:
             raise period.fault(f"is before first, {clock(first)}", "last", clock(last))
-        made.update(range(first, last + 1, every))
-    return sorted(made)
+        times.update(range(first, last + 1, every))
+    return sorted(times)

@@ -4,8 +4,9 @@ from dataclasses import replace
 
 import numpy as np
 
-from ..choice import chosen, routes_of, stops_named, told_stop
-from ..plan_file import LAST_TIME, Entry, near
+from ..choice import chosen, routes_of, stops_named, stop_shown
+from ...opening.kinds import LAST_TIME, near, whole
+from ...opening.toml_file import Entry
 from ..state import State, Trip, in_range
 
 
@@ -24,13 +25,13 @@ def shift_route(state: State, entry: Entry) -> list[str]:
 
 def trips_of_routes(state: State, entry: Entry) -> list[Trip]:
     """All trips of the routes that are named, each of which has some."""
-    made = []
+    trips_found = []
     for route in routes_of(state, entry):
         trips = state.of_route(route)
         if not trips:
             raise entry.fault("has no trips in this scenario, so nothing changes", "route", route)
-        made += trips
-    return made
+        trips_found += trips
+    return trips_found
 
 
 def remove_trip(state: State, entry: Entry) -> list[str]:
@@ -48,23 +49,23 @@ def shift_trip(state: State, entry: Entry) -> list[str]:
 
 def trips_named(state: State, entry: Entry) -> list[Trip]:
     """The trips that an action names."""
-    made = []
+    trips = []
     for name in dict.fromkeys(entry.texts("trip")):
         if name in state.own:
-            made.append(state.own[name])
+            trips.append(state.own[name])
             continue
         place = state.base.numbers.get(name, -1)
         if place < 0:
             raise entry.fault(f"is no trip of the feed{near(name, state.base.trips)}", "trip", name)
         if not state.kept[place]:
-            told = "has no trip any more" if state.base.lengths[place] else "never runs: it has no calls at stops"
-            raise entry.fault(f"{told}, so nothing changes", "trip", name)
-        made.append(state.trip(place))
-    return made
+            message = "has no trip any more" if state.base.lengths[place] else "never runs: it has no calls at stops"
+            raise entry.fault(f"{message}, so nothing changes", "trip", name)
+        trips.append(state.trip(place))
+    return trips
 
 
 def shift(state: State, entry: Entry, trips: list[Trip]) -> None:
-    seconds = entry.whole("seconds", -LAST_TIME, LAST_TIME)
+    seconds = entry.read("seconds", whole(-LAST_TIME, LAST_TIME))
     if seconds == 0:
         raise entry.fault("changes nothing", "seconds", "0")
     for trip in trips:
@@ -78,8 +79,8 @@ def remove_stop(state: State, entry: Entry) -> list[str]:
     trips = chosen(state, entry) if entry.has("route") else trips_calling(state, stops)
     trips = [trip for trip in trips if np.isin(trip.stop, stops).any()]
     if not trips:
-        told = "is no stop at which these trips call, so nothing changes"
-        raise entry.fault(told, "stop", ", ".join(told_stop(state, stop) for stop in stops))
+        message = "is no stop at which these trips call, so nothing changes"
+        raise entry.fault(message, "stop", ", ".join(stop_shown(state, stop) for stop in stops))
     for trip in trips:
         rest = kept_calls(trip, ~np.isin(trip.stop, stops))
         if rest is None:
@@ -87,10 +88,10 @@ def remove_stop(state: State, entry: Entry) -> list[str]:
             state.drop(trip)
         else:
             state.change(trip, in_range(entry, rest))
-    return told_lost(lost)
+    return sentences_on_lost(lost)
 
 
-def told_lost(lost: int) -> list[str]:
+def sentences_on_lost(lost: int) -> list[str]:
     return [f"{lost:,} trips taken out that were left with a single call"] if lost else []
 
 
@@ -108,5 +109,5 @@ def kept_calls(trip: Trip, kept: "np.ndarray[tuple[int, ...], np.dtype[np.bool_]
     if kept.sum() < 2:
         return None
     columns = {name: getattr(trip, name)[kept] for name in ("stop", "arrive", "depart", "row")}
-    made = replace(trip, **columns)
-    return made.leaving(int(made.depart[0] - trip.depart[0]))
+    rest = replace(trip, **columns)
+    return rest.leaving(int(rest.depart[0] - trip.depart[0]))

@@ -6,16 +6,17 @@ from fractions import Fraction
 import numpy as np
 
 from ..choice import chosen, stop_named
-from ..plan_file import Entry
+from ...opening.kinds import decimal, whole
+from ...opening.toml_file import Entry
 from ..state import State, Trip, in_range
 
 
 def speed(state: State, entry: Entry) -> list[str]:
     """Run times times a factor, or dwell times plus seconds, of routes or between two stops of them."""
     if entry.one_of("factor", "dwell") == "factor":
-        factor, more = Fraction(entry.number("factor", "0", "100")), 0
+        factor, more = Fraction(entry.read("factor", decimal("0", "100"))), 0
     else:
-        factor, more = Fraction(1), entry.whole("dwell", -3_600, 3_600)
+        factor, more = Fraction(1), entry.read("dwell", whole(-3_600, 3_600))
     found, changed = [(trip, span_of(state, entry, trip)) for trip in chosen(state, entry)], 0
     spans = [(trip, span) for trip, span in found if span is not None]
     if not spans:
@@ -53,9 +54,9 @@ def paced(trip: Trip, span: tuple[int, int], factor: Fraction, more: int) -> Tri
     first, last = span
     run, dwell = trip.arrive[1:] - trip.depart[:-1], trip.depart - trip.arrive
     sums = np.cumsum(run[first:last])
-    made = (2 * factor.numerator * sums + factor.denominator) // (2 * factor.denominator)
+    sums_paced = (2 * factor.numerator * sums + factor.denominator) // (2 * factor.denominator)
     run, dwell = run.copy(), dwell.copy()
-    run[first:last] = np.diff(made, prepend=0)
+    run[first:last] = np.diff(sums_paced, prepend=0)
     dwell[first + 1 : last] += more
     later = np.concatenate([[0], np.cumsum(run + dwell[1:])])
     depart = trip.depart[0] + later

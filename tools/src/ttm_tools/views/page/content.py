@@ -15,14 +15,14 @@ from ...measures.access import STEP, Decay, times_to
 from ...measures.opportunities import Counts, read_counts
 from ...records import shown
 from .parts import Bytes, minutes_of
-from .places import Places, places_of
+from .places import PagePlaces, places_of
 
 MOST_CELLS = 60_000_000  # that a page takes
 Numbers = npt.NDArray[np.intp]
 
 
 @dataclass(frozen=True)
-class Asked:
+class PageOptions:
     """What of a matrix a page is to show."""
 
     scenarios: list[str]  # the base first
@@ -41,9 +41,9 @@ class Asked:
 class Ground:
     """The places of a page, and what of the matrix stands for them."""
 
-    places: Places
-    columns: list[str]  # the stops to which travel times are told, in the order of places
-    origins: list[str]  # those from which access is told
+    places: PagePlaces
+    columns: list[str]  # the stops to which travel times are shown, in the order of places
+    origins: list[str]  # those from which access is shown
     rows: list[str]  # the origins whose travel times the page has
 
     def at(self, names: Sequence[str]) -> npt.NDArray[np.int32]:
@@ -53,7 +53,7 @@ class Ground:
 
 
 @dataclass(frozen=True)
-class Times:
+class PageTimes:
     """Of a scenario and a share: the cells, and access by origin and measure."""
 
     cells: Bytes
@@ -61,9 +61,9 @@ class Times:
 
 
 @dataclass(frozen=True)
-class Measure:
-    """What access is told of: what is counted, and within how many seconds; None where the matrix doesn't name it, and
-    for the time to so many of the nearest.
+class PageMeasure:
+    """What access counts, and within how many seconds; None where the matrix doesn't name it, and for the time to so
+    many of the nearest.
     """
 
     of: str
@@ -81,68 +81,68 @@ class Content:
     people: int  # the last so many columns of counts are people
     hidden: list[str]  # what is counted, and lies in part at stops that aren't shown
     away: list[str]  # what is counted, and lies at no place at which journeys end
-    measures: list[Measure]
-    times: list[list[Times]]  # by scenario and share
+    measures: list[PageMeasure]
+    times: list[list[PageTimes]]  # by scenario and share
 
 
-def origins_of(matrix: Matrix, asked: Asked) -> list[str]:
+def origins_of(matrix: Matrix, options: PageOptions) -> list[str]:
     """The origins, which each scenario and share has."""
-    base = asked.scenarios[0]
-    first = matrix.origins(base, asked.shares[0])
-    for scenario in asked.scenarios:
-        for share in asked.shares:
+    base = options.scenarios[0]
+    first = matrix.origins(base, options.shares[0])
+    for scenario in options.scenarios:
+        for share in options.shares:
             lost = lacking((base, first), (scenario, matrix.origins(scenario, share)))
             if lost is not None:
                 raise BadInput(matrix.path, lost)
     return first
 
 
-def ground_of(matrix: Matrix, stops: Stops, asked: Asked) -> Ground:
+def ground_of(matrix: Matrix, stops: Stops, options: PageOptions) -> Ground:
     """The places in their order, and the rows that there is room for."""
-    origins = origins_of(matrix, asked)
+    origins = origins_of(matrix, options)
     places = places_of(stops, list(dict.fromkeys([*matrix.stops, *origins]))).in_order()
     columns, starts = (
         [name for name in places.identifiers if name in among] for among in (matrix.places, set(origins))
     )
     if np.isnan(places.latitudes).all():
-        raise BadInput(stops.path, f"none of the {asked.what} has a place, so there is nothing to show")
-    wanted = set(starts if asked.origins is None else asked.origins)
+        raise BadInput(stops.path, f"none of the {options.what} has a place, so there is nothing to show")
+    wanted = set(starts if options.origins is None else options.origins)
     rows = [name for name in starts if name in wanted]
-    room = asked.most_cells // max(1, len(columns) * len(asked.scenarios) * len(asked.shares))
-    if asked.origins is None and len(rows) > room:
-        drawn = np.random.default_rng(asked.seed).choice(len(rows), room, replace=False)
+    room = options.most_cells // max(1, len(columns) * len(options.scenarios) * len(options.shares))
+    if options.origins is None and len(rows) > room:
+        drawn = np.random.default_rng(options.seed).choice(len(rows), room, replace=False)
         rows = [rows[place] for place in np.sort(drawn).tolist()]
     return Ground(places, columns, starts, rows)
 
 
-def counts_of(known: Sequence[str], asked: Asked) -> tuple[Counts, int]:
+def counts_of(known: Sequence[str], options: PageOptions) -> tuple[Counts, int]:
     """What is counted, by stop of the matrix, and how many of the columns are people."""
-    found = [read_counts(paths, known, "stop of the matrix") for paths in (asked.opportunities, asked.people)]
+    found = [read_counts(paths, known, "stop of the matrix") for paths in (options.opportunities, options.people)]
     both = [name for name in found[1].names if name in found[0].names]
     if both:
-        raise BadInput(", ".join(asked.people), f"a column {shown(both[0])} is among the opportunities too")
-    names = [shown(name) for it in found for name in it.names]
-    return Counts(names, np.concatenate([it.numbers for it in found], axis=1)), len(found[1].names)
+        raise BadInput(", ".join(options.people), f"a column {shown(both[0])} is among the opportunities too")
+    names = [shown(name) for counts in found for name in counts.names]
+    return Counts(names, np.concatenate([counts.numbers for counts in found], axis=1)), len(found[1].names)
 
 
 def measures_of(
-    matrix: Matrix, names_there: Sequence[str], names_sought: Sequence[str], asked: Asked, unit: str
-) -> list[Measure]:
-    """What access is told: that of the matrix, then stops (or points) and what is counted, within each cutoff; then the
-    time to the nearest.
+    matrix: Matrix, names_there: Sequence[str], names_sought: Sequence[str], options: PageOptions, unit: str
+) -> list[PageMeasure]:
+    """What access is shown: that of the matrix, then stops (or points) and what is counted, within each cutoff; then
+    the time to the nearest.
     """
-    own = [Measure(f"{unit} (as ttm counted them)", unit, limit) for limit in matrix.layout.limits]
-    names = [asked.what, *names_there]
-    sought = [Measure(f"nearest {name}", name, None, count) for name in names_sought for count in asked.nearest]
-    return own + [Measure(name, name, round(60 * cutoff)) for name in names for cutoff in asked.cutoffs] + sought
+    own = [PageMeasure(f"{unit} (as ttm counted them)", unit, limit) for limit in matrix.layout.limits]
+    names = [options.what, *names_there]
+    sought = [PageMeasure(f"nearest {name}", name, None, count) for name in names_sought for count in options.nearest]
+    return own + [PageMeasure(name, name, round(60 * cutoff)) for name in names for cutoff in options.cutoffs] + sought
 
 
-def content_of(whole: Matrix, matrix: Matrix, stops: Stops, asked: Asked, unit: str) -> Content:
+def content_of(whole: Matrix, matrix: Matrix, stops: Stops, options: PageOptions, unit: str) -> Content:
     """Everything that is read for a page of a matrix, or of a part of it, the points; access counts what lies at all
     stops.
     """
-    ground, known = ground_of(matrix, stops, asked), whole.stops_and_origins()
-    counts, people = counts_of(known, asked)
+    ground, known = ground_of(matrix, stops, options), whole.stops_and_origins()
+    counts, people = counts_of(known, options)
     at = {name: number for number, name in enumerate(known)}
     there = counts.numbers[[at[name] for name in ground.places.identifiers]]
     whole_sums, sums = counts.numbers.sum(axis=0), counts.numbers[[at[name] for name in ground.columns]].sum(axis=0)
@@ -151,12 +151,12 @@ def content_of(whole: Matrix, matrix: Matrix, stops: Stops, asked: Asked, unit: 
     reached = ends.sum(axis=0) > 0
     sought = reached & (np.arange(len(reached)) < len(reached) - people)
     numbers = np.concatenate([shown_there, ends[:, reached]], axis=1)
-    read = Reading(whole, ground, numbers, ends[:, sought], asked)
-    times = [[read.times(name, share) for share in asked.shares] for name in asked.scenarios]
+    read = Reading(whole, ground, numbers, ends[:, sought], options)
+    times = [[read.times(name, share) for share in options.shares] for name in options.scenarios]
     away = [name for name, is_there in zip(counts.names, reached.tolist()) if not is_there]
     hidden = [name for name, lost in zip(counts.names, (whole_sums > sums).tolist()) if lost and name not in away]
     names_sought = [name for name, is_sought in zip(counts.names, sought.tolist()) if is_sought]
-    measures = measures_of(matrix, [name for name in counts.names if name not in away], names_sought, asked, unit)
+    measures = measures_of(matrix, [name for name in counts.names if name not in away], names_sought, options, unit)
     return Content(ground, Counts(counts.names, there), people, hidden, away, measures, times)
 
 
@@ -168,16 +168,16 @@ class Reading:
     ground: Ground
     numbers: Floats  # a row for each column of the whole matrix, a column for each thing that is counted
     sought: Floats  # the same, a column for each thing of which the nearest are looked for
-    asked: Asked
+    options: PageOptions
 
-    def times(self, scenario: str, share: Share) -> Times:
+    def times(self, scenario: str, share: Share) -> PageTimes:
         found = self.whole.origins(scenario, share)
         numbers = {name: number for number, name in enumerate(found)}
         order = np.array([numbers[name] for name in self.ground.origins], dtype=np.intp)
         own = self.whole.access(scenario, share).astype(np.float64)
         cells, sums = self.cells_and_sums(scenario, share)
         access = np.concatenate([own, sums], axis=1)[order]
-        return Times(cells, access)
+        return PageTimes(cells, access)
 
     def cells_and_sums(self, scenario: str, share: Share) -> tuple[Bytes, Floats]:
         """The cells of the page's rows, and the sums of all rows in the matrix' order."""
@@ -187,7 +187,7 @@ class Reading:
         cells = np.zeros((len(rows), len(columns)), np.uint8)
         sums = [self.sums(np.zeros((0, len(matrix.stops)), np.float32))]
         count = -(-len(matrix.origins(scenario, share)) // matrix.rows_at_once())
-        for block in progress.told(matrix.blocks(scenario, share), count, f"{scenario} {share or ''}", "blocks"):
+        for block in progress.shown(matrix.blocks(scenario, share), count, f"{scenario} {share or ''}", "blocks"):
             sums.append(self.sums(block.seconds))
             taken = np.array([place for place, name in enumerate(block.origins) if name in rows], dtype=np.intp)
             cells[[rows[block.origins[place]] for place in taken]] = minutes_of(block.seconds[taken][:, columns])
@@ -198,11 +198,13 @@ class Reading:
         the nearest.
         """
         decay, count = Decay(STEP), len(seconds)
-        found = np.stack([decay.weights(seconds, cutoff) @ self.numbers for cutoff in self.asked.cutoffs], axis=2)
+        found = np.stack([decay.weights(seconds, cutoff) @ self.numbers for cutoff in self.options.cutoffs], axis=2)
         sums: Floats = found.reshape(count, found.shape[1] * found.shape[2])
-        if not self.asked.nearest or not self.sought.shape[1]:
+        if not self.options.nearest or not self.sought.shape[1]:
             return sums
         used = np.flatnonzero(self.sought.any(axis=1))
-        times = times_to(seconds[:, used], self.sought[used], self.asked.nearest).astype(np.float32)
-        made: Floats = np.concatenate([sums, minutes_of(times.reshape(count, times.shape[1] * times.shape[2]))], axis=1)
-        return made
+        times = times_to(seconds[:, used], self.sought[used], self.options.nearest).astype(np.float32)
+        sums_of_window: Floats = np.concatenate(
+            [sums, minutes_of(times.reshape(count, times.shape[1] * times.shape[2]))], axis=1
+        )
+        return sums_of_window

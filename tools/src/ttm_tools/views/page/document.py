@@ -5,6 +5,7 @@ All text is set as text: a stop's name is never code.
 
 import base64
 import hashlib
+import itertools
 import json
 from dataclasses import asdict, dataclass, field
 from pathlib import Path
@@ -18,7 +19,8 @@ from ...matrices import Share
 from ...records import shown
 from .content import Content
 from .lines import Lines
-from .parts import Part, blocks_of, part, rows_in_block
+from .parts import Element, blocks_of, part, rows_in_block
+from .streets import ASIDE, PageStreets
 
 ASSETS = Path(__file__).resolve().parent / "assets"
 LEAFLET = "/usr/share/javascript/leaflet"
@@ -27,11 +29,13 @@ SCRIPTS = (
     "cells.js",
     "classes.js",
     "areas.js",
+    "stamps.js",
     "layer.js",
     "figures.js",
     "panel.js",
     "nearest.js",
     "reached.js",
+    "streets.js",
     "bands.js",
     "search.js",
     "main.js",
@@ -49,14 +53,14 @@ class Frame:
     shares: list[Share]
     meanings: list[str]  # for each share
     sources: list[tuple[str, str]]
-    told: list[str]  # what a reader needs to know of what is shown
+    sentences: list[str]  # what a reader needs to know of what is shown
     minutes: int  # at which the slider stands first
     walk: int = 600  # seconds that one walks on from a stop at most
     pace: float = 1.33 / 1.3  # metres a second as the crow flies
     tiles: str | None = None  # where a map is fetched from that is drawn below
     attribution: str = ""
     leaflet: str = LEAFLET
-    parts: list[Part] = field(default_factory=list)
+    streets: PageStreets | None = None  # along which one walks on
 
 
 def leaflet_files(folder: str) -> tuple[str, str]:
@@ -70,7 +74,7 @@ def leaflet_files(folder: str) -> tuple[str, str]:
     return found[0], found[1]
 
 
-def parts_of(content: Content, lines: Lines) -> Iterator[Part]:
+def parts_of(content: Content, lines: Lines) -> Iterator[Element]:
     """All numbers of a page, as `assets/data.js` reads them."""
     ground = content.ground
     yield part("places", ground.places.degrees())
@@ -104,6 +108,7 @@ def head_of(content: Content, lines: Lines, frame: Frame) -> dict[str, Any]:
         "minutes": frame.minutes,
         "walk": frame.walk,
         "pace": frame.pace,
+        "streets": {"speed": frame.streets.speed, "aside": ASIDE} if frame.streets else None,
         "identifiers": [shown(name) for name in ground.places.identifiers],
         "names": ground.places.names,
         "columns": len(ground.columns),
@@ -122,14 +127,14 @@ def head_of(content: Content, lines: Lines, frame: Frame) -> dict[str, Any]:
 
 def as_json(head: dict[str, Any]) -> str:
     """A text that no reader of HTML takes for more than text."""
-    made = json.dumps(head, ensure_ascii=False, separators=(",", ":"))
+    text = json.dumps(head, ensure_ascii=False, separators=(",", ":"))
     for letter in "<>&\u2028\u2029":
-        made = made.replace(letter, f"\\u{ord(letter):04x}")
-    return made
+        text = text.replace(letter, f"\\u{ord(letter):04x}")
+    return text
 
 
 @dataclass(frozen=True)
-class Kind:
+class PageKind:
     """Of which files a page is made: those of the page to send, or of one with a live source."""
 
     template: str = "page.html"
@@ -141,7 +146,7 @@ class Kind:
 
     def texts(self, names: Sequence[str]) -> list[str]:
         """Files of these folders, each from the first that has it."""
-        paths = [next(path for path in (it / name for it in self.folders) if path.is_file()) for name in names]
+        paths = [next(path for path in (folder / name for folder in self.folders) if path.is_file()) for name in names]
         return [path.read_text(encoding="utf-8") for path in paths]
 
 
@@ -152,14 +157,14 @@ def policy_of(scripts: Sequence[str], styles: Sequence[str], tiles: str | None, 
 
     def sums(texts: Sequence[str]) -> str:
         found = [base64.b64encode(hashlib.sha256(text.encode()).digest()).decode("ascii") for text in texts]
-        return " ".join(f"'sha256-{it}'" for it in found)
+        return " ".join(f"'sha256-{digest}'" for digest in found)
 
     images = "data:" if tiles is None else f"data: {urlsplit(tiles).scheme}:"
     rest = ("connect-src 'self'; " if connects else "") + "base-uri 'none'; form-action 'none'"
     return f"default-src 'none'; script-src {sums(scripts)}; style-src {sums(styles)}; img-src {images}; {rest}"
 
 
-def write_page(out: BinaryIO, content: Content, lines: Lines, frame: Frame, kind: Kind = Kind()) -> None:
+def write_page(out: BinaryIO, content: Content, lines: Lines, frame: Frame, kind: PageKind = PageKind()) -> None:
     """Writes the page, some of it at a time."""
     from jinja2 import Environment, FileSystemLoader, StrictUndefined
 
@@ -179,7 +184,7 @@ def write_page(out: BinaryIO, content: Content, lines: Lines, frame: Frame, kind
         "styles": styles,
         "licence": (ASSETS / "leaflet_licence.txt").read_text(encoding="utf-8"),
         "head": as_json(head_of(content, lines, frame)),
-        "parts": parts_of(content, lines),
+        "parts": itertools.chain(parts_of(content, lines), frame.streets.parts() if frame.streets else ()),
         "people": content.people,
         **kind.known,
     }

@@ -15,11 +15,12 @@ from ...records import shown
 from .places import MICRO
 
 Pieces = npt.NDArray[np.int32]  # latitude, longitude of both ends, in millionths of a degree
+STRAIGHT = "Lines are drawn straight from stop to stop."
 OF_PLANS = "scenarios"  # the folder beside a feed where ttm-tools scenarios writes scenario files
 
 
 @dataclass(frozen=True)
-class Change:
+class LineChange:
     """Pieces that differ in a scenario from the base; where trips go and others come, they are changed."""
 
     taken: Pieces
@@ -32,12 +33,12 @@ class Lines:
     """Pieces of lines; those of each scenario as they differ from the base."""
 
     running: Pieces
-    changes: list[Change]
+    changes: list[LineChange]
     source: str
 
 
 @dataclass(frozen=True)
-class Drawn:
+class DrawnLines:
     """What lines are drawn of."""
 
     points: Points
@@ -49,12 +50,16 @@ class Drawn:
         """Where some trips run, on the grid."""
         return pieces(self.points.of_lines(self.trips.lines(trips, self.shaped)))
 
-    def change(self, gone: set[str], new: set[str]) -> Change:
+    def change(self, gone: set[str], new: set[str]) -> LineChange:
         """What is another where some trips go and others come."""
-        before, after = self.pieces(gone), self.pieces(new)
-        both = among(after, before)
-        found = (before[~among(before, after)], after[both], after[~both])
-        return Change(*(in_degrees(it, self.projection) for it in found))
+        return change_of(self.pieces(gone), self.pieces(new), self.projection)
+
+
+def change_of(before: npt.NDArray[np.int32], after: npt.NDArray[np.int32], projection: Projection) -> LineChange:
+    """What is another where trips ran along some pieces of the grid and others run along these."""
+    both = among(after, before)
+    found = (before[~among(before, after)], after[both], after[~both])
+    return LineChange(*(in_degrees(segments, projection) for segments in found))
 
 
 def scenario_files(folder: str, scenarios: Sequence[str], edits: Sequence[str]) -> dict[str, str]:
@@ -79,27 +84,27 @@ def page_lines(folder: str, stops: Stops, scenarios: Sequence[str], files: dict[
     """
     projection = Projection(stops.latitudes, stops.longitudes)
     points, shaped = lines_of(folder, stops, projection), has_file(folder, "shapes.txt")
-    source = "Lines are those of shapes.txt." if shaped else "Lines are drawn straight from stop to stop."
+    source = "Lines are those of shapes.txt." if shaped else STRAIGHT
     if not files:
         running = in_degrees(pieces(points), projection)
-        return Lines(running, [Change(*[running[:0]] * 3) for _ in scenarios], source)
+        return Lines(running, [LineChange(*[running[:0]] * 3) for _ in scenarios], source)
     trips = read_trips(folder, shaped)
     removed = {name: removed_trips(trips, path) for name, path in files.items()}
     base = removed.get(scenarios[0], set())
     each = [removed.get(name, base) for name in scenarios]
-    drawn = Drawn(points, trips, shaped, projection)
+    drawn = DrawnLines(points, trips, shaped, projection)
     hidden = set.intersection(*each)
     running = drawn.pieces(set(trips.trips) - hidden) if hidden else pieces(points)
-    changes = [drawn.change(it - base, base - it) for it in each]
+    changes = [drawn.change(scenario - base, base - scenario) for scenario in each]
     return Lines(in_degrees(running, projection), changes, source)
 
 
 def among(some: npt.NDArray[np.int32], others: npt.NDArray[np.int32]) -> npt.NDArray[np.bool_]:
     """Which of some rows are among others."""
     whole = np.dtype((np.void, 4 * some.dtype.itemsize))
-    first, second = (np.ascontiguousarray(it).view(whole).ravel() for it in (some, others))
-    made: npt.NDArray[np.bool_] = np.isin(first, second)
-    return made
+    first, second = (np.ascontiguousarray(table).view(whole).ravel() for table in (some, others))
+    found_among: npt.NDArray[np.bool_] = np.isin(first, second)
+    return found_among
 
 
 def in_degrees(found: npt.NDArray[np.int32], projection: Projection) -> Pieces:
@@ -107,5 +112,5 @@ def in_degrees(found: npt.NDArray[np.int32], projection: Projection) -> Pieces:
     kilometres = found.reshape(-1, 2).astype(np.float64) * GRID
     longitudes = kilometres[:, 0] / (projection.degree * projection.narrow) + projection.longitude
     latitudes = kilometres[:, 1] / projection.degree + projection.latitude
-    made: Pieces = np.rint(np.stack([latitudes, longitudes], axis=1) * MICRO).astype(np.int32).reshape(-1, 4)
-    return made
+    corners: Pieces = np.rint(np.stack([latitudes, longitudes], axis=1) * MICRO).astype(np.int32).reshape(-1, 4)
+    return corners

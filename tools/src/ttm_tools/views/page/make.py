@@ -1,4 +1,4 @@
-"""From a matrix and a feed to a page, and what is told of it."""
+"""From a matrix and a feed to a page, and what is reported of it."""
 
 import math
 import os
@@ -10,16 +10,18 @@ from ...gtfs.stops import read_list
 from ...matrices import Matrix, Share
 from ...points.shown import points_in, shown_of
 from ...records import shown
+from ...walks import NEAR, Pace
 from . import sources
-from .content import MOST_CELLS, Asked, Content, content_of, origins_of
+from .content import MOST_CELLS, Content, Ground, PageOptions, content_of, origins_of
 from .document import LEAFLET, Frame, write_page
 from .lines import Lines, page_lines, scenario_files
+from .streets import MOST_NODES, page_streets
 
 MINUTES, MOST_MINUTES = 30, 120  # of the slider: where it stands first, and where it ends
 
 
 @dataclass(frozen=True)
-class Wish:
+class PageSettings:
     """What is asked for, as arguments and names of files."""
 
     feed: str
@@ -36,7 +38,7 @@ class Wish:
     unit: str
     title: str | None
     note: str | None
-    words: str | None
+    arguments: str | None
     tiles: str | None
     attribution: str | None
     leaflet: str = LEAFLET
@@ -45,6 +47,8 @@ class Wish:
     walk: int = 600  # seconds that one walks on from a stop at most
     speed: float = 1.33  # metres a second
     detour: float = 1.3  # metres of way for a metre of straight line
+    streets: str | None = None  # a file of OpenStreetMap, along whose ways one walks on
+    near: float = NEAR  # the greatest distance of a stop from a way, metres
 
 
 @dataclass(frozen=True)
@@ -59,66 +63,82 @@ class Page:
         write_page(out, self.content, self.lines, self.frame)
 
 
-def asked_of(matrix: Matrix, what: str, wish: Wish) -> Asked:
+def options_of(matrix: Matrix, what: str, settings: PageSettings) -> PageOptions:
     """What of the matrix is shown, stops or points; that it has it is looked at."""
-    base = matrix.scenario(wish.base or matrix.base)
-    others = [matrix.scenario(name) for name in wish.scenarios or matrix.compared]
+    base = matrix.scenario(settings.base or matrix.base)
+    others = [matrix.scenario(name) for name in settings.scenarios or matrix.compared]
     scenarios = list(dict.fromkeys([base, *others]))
-    shares: list[Share] = matrix.shares if wish.share is None else [matrix.share(wish.share)]
-    files = (wish.opportunities, wish.people)
-    asked = Asked(scenarios, shares, wish.cutoffs, what, *files, None, wish.seed, MOST_CELLS, wish.nearest)
-    if wish.origins is None:
-        return asked
-    named = read_list(wish.origins, origins_of(matrix, asked), "origin")
+    shares: list[Share] = matrix.shares if settings.share is None else [matrix.share(settings.share)]
+    files = (settings.opportunities, settings.people)
+    options = PageOptions(
+        scenarios, shares, settings.cutoffs, what, *files, None, settings.seed, MOST_CELLS, settings.nearest
+    )
+    if settings.origins is None:
+        return options
+    named = read_list(settings.origins, origins_of(matrix, options), "origin")
     cells = len(named) * len(matrix.stops) * len(scenarios) * len(shares)
     if cells > MOST_CELLS:
-        raise BadInput(wish.origins, f"travel times from its stops are {cells:,}, and a page takes {MOST_CELLS:,}")
-    return replace(asked, origins=named)
+        raise BadInput(settings.origins, f"travel times from its stops are {cells:,}, and a page takes {MOST_CELLS:,}")
+    return replace(options, origins=named)
 
 
-def page_of(matrix: Matrix, wish: Wish) -> Page:
+def page_of(matrix: Matrix, settings: PageSettings) -> Page:
     """The page that is asked for."""
-    chosen, stops = shown_of(matrix, wish.feed, wish.points)
+    chosen, stops = shown_of(matrix, settings.feed, settings.points)
     assert stops is not None  # there is a feed
-    asked = asked_of(chosen, "stops" if chosen is matrix else "points", wish)
-    content = content_of(matrix, chosen, stops, asked, wish.unit)
-    files = scenario_files(wish.feed, asked.scenarios, wish.edits)
-    lines = page_lines(wish.feed, stops, asked.scenarios, files)
-    return Page(content, lines, frame_of(matrix, content, asked, replace(wish, edits=list(files.values()))))
+    options = options_of(chosen, "stops" if chosen is matrix else "points", settings)
+    content = content_of(matrix, chosen, stops, options, settings.unit)
+    files = scenario_files(settings.feed, options.scenarios, settings.edits)
+    lines = page_lines(settings.feed, stops, options.scenarios, files)
+    frame = frame_of(matrix, content, options, replace(settings, edits=list(files.values())))
+    return Page(content, lines, with_streets(frame, content.ground, settings))
 
 
-def frame_of(matrix: Matrix, content: Content, asked: Asked, wish: Wish) -> Frame:
+def with_streets(frame: Frame, ground: Ground, settings: PageSettings) -> Frame:
+    """The same with the streets that are asked for; where they are more than a page takes, this is reported."""
+    if settings.streets is None:
+        return frame
+    pace = Pace(settings.walk, settings.speed, settings.detour)
+    found = page_streets(settings.streets, ground.places, ground.at(ground.columns), pace, settings.near)
+    if found is not None and len(found.degrees) > MOST_NODES:
+        sentence = f"The streets have {len(found.degrees):,} nodes, and a page takes {MOST_NODES:,}: areas are circles."
+        return replace(frame, sentences=[*frame.sentences, sentence])
+    return replace(frame, streets=found)
+
+
+def frame_of(matrix: Matrix, content: Content, options: PageOptions, settings: PageSettings) -> Frame:
     """What stands around the numbers."""
-    words = sources.Words(wish.words or "")
-    name = shown(os.path.basename(os.path.abspath(wish.feed)))
+    arguments = sources.RunArguments(settings.arguments or "")
+    name = shown(os.path.basename(os.path.abspath(settings.feed)))
     files = {
         "Matrix": [matrix.path, *matrix.files],
-        "Points": [path for path in [wish.points or points_in(wish.feed)] if path is not None],
-        "Opportunities": wish.opportunities,
-        "People": wish.people,
-        "Scenario": wish.edits,
+        "Points": [path for path in [settings.points or points_in(settings.feed)] if path is not None],
+        "Opportunities": settings.opportunities,
+        "People": settings.people,
+        "Scenario": settings.edits,
+        "Streets": [settings.streets] if settings.streets else [],
     }
     return Frame(
-        wish.title or f"Travel times and access: {name}",
-        " ".join(it for it in (wish.note, f"{matrix.heading}." if matrix.heading else "") if it),
-        asked.scenarios,
-        asked.shares,
-        [sources.meaning(share, words) + end_told(matrix) for share in asked.shares],
-        sources.table(files, wish.feed, words),
-        told_rows(content, asked),
-        first_minutes(matrix, wish.within),
-        wish.walk,
-        wish.speed / wish.detour,
-        wish.tiles,
-        wish.attribution or "",
-        wish.leaflet,
+        settings.title or f"Travel times and access: {name}",
+        " ".join(text for text in (settings.note, f"{matrix.heading}." if matrix.heading else "") if text),
+        options.scenarios,
+        options.shares,
+        [sources.meaning(share, arguments) + end_stated(matrix) for share in options.shares],
+        sources.table(files, settings.feed, arguments),
+        rows_stated(content, options),
+        first_minutes(matrix, settings.within),
+        settings.walk,
+        settings.speed / settings.detour,
+        settings.tiles,
+        settings.attribution or "",
+        settings.leaflet,
     )
 
 
-def end_told(matrix: Matrix) -> str:
-    """What is told beside a percentile where travel times have an end."""
-    told = matrix.told_greatest
-    return f" {told[0].upper()}{told[1:]}." if told else ""
+def end_stated(matrix: Matrix) -> str:
+    """What is reported beside a percentile where travel times have an end."""
+    sentence = matrix.greatest_stated
+    return f" {sentence[0].upper()}{sentence[1:]}." if sentence else ""
 
 
 def first_minutes(matrix: Matrix, within: int | None) -> int:
@@ -127,26 +147,26 @@ def first_minutes(matrix: Matrix, within: int | None) -> int:
     return MINUTES if limit is None else min(max(1, math.ceil(limit / 60)), MOST_MINUTES)
 
 
-def told_rows(content: Content, asked: Asked) -> list[str]:
-    """What is told where the page hasn't the travel times from all origins, or can't draw all places."""
-    ground, told = content.ground, []
+def rows_stated(content: Content, options: PageOptions) -> list[str]:
+    """What is reported where the page hasn't the travel times from all origins, or can't draw all places."""
+    ground, sentences = content.ground, []
     if len(ground.rows) < len(ground.origins):
-        how = "named" if asked.origins is not None else f"drawn with the seed {asked.seed}"
-        told.append(
+        how = "named" if options.origins is not None else f"drawn with the seed {options.seed}"
+        sentences.append(
             f"The page has the travel times from {len(ground.rows):,} of {len(ground.origins):,} origins, which were "
             f"{how}, and access from all."
         )
     if content.hidden:
         names = ", ".join(content.hidden)
-        told.append(f"{names}: part of them is at stops that aren't shown; access counts all, the slider nothing.")
+        sentences.append(f"{names}: part of them is at stops that aren't shown; access counts all, the slider nothing.")
     lost = sum(1 for latitude in ground.places.latitudes if math.isnan(latitude))
     if lost:
-        told.append(f"{lost:,} places have no coordinates: they are found by name, and aren't on the map.")
-    return told
+        sentences.append(f"{lost:,} places have no coordinates: they are found by name, and aren't on the map.")
+    return sentences
 
 
 def tell(path: str, page: Page) -> None:
     """Says on the standard error what was written."""
     ground = page.content.ground
     count, rows = len(ground.places.identifiers), len(ground.rows)
-    say(f"{path}: {count:,} places, travel times from {rows:,} of them", *page.frame.told)
+    say(f"{path}: {count:,} places, travel times from {rows:,} of them", *page.frame.sentences)

@@ -20,17 +20,17 @@ LEVEL = 9
 
 
 @dataclass(frozen=True)
-class Part:
+class Element:
     """What stands in one element of the page, found by its name."""
 
     name: str
     text: str
 
 
-def part(name: str, numbers: npt.NDArray[Any]) -> Part:
+def part(name: str, numbers: npt.NDArray[Any]) -> Element:
     """An array as it lies in memory, the least byte of each number first."""
     little = np.ascontiguousarray(numbers, numbers.dtype.newbyteorder("<"))
-    return Part(name, base64.b64encode(zlib.compress(little.tobytes(), LEVEL)).decode("ascii"))
+    return Element(name, base64.b64encode(zlib.compress(little.tobytes(), LEVEL)).decode("ascii"))
 
 
 def minutes_of(seconds: Seconds) -> Bytes:
@@ -51,6 +51,6 @@ def blocks_of(cells: Bytes, below: Bytes | None) -> Iterator[Bytes]:
         block = cells[begin : begin + step]
         if below is not None:
             block = block - below[begin : begin + step]
-        made = block.copy()
-        made[1:] -= block[:-1]
-        yield made
+        padded = block.copy()
+        padded[1:] -= block[:-1]
+        yield padded

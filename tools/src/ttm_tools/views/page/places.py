@@ -16,7 +16,7 @@ Whole = npt.NDArray[np.int32]
 
 
 @dataclass(frozen=True)
-class Places:
+class PagePlaces:
     """Stops or points, by what a matrix calls them."""
 
     identifiers: list[str]
@@ -27,20 +27,20 @@ class Places:
     heights: Floats  # the same to the north
     areas: Mapping[str, Area] = field(default_factory=dict)  # of cells with a shape of their own, by identifier
 
-    def chosen(self, order: Sequence[int]) -> "Places":
+    def chosen(self, order: Sequence[int]) -> "PagePlaces":
         identifiers, names = ([texts[place] for place in order] for texts in (self.identifiers, self.names))
         numbers = (self.latitudes, self.longitudes, self.widths, self.heights)
-        north, east, wide, high = (it[np.array(order, dtype=np.intp)] for it in numbers)
-        return Places(identifiers, names, north, east, wide, high, self.areas)
+        north, east, wide, high = (number[np.array(order, dtype=np.intp)] for number in numbers)
+        return PagePlaces(identifiers, names, north, east, wide, high, self.areas)
 
-    def in_order(self) -> "Places":
+    def in_order(self) -> "PagePlaces":
         """The same, neighbours together; those without a place last."""
         return self.chosen(np.argsort(ranks(self.latitudes, self.longitudes), kind="stable").tolist())
 
     def degrees(self) -> npt.NDArray[np.int32]:
         """Latitude and longitude of each in millionths of a degree, NOWHERE where there is no place."""
-        made = np.stack([self.latitudes, self.longitudes], axis=1) * MICRO
-        return np.where(np.isnan(made), NOWHERE, np.rint(made)).astype(np.int32)
+        degrees = np.stack([self.latitudes, self.longitudes], axis=1) * MICRO
+        return np.where(np.isnan(degrees), NOWHERE, np.rint(degrees)).astype(np.int32)
 
     def rings(self) -> tuple[Whole, Whole]:
         """The rings of all areas: rows of a place's number and how many corners its ring has; and all corners in
@@ -55,34 +55,34 @@ class Places:
         return np.array(rows, np.int32).reshape(-1, 2), np.diff(whole, axis=0, prepend=np.zeros((1, 2), np.int32))
 
 
-def places_of(stops: Stops, identifiers: Sequence[str]) -> Places:
+def places_of(stops: Stops, identifiers: Sequence[str]) -> PagePlaces:
     """The places of some stops or points, which the feed has."""
     found = stops.of(identifiers)
     wide, high = np.nan_to_num(found.sides()).T
-    return Places(found.identifiers, found.names, found.latitudes, found.longitudes, wide, high, found.areas)
+    return PagePlaces(found.identifiers, found.names, found.latitudes, found.longitudes, wide, high, found.areas)
 
 
 def ranks(latitudes: Floats, longitudes: Floats) -> Floats:
     """Where each place comes on a line that winds through all of them (that of Hilbert); infinite without a place."""
     placed = ~np.isnan(latitudes)
-    made = np.full(len(latitudes), np.inf)
+    ranks_found = np.full(len(latitudes), np.inf)
     if placed.any():
         low = np.array([latitudes[placed].min(), longitudes[placed].min()])
         side = max(float(np.ptp(latitudes[placed])), float(np.ptp(longitudes[placed]))) or 1.0
         scaled = (np.stack([latitudes[placed], longitudes[placed]], axis=1) - low) / side * (CELLS - 1)
-        made[placed] = along_hilbert(*np.rint(scaled).astype(np.int64).T)
-    return made
+        ranks_found[placed] = along_hilbert(*np.rint(scaled).astype(np.int64).T)
+    return ranks_found
 
 
 def along_hilbert(x: npt.NDArray[np.int64], y: npt.NDArray[np.int64]) -> npt.NDArray[np.int64]:
     """The numbers of cells of a square along Hilbert's curve, one halving of the square at a time."""
-    made = np.zeros(len(x), np.int64)
+    distance = np.zeros(len(x), np.int64)
     half = CELLS // 2
     while half:
         right, up = (x & half) > 0, (y & half) > 0
-        made += half * half * np.where(right, np.where(up, 2, 3), np.where(up, 1, 0))
+        distance += half * half * np.where(right, np.where(up, 2, 3), np.where(up, 1, 0))
         flipped = right & ~up
         x, y = np.where(flipped, CELLS - 1 - x, x), np.where(flipped, CELLS - 1 - y, y)
         x, y = np.where(up, x, y), np.where(up, y, x)
         half //= 2
-    return made
+    return distance

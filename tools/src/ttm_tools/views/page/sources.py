@@ -16,22 +16,22 @@ FEED = "stops routes trips stop_times calendar calendar_dates frequencies transf
 
 
 @dataclass(frozen=True)
-class Words:
-    """The arguments of the run, as far as they are told."""
+class RunArguments:
+    """The arguments of the run, as far as they are reported."""
 
     text: str = ""
 
     def value(self, name: str) -> str | None:
         """What stands behind an option, or None."""
         try:
-            words = shlex.split(self.text)
+            texts = shlex.split(self.text)
         except ValueError as fault:
             raise WrongWords(f"--words {self.text!r}: {fault}") from None
-        for place, word in enumerate(words):
+        for place, word in enumerate(texts):
             if word.startswith(f"{name}="):
                 return word.partition("=")[2]
-            if word == name and place + 1 < len(words):
-                return words[place + 1]
+            if word == name and place + 1 < len(texts):
+                return texts[place + 1]
         return None
 
     @property
@@ -45,9 +45,9 @@ class Words:
         return f"{ends[0]} to {ends[1]}" if all(ends) else None
 
 
-def meaning(share: Share, words: Words) -> str:
+def meaning(share: Share, arguments: RunArguments) -> str:
     """What a travel time says, in one sentence."""
-    window = f" of the window {words.window}" if words.window else " of the window"
+    window = f" of the window {arguments.window}" if arguments.window else " of the window"
     often = "the percentile" if share is None else f"at least {share} percent"
     return (
         f"A travel time of 30 minutes means: with {often} of the departures{window}, one each minute, you arrive within"
@@ -56,18 +56,18 @@ def meaning(share: Share, words: Words) -> str:
     )
 
 
-def table(names: Mapping[str, Sequence[str]], feed: str, words: Words) -> list[tuple[str, str]]:
+def table(names: Mapping[str, Sequence[str]], feed: str, arguments: RunArguments) -> list[tuple[str, str]]:
     """Where the page comes from, as lines of a table: the feed, the day, the words of the run, and the sums of all
     files, by what they are.
     """
-    told = [
+    rows = [
         ("Feed", shown(os.path.basename(os.path.abspath(feed)))),
-        ("Date", words.date or "not told"),
-        ("Departures", words.window or "not told"),
-        ("Words of the run", words.text or "not told"),
+        ("Date", arguments.date or "not told"),
+        ("Departures", arguments.window or "not told"),
+        ("Words of the run", arguments.text or "not told"),
         ("Made by", f"ttm-tools {__version__}"),
     ]
     of_feed = [str(path) for path in (Path(feed) / f"{name}.txt" for name in FEED) if path.is_file()]
     for kind, paths in [*names.items(), ("Feed", of_feed)]:
-        told += [(f"{kind}: {shown(os.path.basename(path))}", f"SHA-256 {sum_of(path)}") for path in paths]
-    return told
+        rows += [(f"{kind}: {shown(os.path.basename(path))}", f"SHA-256 {sum_of(path)}") for path in paths]
+    return rows

@@ -1,7 +1,7 @@
 use Rattle.std.proofs.Common.{◌≡◌, ◌≤ℤ◌, arith, neg_ℤ, pos, rules}
 use Rattle.std.proofs.lemmas.Int.{ints}
 use Rattle.scenarios.specs.Edits.{shift_of}
-use Rattle.scenarios.proofs.Shifting.{shift_within}
+use Rattle.scenarios.proofs.ShiftBounds.{shift_within}
 use Rattle.scenarios.proofs.scenario.Scenario.shift.Goals as goal
 
 pub returns-clause-low : goal.returns-clause-low

@@ -6,7 +6,7 @@ use Rattle.scenarios.specs.Edits.{shift_of}
 use Rattle.scenarios.specs.declared.edits.Edit.TheVariants.{Shift}
 use Rattle.scenarios.specs.declared.edits.TheConstants.{MOST_EDITS}
 use Rattle.scenarios.proofs.AddedShift.{still_looked_up}
-use Rattle.scenarios.proofs.Shifting.{shift_within}
+use Rattle.scenarios.proofs.ShiftBounds.{shift_within}
 use Rattle.scenarios.proofs.scenario.Scenario.shift_trip.Goals as goal
 
 pub add_shift-requires-clause-shift : goal.add_shift-requires-clause-shift

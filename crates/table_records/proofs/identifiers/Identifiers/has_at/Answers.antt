@@ -1,5 +1,5 @@
 use Rattle.std.proofs.Common.{◌∙◌, sym}
-use Rattle.table_records.proofs.Near.{position_here, same_bytes}
+use Rattle.table_records.proofs.DistinctTexts.{position_here, same_bytes}
 use Rattle.table_records.proofs.identifiers.Identifiers.has_at.Goals as goal
 
 pub returns-then-number-ids : goal.returns-then-number-ids

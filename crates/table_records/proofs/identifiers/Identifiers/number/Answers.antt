@@ -1,6 +1,6 @@
 use Rattle.std.proofs.Common.{◌∙◌, sym}
 use Rattle.std.specs.Str.{bytes_eq}
-use Rattle.table_records.proofs.Mapped.{position-map}
+use Rattle.table_records.proofs.MappedTests.{position-map}
 use Rattle.table_records.proofs.identifiers.Identifiers.number.Goals as goal
 
 pub returns : goal.returns

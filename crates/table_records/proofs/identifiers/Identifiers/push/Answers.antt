@@ -3,7 +3,7 @@ use Rattle.std.proofs.lemmas.Result.{err_from_is_err_and}
 use Rattle.std.specs.Prelude.{not}
 use Rattle.std.specs.List.{list_any}
 use Rattle.std.specs.Str.{bytes_eq}
-use Rattle.table_records.proofs.Mapped.{list_any-map}
+use Rattle.table_records.proofs.MappedTests.{list_any-map}
 use Rattle.table_records.proofs.identifiers.Identifiers.push.Goals as goal
 
 pub returns-in_err-insert-in-Ok-clause-absent : goal.returns-in_err-insert-in-Ok-clause-absent

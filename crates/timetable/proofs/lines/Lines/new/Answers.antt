@@ -1,7 +1,7 @@
 use Rattle.std.proofs.Common.{◌∙◌, ap}
 use Rattle.timetable.specs.FlatLists.{lists_of}
 use Rattle.timetable.specs.Lines.{AreLines}
-use Rattle.timetable.proofs.Viewing.{views_of_lines}
+use Rattle.timetable.proofs.LineLayout.{views_of_lines}
 use Rattle.timetable.proofs.lines.Lines.new.Goals as goal
 
 pub boarded_of-requires-clause-lines : goal.boarded_of-requires-clause-lines

@@ -1,6 +1,6 @@
 use Rattle.std.proofs.Common.{◌∙◌, ℕ, List, sym, ap, subst}
 use Rattle.work_book.specs.Seat.{SeatState, IsAscending, has_drawn}
-use Rattle.work_book.proofs.Ascending.{found_where_it_stands}
+use Rattle.work_book.proofs.SearchByHalves.{found_where_it_stands}
 use Rattle.work_book.proofs.seat.Seat.has_drawn.Goals as goal
 
 pub returns : goal.returns

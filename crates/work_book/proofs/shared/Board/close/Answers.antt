@@ -1,4 +1,4 @@
-use Rattle.work_book.proofs.Ending.{closes}
+use Rattle.work_book.proofs.NewAndClosedBoards.{closes}
 use Rattle.work_book.proofs.shared.Board.close.Goals as goal
 
 pub returns-clause-closes : goal.returns-clause-closes

@@ -1,5 +1,5 @@
 use Rattle.std.proofs.Common.{rules}
-use Rattle.work_book.proofs.Numbering.{draws}
+use Rattle.work_book.proofs.DrawsKeepTheRule.{draws}
 use Rattle.work_book.proofs.shared.Board.draw.Goals as goal
 
 pub fetch_add-number-requires : goal.fetch_add-number-requires

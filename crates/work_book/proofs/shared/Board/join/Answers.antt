@@ -1,7 +1,7 @@
 use Rattle.std.proofs.Common.{rules, subst, sym}
 use Rattle.work_book.specs.Moves.{IsOnce}
-use Rattle.work_book.proofs.Marking.{shows}
-use Rattle.work_book.proofs.Sharing.{joins}
+use Rattle.work_book.proofs.SettlesKeepTheRule.{shows}
+use Rattle.work_book.proofs.SplitsAndJoinsKeepTheRule.{joins}
 use Rattle.work_book.proofs.shared.Board.join.Goals as goal
 
 pub join_seat-requires : goal.join_seat-requires

@@ -1,5 +1,5 @@
 use Rattle.std.proofs.Common.{rules}
-use Rattle.work_book.proofs.Marking.{looks}
+use Rattle.work_book.proofs.SettlesKeepTheRule.{looks}
 use Rattle.work_book.proofs.shared.Board.look.Goals as goal
 
 pub load-mark-requires : goal.load-mark-requires

@@ -3,8 +3,8 @@ use Rattle.atomic_table.specs.Table.{opening}
 use Rattle.work_book.specs.Views.{first_view}
 use Rattle.work_book.specs.Rule.{IsKept}
 use Rattle.work_book.specs.declared.rule.Extent.{Extent}
-use Rattle.work_book.proofs.Held.{limit_of}
-use Rattle.work_book.proofs.Ending.{opens, few_numbers}
+use Rattle.work_book.proofs.RuleAsSums.{limit_of}
+use Rattle.work_book.proofs.NewAndClosedBoards.{opens, few_numbers}
 use Rattle.work_book.proofs.shared.Board.new.Goals as goal
 
 pub of_words-requires : goal.of_words-requires

@@ -1,7 +1,7 @@
 use Rattle.std.proofs.Common.{◌≡◌, ◌<◌, ap, rules, arith}
 use Rattle.work_book.specs.Book.{job_among}
 use Rattle.work_book.specs.declared.lease.Lease.{Lease}
-use Rattle.work_book.proofs.Marking.{settles, job_within}
+use Rattle.work_book.proofs.SettlesKeepTheRule.{settles, job_within}
 use Rattle.work_book.proofs.shared.Board.settle.Goals as goal
 
 pub compare_exchange-found-requires : goal.compare_exchange-found-requires

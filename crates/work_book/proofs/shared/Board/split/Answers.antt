@@ -1,5 +1,5 @@
 use Rattle.std.proofs.Common.{rules}
-use Rattle.work_book.proofs.Sharing.{splits}
+use Rattle.work_book.proofs.SplitsAndJoinsKeepTheRule.{splits}
 use Rattle.work_book.proofs.shared.Board.split.Goals as goal
 
 pub split_seat-other-requires : goal.split_seat-other-requires

@@ -1,6 +1,6 @@
 use Rattle.std.proofs.Common.{[]}
 use Rattle.std.specs.Slots.{slots_items}
-use Rattle.work_book.proofs.Ending.{mark_told}
+use Rattle.work_book.proofs.NewAndClosedBoards.{mark_told}
 use Rattle.work_book.proofs.shared.Closed.settled.Goals as goal
 
 pub returns : goal.returns

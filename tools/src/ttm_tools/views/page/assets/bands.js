@@ -3,9 +3,12 @@
 
 const bands = {
   on: false,
+  ready: null, // a promise of the streets, where the page has some, as soon as they are wanted
 
   begin(map) {
-    const areas = new ReachedAreas(map), isCell = (place) => numbers.widths[place] > 0 || map.areas.has(place);
+    const areas = head.streets === null ? new ReachedAreas(map) : new ReachedStreets(map);
+    this.areas = areas;
+    const isCell = (place) => numbers.widths[place] > 0 || map.areas.has(place);
     map.under.push((pen, view) => {
       if (this.on && state.view === "times" && current.now !== null) {
         areas.paint(pen, view, current.now, head.walk);
@@ -32,7 +35,12 @@ const bands = {
     element("areas").checked = this.on;
   },
 
-  show() {},
+  /** Reads the streets where they are wanted for the first time, and paints what is shown again. */
+  show() {
+    if (this.on && head.streets !== null && this.ready === null) {
+      this.ready = this.areas.read().then(() => page.drawing.draw());
+    }
+  },
 };
 
 additions.push(bands);

@@ -46,6 +46,11 @@ function timeClasses() {
   return { marks, classOf };
 }
 
+/** The class of each number of minutes that a cell may have. */
+function classesOfMinutes(classOf) {
+  return Uint8Array.from({ length: NEVER + 1 }, (_, minutes) => classOf(minutes));
+}
+
 /** How many of some ascending numbers a number has come up to. */
 function grade(breaks, number) {
   let found = 0;
@@ -149,9 +154,11 @@ function accessChangeClasses() {
   return { marks, classOf };
 }
 
+const [WHOLE, DECIMAL] = [0, 1].map((digits) => new Intl.NumberFormat("en", { maximumFractionDigits: digits }));
+
 /** A number for people, with one decimal at most. */
 function told(number) {
-  return number.toLocaleString("en", { maximumFractionDigits: Math.abs(number) < 100 ? 1 : 0 });
+  return (Math.abs(number) < 100 ? DECIMAL : WHOLE).format(number);
 }
 
 /** A change for people, with its sign. */

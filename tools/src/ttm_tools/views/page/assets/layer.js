@@ -6,6 +6,7 @@ const PAD = 0.3; // of the map's size, by which the canvas is larger on each sid
 const REACH = 22; // pixels from a place at which a click still takes it
 const LEAST_SQUARE = 2; // pixels
 const EDGED = 2.5; // pixels, the radius above which a mark has an edge
+const SQUARE = Math.sqrt(Math.PI) / 2; // of a circle's radius: half the side of a square of the same area
 const DEGREE = 111195; // metres of latitude
 const MANY_LINES = 2000, FAINT = "#dcdcdc"; // pieces of lines from which on they are thin, and their colour
 const LINES = {
@@ -72,7 +73,9 @@ class PageMap {
   constructor(chosen, tipOf, identifier = "map") {
     this.points = onWorld(numbers.places);
     this.areas = new Areas();
-    this.lines = {};
+    this.many = 2000; // marks in the picture, from which on they are stamped
+    this.hasSquares = this.areas.any || numbers.widths.some((width) => width > 0);
+    this.lines = {}; // on the world, and of which numbers
     this.under = []; // what additions paint below the places, and
     this.over = []; // above them
     this.nowhere = () => {}; // where a click is near no place
@@ -85,7 +88,7 @@ class PageMap {
       this.addTiles();
     }
     this.fit();
-    new Drawing("lines", (pen, view) => this.paintLines(pen, view, "running")).addTo(this.map);
+    this.ground = new Drawing("lines", (pen, view) => this.paintLines(pen, view, "running")).addTo(this.map);
     this.drawing = new Drawing("places", (pen, view) => this.paint(pen, view)).addTo(this.map);
     this.map.on("click", (event) => {
       const place = this.placeAt(event.containerPoint);
@@ -176,13 +179,18 @@ class PageMap {
     return L.point(this.points[2 * place] * scale - origin.x, this.points[2 * place + 1] * scale - origin.y);
   }
 
+  /** Where a pixel lies on the map of zoom 0, and how many pixels the map now has for one of that map. */
+  worldAt(pixel) {
+    const scale = 2 ** this.map.getZoom();
+    const origin = this.map.getPixelOrigin().add(this.map.containerPointToLayerPoint(L.point(0, 0)));
+    return { x: (pixel.x + origin.x) / scale, y: (pixel.y + origin.y) / scale, scale };
+  }
+
   /** The place at a pixel: the nearest mark within reach, or the square or area in which it is; else the area whose
    * middle is the nearest within reach; -1 where there is none.
    */
   placeAt(pixel) {
-    const scale = 2 ** this.map.getZoom();
-    const origin = this.map.getPixelOrigin().add(this.map.containerPointToLayerPoint(L.point(0, 0)));
-    const x = (pixel.x + origin.x) / scale, y = (pixel.y + origin.y) / scale;
+    const { x, y, scale } = this.worldAt(pixel);
     const mark = this.nearest(x, y, scale, false);
     const area = mark < 0 && this.areas.any ? this.areas.at(x, y) : mark;
     return area < 0 && this.areas.any ? this.nearest(x, y, scale, true) : area;
@@ -192,18 +200,22 @@ class PageMap {
   nearest(x, y, scale, amongAreas) {
     let found = -1, least = (REACH / scale) ** 2;
     for (let place = 0; place < head.names.length; place++) {
-      if (this.areas.has(place) !== amongAreas) {
+      if (this.areas.any && this.areas.has(place) !== amongAreas) {
         continue;
       }
       const east = this.points[2 * place] - x, south = this.points[2 * place + 1] - y;
       const far = east * east + south * south;
-      const [wide, high] = [this.sideOf(place) / 2, this.sideOf(place, numbers.heights) / 2];
-      if (far < least || (wide > 0 && Math.abs(east) <= wide && Math.abs(south) <= high && found < 0)) {
+      if (far < least || (found < 0 && numbers.widths[place] > 0 && this.isInCell(place, east, south))) {
         found = place;
         least = Math.min(far, least);
       }
     }
     return found;
+  }
+
+  /** Whether a point so far east and south of a place is in its cell. */
+  isInCell(place, east, south) {
+    return Math.abs(east) <= this.sideOf(place) / 2 && Math.abs(south) <= this.sideOf(place, numbers.heights) / 2;
   }
 
   /** How wide a place's cell is, or by its heights how high, on the map of zoom 0. */
@@ -217,12 +229,11 @@ class PageMap {
       this.paintLines(pen, view, "running"); // on paper browsers may leave out a canvas that lies below another one
     }
     this.under.forEach((paint) => paint(pen, view));
-    const squares = this.areas.any || numbers.widths.some((width) => width > 0);
-    if (!squares) {
+    if (!this.hasSquares) {
       this.paintChanges(pen, view);
     }
     this.paintPlaces(pen, view);
-    if (squares) {
+    if (this.hasSquares) {
       this.paintChanges(pen, view);
     }
     this.over.forEach((paint) => paint(pen, view));
@@ -241,8 +252,10 @@ class PageMap {
 
   paintLines(pen, view, name) {
     const how = LINES[name.split("-")[0]];
-    this.lines[name] ??= onWorld(numbers[name]);
-    const ends = this.lines[name];
+    if (this.lines[name]?.from !== numbers[name]) {
+      this.lines[name] = { from: numbers[name], ends: onWorld(numbers[name]) };
+    }
+    const { ends } = this.lines[name];
     pen.beginPath();
     for (let place = 0; place < ends.length; place += 4) {
       pen.moveTo(ends[place] * view.scale - view.x, ends[place + 1] * view.scale - view.y);
@@ -262,37 +275,50 @@ class PageMap {
 
   /** All places: faint ones first, then small marks, and what is cut off on top. */
   paintPlaces(pen, view) {
-    const { classes, marks, faint } = this.shown;
+    const { classes, marks, faint } = this.shown, { points, areas } = this;
     const order = marks.map((mark, number) => number).sort((a, b) => marks[a].size - marks[b].size || b - a);
-    const groups = marks.map(() => [[], []]);
+    const groups = marks.map(() => [[], []]), { scale, width, height } = view;
+    let count = 0;
     for (let place = 0; place < head.names.length; place++) {
-      const [x, y] = this.at(place, view);
-      const isNear = x > -40 && y > -40 && x < view.width + 40 && y < view.height + 40;
-      if (isNear || (this.areas.has(place) && this.areas.isSeen(place, view))) {
+      const x = points[2 * place] * scale - view.x, y = points[2 * place + 1] * scale - view.y;
+      const isNear = x > -40 && y > -40 && x < width + 40 && y < height + 40;
+      if (isNear || (areas.any && areas.has(place) && areas.isSeen(place, view))) {
         groups[classes === null ? 0 : classes[place]][faint !== null && faint[place] ? 0 : 1].push(place);
+        count++;
       }
     }
-    for (const bright of [0, 1]) {
-      pen.globalAlpha = bright ? 1 : 0.28;
-      for (const number of order) {
-        this.paintClass(pen, view, marks[number], groups[number][bright], this.radius() * (bright ? 1 : 0.7));
-      }
+    const inOrder = [0, 1].flatMap((bright) => order.map((number) => ({ mark: marks[number],
+      some: groups[number][bright], alpha: bright ? 1 : 0.28, radius: this.radius() * (bright ? 1 : 0.7) })));
+    if (count >= this.many && !this.hasSquares && stamps.takes(this.radius())) {
+      this.stampPlaces(pen, view, inOrder);
+    } else {
+      inOrder.forEach((group) => this.paintClass(pen, view, group));
+      pen.globalAlpha = 1;
     }
-    pen.globalAlpha = 1;
+  }
+
+  /** Many places, by stamps. */
+  stampPlaces(pen, view, inOrder) {
+    stamps.begin(pen);
+    for (const { mark, some, alpha, radius } of inOrder.filter((group) => group.some.length)) {
+      stamps.press(stamps.of(mark, radius, alpha), some, this.points, view);
+    }
+    stamps.paint(pen);
   }
 
   /** The places of a class: their areas, their squares, or their marks. */
-  paintClass(pen, view, mark, some, radius) {
+  paintClass(pen, view, { mark, some, alpha, radius }) {
+    pen.globalAlpha = alpha;
     for (const place of some) {
-      const [x, y] = this.at(place, view);
-      if (this.areas.has(place)) {
+      const x = this.points[2 * place] * view.scale - view.x, y = this.points[2 * place + 1] * view.scale - view.y;
+      if (this.areas.any && this.areas.has(place)) {
         this.areas.paint(pen, view, place, colourOfCell(mark));
         paintWithin(pen, mark, x, y, this.areas.sizeOf(place, view));
       } else if (numbers.widths[place] > 0) {
         const sides = [this.sideOf(place), this.sideOf(place, numbers.heights)];
         paintCell(pen, mark, x, y, ...sides.map((side) => Math.max(side * view.scale, LEAST_SQUARE)));
       } else {
-        paintMark(pen, mark, x, y, radius * mark.size);
+        paintSmall(pen, mark, x, y, radius);
       }
     }
   }
@@ -302,6 +328,17 @@ class PageMap {
     const size = this.map.getSize(), count = Math.max(1, head.names.length);
     const at = Math.min(6.5, Math.max(1.6, 0.2 * Math.sqrt((size.x * size.y) / count)));
     return Math.min(10, at * 1.35 ** Math.max(0, this.map.getZoom() - this.fitZoom));
+  }
+}
+
+/** A place's mark, or a square of the same area where it would be tiny. */
+function paintSmall(pen, mark, x, y, radius) {
+  const own = radius * mark.size, half = own * SQUARE;
+  if (mark.shape === "circle" && own <= EDGED) {
+    pen.fillStyle = mark.colour;
+    pen.fillRect(x - half, y - half, 2 * half, 2 * half);
+  } else {
+    paintMark(pen, mark, x, y, own);
   }
 }
 

@@ -3,6 +3,8 @@
 // so that a link leads to a view.
 
 const MOST_MINUTES = 120; // of the slider
+const ADDRESS_EVERY = 250; // milliseconds between changes of the address, of which browsers take 20 a second at most
+const ADDRESS_AFTER = 50; // milliseconds from a picture to its address: first the picture is painted
 const BEYOND = { label: "no destination of the matrix", colour: "#c4c4c4", shape: "dot", size: 0.5 };
 const HAVING = [
   { ...UNKNOWN, label: "travel times from there are in the page" },
@@ -23,6 +25,8 @@ const state = {
 let page = null; // the map
 let current = { now: null, before: null }; // travel times from the chosen place, as they are shown
 let turn = 0; // of showing; what a later turn has overtaken isn't shown
+let addressed = -Infinity, addressing = null; // when the address was written, and what writes it later
+let address = ""; // what stands behind # since it was read or written
 
 function set(change) {
   Object.assign(state, change);
@@ -53,7 +57,7 @@ async function show() {
   additions.forEach((addition) => addition.show(current));
   element("meaning").textContent = head.meanings[share]
     + (state.difference ? " A difference is one of such whole minutes: it may be up to a minute off." : "");
-  writeAddress();
+  keepAddress();
   document.documentElement.dataset.shown = String(own);
 }
 
@@ -92,11 +96,13 @@ function showNoTimes() {
 function showTimes(now, before) {
   const { marks, classOf } = before === null ? timeClasses() : changeClasses();
   const classes = new Uint8Array(head.names.length).fill(marks.length), faint = new Uint8Array(head.names.length);
-  now.forEach((minutes, column) => {
-    const place = numbers.columns[column], least = before === null ? minutes : Math.min(minutes, before[column]);
-    classes[place] = before === null ? classOf(minutes) : classOf(before[column], minutes);
+  const classAt = before === null ? classesOfMinutes(classOf) : null;
+  for (let column = 0; column < now.length; column++) {
+    const place = numbers.columns[column], minutes = now[column];
+    const least = before === null ? minutes : Math.min(minutes, before[column]);
+    classes[place] = before === null ? classAt[minutes] : classOf(before[column], minutes);
     faint[place] = Number(least > state.minutes && minutes !== NEVER);
-  });
+  }
   element("from-here").hidden = true;
   showTimesTold(state.place, state.scenario, now, before);
   showSums(state.minutes, now, before);
@@ -110,7 +116,9 @@ function showTimes(now, before) {
 /** Shows classes on the map and in the key. */
 function showOnMap(title, classes, marks, faint) {
   const counts = new Array(marks.length).fill(0);
-  classes.forEach((number) => { counts[number]++; });
+  for (let place = 0; place < classes.length; place++) {
+    counts[classes[place]]++;
+  }
   showKey(title, marks, counts);
   showLinesKey(state.scenario);
   page.show({ classes, marks, faint, place: state.place, scenario: state.scenario });
@@ -212,8 +220,19 @@ function accessTip(place, name) {
   return `${name}: ${told(access)} ${words.short}${state.difference ? ` (${toldChange(change)})` : ""}`;
 }
 
+/** Writes the address once the picture is painted, and a little later while a slider is dragged. */
+function keepAddress() {
+  const wait = addressed + ADDRESS_EVERY - performance.now();
+  clearTimeout(addressing);
+  addressing = setTimeout(writeAddress, Math.max(ADDRESS_AFTER, Math.ceil(wait)));
+}
+
 /** The state as it stands in the address. */
 function writeAddress() {
+  if (location.hash !== address) {
+    return; // somebody typed another one, which is read next
+  }
+  addressed = performance.now();
   const words = {
     view: state.view,
     scenario: head.scenarios[state.scenario],
@@ -229,6 +248,7 @@ function writeAddress() {
   }
   try {
     history.replaceState(null, "", `#${new URLSearchParams(words)}`);
+    address = location.hash;
   } catch {
     // a browser that keeps addresses of files as they are
   }
@@ -236,6 +256,7 @@ function writeAddress() {
 
 /** The state that an address asks for, as far as the page has it. */
 function readAddress() {
+  address = location.hash;
   const words = new URLSearchParams(location.hash.slice(1)), several = head.scenarios.length > 1;
   const place = (names, name, otherwise) => {
     const found = words.has(name) ? names.indexOf(words.get(name)) : -1;

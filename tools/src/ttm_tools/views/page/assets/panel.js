@@ -109,14 +109,17 @@ function showLinesKey(scenario) {
 
 /** The sums of what is reached within some minutes: of places, and of each thing that lies at places of the page. */
 function sumsWithin(cells, minutes) {
-  const columns = head.reached.map((number) => countsOf(number)), sums = new Array(columns.length + 1).fill(0);
+  return [null, ...head.reached.map(countsOf)].map((counts) => sumWithin(cells, minutes, counts));
+}
+
+function sumWithin(cells, minutes, counts) {
+  let sum = 0;
   for (let column = 0; column < cells.length; column++) {
     if (cells[column] <= minutes) {
-      sums[0]++;
-      columns.forEach((counts, number) => { sums[number + 1] += counts[numbers.columns[column]]; });
+      sum += counts === null ? 1 : counts[numbers.columns[column]];
     }
   }
-  return sums;
+  return sum;
 }
 
 /** What is reached within the slider's minutes, now and, in a difference, before. */
@@ -137,21 +140,25 @@ function showSums(minutes, now, before) {
 
 /** What became of the travel times from a place, as a sentence; 254 and 255 are no minutes. */
 function changesTold(now, before) {
-  const counts = { cut: 0, slower: 0, faster: 0, joined: 0, same: 0 };
-  now.forEach((after, column) => {
-    const earlier = before[column];
-    const later = after - earlier >= CHANGES[0] ? "slower" : earlier - after >= CHANGES[0] ? "faster" : "same";
-    counts[after === earlier ? "same" : after === NEVER ? "cut" : earlier === NEVER ? "joined" : later]++;
-  });
-  const [cut, slower, faster, joined] = Object.values(counts).map(told);
-  return `of ${places(now.length)} ${cut} are cut off, ${slower} slower by ${CHANGES[0]} minutes or more, `
-    + `${faster} faster, ${joined} new.`;
+  let [cut, slower, faster, joined] = [0, 0, 0, 0];
+  for (let column = 0; column < now.length; column++) {
+    const after = now[column], earlier = before[column];
+    if (after !== earlier && (after === NEVER || earlier === NEVER)) {
+      cut += Number(after === NEVER);
+      joined += Number(earlier === NEVER);
+    } else {
+      slower += Number(after - earlier >= CHANGES[0]);
+      faster += Number(earlier - after >= CHANGES[0]);
+    }
+  }
+  return `of ${places(now.length)} ${told(cut)} are cut off, ${told(slower)} slower by ${CHANGES[0]} minutes or more, `
+    + `${told(faster)} faster, ${told(joined)} new.`;
 }
 
 function showTimesTold(place, scenario, now, before) {
   const name = head.scenarios[scenario];
   element("heading").textContent = `Travel times from ${nameOf(place)}`;
-  const reached = now.reduce((sum, minutes) => sum + (minutes !== NEVER), 0);
+  const reached = sumWithin(now, NEVER - 1, null);
   element("told").textContent = before === null ? `${name}: ${told(reached)} of ${places(now.length)} are reached.`
     : `${name} compared with ${head.scenarios[0]}: ${changesTold(now, before)}`;
 }

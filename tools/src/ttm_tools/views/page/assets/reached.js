@@ -10,31 +10,46 @@ class ReachedAreas {
     this.page = page;
     this.start = start;
     this.scratch = document.createElement("canvas");
+    this.painted = {}; // what the areas are of that it shows
   }
 
   /** The area of each band that ends within the slider's minutes, the widest first; one walks so many seconds at most. */
   paint(pen, view, cells, walk) {
-    const fine = pen.canvas.width / view.width, shades = colours(classEnds.length + 1);
-    Object.assign(this.scratch, { width: pen.canvas.width, height: pen.canvas.height });
-    const area = this.scratch.getContext("2d");
-    area.scale(fine, fine);
     const ends = classEnds.map((end, number) => ({ end, number })).filter(({ end }) => end <= state.minutes).reverse();
-    for (const { end, number } of ends) {
-      area.fillStyle = shades[number];
-      area.beginPath();
-      cells.forEach((minutes, column) => {
-        if (minutes <= end && isPlaced(numbers.columns[column])) {
-          this.add(area, view, numbers.columns[column], Math.min(60 * (end - minutes), walk));
-        }
-      });
-      if (this.start() >= 0) {
-        this.add(area, view, this.start(), Math.min(60 * end, walk));
-      }
-      area.fill();
+    const { width, height } = pen.canvas, words = [cells.byteOffset, width, height, view, walk, ends, this.start()];
+    const of = { cells: cells.buffer, places: numbers.places, text: JSON.stringify([...words, classEnds.length]) };
+    if (Object.entries(of).some(([name, it]) => this.painted[name] !== it)) {
+      this.painted = of;
+      Object.assign(this.scratch, { width, height });
+      this.paintBands(this.scratch.getContext("2d"), view, cells, walk, ends);
     }
     pen.globalAlpha = AREA;
     pen.drawImage(this.scratch, 0, 0, view.width, view.height);
     pen.globalAlpha = 1;
+  }
+
+  paintBands(area, view, cells, walk, ends) {
+    const fine = area.canvas.width / view.width, shades = colours(classEnds.length + 1);
+    area.scale(fine, fine);
+    for (const [place, { number }] of ends.entries()) {
+      area.fillStyle = area.strokeStyle = shades[number];
+      this.paintBand(area, view, cells, walk, ends, place);
+    }
+  }
+
+  /** Paints the area of one of the bands: a circle round each place. */
+  paintBand(area, view, cells, walk, ends, number) {
+    const { end } = ends[number];
+    area.beginPath();
+    cells.forEach((minutes, column) => {
+      if (minutes <= end && isPlaced(numbers.columns[column])) {
+        this.add(area, view, numbers.columns[column], Math.min(60 * (end - minutes), walk));
+      }
+    });
+    if (this.start() >= 0) {
+      this.add(area, view, this.start(), Math.min(60 * end, walk));
+    }
+    area.fill();
   }
 
   /** Adds what is reached from a place where some seconds are left; cells are painted as places. */

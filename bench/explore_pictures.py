@@ -1,0 +1,85 @@
+#!/usr/bin/env python3
+"""Makes the README's film strip of `ttm-tools explore`, by clicks in headless Chromium with the real program: travel
+times before a change, the route that is changed, and what becomes faster.
+
+    explore_pictures.py TOWN [--out FOLDER] [--program PATH]
+
+TOWN is the folder that `feedgen.py town TOWN` writes. The pictures are explore_before.png, explore_route.png and
+explore_after.png; without --out they go to docs/images. Needs selenium, Chromium, Pillow, flask and jinja2.
+"""
+
+import argparse
+import io
+from pathlib import Path
+from typing import Iterator
+
+from explore_times import DATE, ROOT, served  # sets the path of the next one
+from browser import Browser
+
+START, ROUTE, EVERY = "B00170S", "0013 (L0013)", "6"  # minutes
+SIZE = 1120, 760
+COLOURS = 256
+IDLE = "while (document.body.dataset.busy === '1') await new Promise((it) => setTimeout(it, 20)); await show();"
+NAMES = ("explore_before.png", "explore_route.png", "explore_after.png")
+
+
+def pictures(browser: Browser) -> Iterator[bytes]:
+    """The window before a change, with the route that is changed, and afterwards."""
+    browser.click(START)
+    browser.press("#areas")
+    yield picture_of(browser, "#clicks")
+    browser.press("#areas")
+    browser.awaited("await routes.read_;")
+    browser.press("#change-part summary")
+    browser.choose("route", ROUTE)
+    browser.run("document.getElementById('headway-every').value = arguments[0]", EVERY)
+    yield picture_of(browser, "#change-part")
+    browser.press("#headway")
+    browser.awaited(IDLE)
+    browser.run("document.getElementById('change-part').open = false")
+    yield picture_of(browser, "#heading")
+
+
+def picture_of(browser: Browser, selector: str) -> bytes:
+    """The window, with a part of the panel at its top."""
+    browser.run("document.querySelector(arguments[0]).scrollIntoView()", selector)
+    browser.settle()
+    found: bytes = browser.driver.get_screenshot_as_png()
+    return found
+
+
+def fewer_colours(picture: bytes) -> bytes:
+    """The same picture in a third of the bytes."""
+    from PIL import Image
+
+    out = io.BytesIO()
+    Image.open(io.BytesIO(picture)).convert("RGB").quantize(COLOURS).save(out, "PNG", optimize=True)
+    return out.getvalue()
+
+
+def make(town: Path, out: Path, program: str | None) -> None:
+    """Writes the pictures into a folder."""
+    named = ["--program", program] if program else []
+    tables = ["--footpaths", str(town / "footpaths.csv"), "--opportunities", str(town / "opportunities.csv")]
+    with served([str(town), "--date", DATE, *tables, *named, "--no-browser"]) as (_, address):
+        browser = Browser()
+        try:
+            browser.size(*SIZE)
+            browser.visit(address)
+            for name, picture in zip(NAMES, pictures(browser)):
+                (out / name).write_bytes(fewer_colours(picture))
+        finally:
+            browser.close()
+
+
+def main() -> None:
+    parser = argparse.ArgumentParser(description=__doc__, formatter_class=argparse.RawDescriptionHelpFormatter)
+    parser.add_argument("town", type=Path)
+    parser.add_argument("--out", type=Path, default=ROOT / "docs" / "images")
+    parser.add_argument("--program")
+    args = parser.parse_args()
+    make(args.town, args.out, args.program)
+
+
+if __name__ == "__main__":
+    main()

@@ -1,0 +1,110 @@
+-- The labels of a batch, as those of its minutes, and what is kept for the batch before it.
+use Rattle.std.proofs.Common.{◌≡◌, ◌≢◌, ℕ, ◌+◌, ◌-◌, ◌<◌, ◌≤◌, ◌⊎◌, inl, inr, List, All, map, replicate, slice_index}
+use Rattle.std.proofs.Common.{sym, ◌∙◌, ap, arith}
+use Rattle.std.proofs.lemmas.List.{length-map, length-replicate, get_or-map, get_or-replicate, ext_get_or}
+use Rattle.timetable.specs.declared.limits.TheConstants.{END_OF_AXIS, MOST_FOOT_SECONDS}
+use Rattle.timetable.specs.declared.least.TheConstants.{NEVER}
+use Rattle.timetable.specs.Networks.{Net, IsNet}
+use Rattle.timetable.specs.Least.{IsLeastOrNever}
+use Rattle.timetable.specs.Journeys.{IsDuration}
+use Rattle.timetable.proofs.KnownParts.{all_at}
+use Rattle.trip_lanes.specs.Cut.{cut}
+use Rattle.trip_lanes.specs.Since.{IsSinceTo}
+use Rattle.rounds.specs.declared.bounded.Kept.{Kept}
+use Rattle.rounds.specs.Batches.{AreKept, bounds_in}
+use Rattle.rounds.specs.Cut.{cut_net}
+use Rattle.rounds.specs.CappedLabels.{LaneStateTo}
+use Rattle.rounds.specs.Last.{AreLastFrom}
+use Rattle.rounds.specs.State.{arrival}
+use Rattle.rounds.proofs.CutDurations.{arrival_fits_to, cut_since, cut_dead, cut_duration}
+use Rattle.rounds.proofs.CutNetworks.{cut_net_is_net}
+use Rattle.rounds.proofs.LabelStates.{never_state}
+use Rattle.rounds.proofs.LastArrivals.{none_late}
+use Rattle.rounds.proofs.EarlierBase.{rebased}
+
+module _ (n : Net) (ok : IsNet n) (base cap origin time depart : ℕ) (counted : time + base ≡ depart) (live : (0 < time)
+    ⊎ (base ≡ 0)) (rides : ℕ) (ride ready : List ℕ)
+    (state : LaneStateTo cap (cut_net base cap n) (record { stop = origin; time = time }) rides ride ready)
+    (p : ℕ) (there : p < n.stops) where
+  -- no stop is reached before the departure
+  pub lane_since : arrival ride ready p ≢ cap → time ≤ arrival ride ready p
+  lane_since reached =
+      let fits = arrival_fits_to cap (cut_net base cap n) (record {
+        stop = origin;
+        time = time;
+      }) rides ride ready state p there in
+      cut_since n ok base cap origin time depart counted live rides ride ready state p there (omega (arith, reached))
+
+  -- and counted from it, the label is the least duration, if nobody gets there too late for labels
+  pub lane_minute : (first : ℕ) (last : List ℕ) → AreLastFrom n origin first rides last → first ≤ depart → cap ≤ NEVER →
+      depart + MOST_FOOT_SECONDS < base + cap → (arrival ride ready p ≡ cap → slice_index last p < base + cap) →
+      (new : ℕ) → IsSinceTo cap time (arrival ride ready p) new →
+      IsLeastOrNever (IsDuration n origin depart rides p) new
+  lane_minute first last are le small near told new since =
+      cut_duration n ok base cap origin time depart counted live rides ride ready state p there new small since.never_so
+      since.since
+      (λ never end r. none_late n origin first rides last are depart (base + cap) p le there (told never) near end r)
+
+-- who departs at never reaches no stop before it
+pub lane_dead : (n : Net) (ok : IsNet n) (base cap origin time rides : ℕ) (ride ready : List ℕ) → 0 < cap → time ≡ cap →
+    LaneStateTo cap (cut_net base cap n) (record { stop = origin; time = time }) rides ride ready → (p : ℕ) →
+    p < n.stops → arrival ride ready p ≡ cap
+lane_dead n ok base cap origin time rides ride ready some never state p there =
+    cut_dead n ok base cap origin time (time + base) (omega arith) (inl (omega arith)) rides ride ready state p there
+    (omega arith)
+
+-- a base from which labels can count that are bounded by those of a later departure
+pub record IsBaseTo (cap later base : ℕ) : Type 0 where
+  pub fits : base + cap ≤ NEVER
+  pub live : (base ≡ 0) ⊎ ((base < later) × (cap + END_OF_AXIS < NEVER))
+  pub near : (later ≡ NEVER) ⊎ (later < base + cap)
+
+-- bounds of NEVER are those of a departure at NEVER
+cleared_bounds : (stops base cap : ℕ) (kept : List ℕ) → kept ≡ replicate stops NEVER → base + cap ≤ NEVER →
+    bounds_in base cap kept ≡ replicate stops cap
+cleared_bounds stops base cap kept e fits =
+    let never : cut base cap NEVER ≡ cap = omega arith in
+    let long = length-map (replicate stops NEVER) (cut base cap) ∙ length-replicate stops NEVER in
+    ap (map (cut base cap)) e ∙ ext_get_or 0 (map (cut base cap) (replicate stops NEVER)) (replicate stops cap) (long
+    ∙ sym (length-replicate stops cap)) (λ p l.
+    get_or-map (cut base cap) (replicate stops NEVER) p 0 0 (omega (arith, length-replicate stops NEVER))
+    ∙ (ap (cut base cap) (get_or-replicate stops p NEVER 0 (omega (arith, long)))
+    ∙ (never ∙ sym (get_or-replicate stops p cap 0 (omega (arith, long))))))
+
+pub kept_never : (n : Net) (ok : IsNet n) (base cap origin later rides : ℕ) (kept : List Kept) →
+    All (λ x. (x.ride.items ≡ replicate n.stops NEVER) × (x.ready.items ≡ replicate n.stops NEVER)) kept →
+    base + cap ≤ NEVER → later ≡ NEVER → AreKept cap base n (record {
+      stop = origin;
+      time = cut base cap later;
+    }) rides kept
+kept_never n ok base cap origin later rides kept none fits late k x few here =
+    let e = all_at (λ (x : Kept). (x.ride.items ≡ replicate n.stops NEVER)
+    × (x.ready.items ≡ replicate n.stops NEVER)) kept k x none here in
+    never_state cap (cut_net base cap n) (cut_net_is_net base cap n ok) (record {
+      stop = origin;
+      time = cut base cap later;
+    }) (omega arith) k (bounds_in base cap x.ride.items)
+    (bounds_in base cap x.ready.items)
+    (cleared_bounds n.stops base cap x.ride.items e.0 fits)
+    (cleared_bounds n.stops base cap x.ready.items e.1 fits)
+
+-- what is kept of a departure serves each base before it
+pub kept_rebased : (n : Net) (ok : IsNet n) (base cap origin time later rides : ℕ) (kept : List Kept) →
+    later < END_OF_AXIS → base ≤ later → (base ≡ 0) ⊎ (base < later) → (cap + END_OF_AXIS < NEVER → later ≤ base + 1) →
+    time ≡ later - base → AreKept cap base n (record { stop = origin; time = time }) rides kept → (sooner : ℕ) →
+    IsBaseTo cap later sooner → AreKept cap sooner n (record { stop = origin; time = cut sooner cap later }) rides kept
+kept_rebased n ok base cap origin time later rides kept early within before short is states sooner at k x few here =
+    let below : sooner ≤ base = elim at.live [
+      | inl none ↦ omega arith
+      | inr some ↦ let high = short some.1 in
+          omega (arith, some.0, high)
+    ] in
+    let near : later < sooner + cap = elim at.near [ inl never ↦ omega arith | inr l ↦ l ] in
+    let live : (0 < time) ⊎ (base ≡ 0) = elim before [ inl none ↦ inr none | inr l ↦ inl (omega arith) ] in
+    let live' : (0 < cut sooner cap later) ⊎ (sooner ≡ 0) =
+    elim at.live [ inl none ↦ inr none | inr l ↦ inl (omega (arith, l.0)) ] in
+    rebased n ok cap origin later base time sooner (cut sooner cap later) (omega arith) live (omega (
+      arith,
+      near,
+      below,
+    )) live' below k x.ride.items x.ready.items (states k x few here)

@@ -1,0 +1,395 @@
+use Rattle.std.proofs.Common.{rules, ◌≡◌, ◌<◌, ◌≤◌, ◌+◌, inl, inr, ℕ, List, Bool, length, slice_index, slice_get}
+use Rattle.std.proofs.Common.{get_or}
+use Rattle.std.proofs.Common.{ap, refl, sym, ◌∙◌, arith}
+use Rattle.std.proofs.lemmas.Bool.{cases_lt}
+use Rattle.std.proofs.lemmas.Option.{same_Some, slice_get-get_or}
+use Rattle.timetable.specs.Footpaths.{FeetData}
+use Rattle.timetable.specs.Networks.{Net}
+use Rattle.timetable.specs.Journeys.{Whereabouts}
+use Rattle.timetable.specs.declared.least.TheConstants.{NEVER}
+use Rattle.timetable.proofs.ListsAddedTo.{set_same, set_other}
+use Rattle.trip_lanes.specs.Cut.{cut}
+use Rattle.trip_lanes.specs.Lane.{lane, labels_in}
+use Rattle.trip_lanes.proofs.TripInOneLane.{lane_falls}
+use Rattle.trip_lanes.proofs.UnmarkedStops.{unmarked_still}
+use Rattle.rounds.specs.declared.bounded.Kept.{Kept}
+use Rattle.rounds.specs.Batches.{start_at, bounds_in}
+use Rattle.rounds.specs.Cut.{cut_net}
+use Rattle.rounds.specs.CappedLabels.{LaneStateTo}
+use Rattle.rounds.specs.Rounds.{IsSettled}
+use Rattle.rounds.proofs.BoundedStops.{none_noted, kept_long, written, written_long}
+use Rattle.rounds.proofs.CutNetworks.{cut_net_is_net}
+use Rattle.rounds.proofs.LabelTables.{fits_after}
+use Rattle.rounds.proofs.LabelStates.{bounded_next}
+use Rattle.rounds.proofs.LaneRounds.{round_settled, round_walks}
+use Rattle.rounds.proofs.bounded.ride_once.Goals as goal
+
+-- what the labels of a lane say, of lists by other names
+state_of : {never k : ℕ} {n : Net} {o : Whereabouts} {R : Type 0} {ride ready new_ride new_ready : List R} (l : ℕ)
+    (labels : R → List ℕ) → new_ride ≡ ride → new_ready ≡ ready →
+    LaneStateTo never n o k (lane l (labels_in labels ride)) (lane l (labels_in labels ready)) →
+    LaneStateTo never n o k (lane l (labels_in labels new_ride)) (lane l (labels_in labels new_ready))
+state_of l labels e f s = rw (e, f) s
+
+settled_of : {never k : ℕ} {n : Net} {o : Whereabouts} {R : Type 0}
+    {ride ready before new_ride new_ready new_before : List R} {fallen new_fallen : List Bool} (l : ℕ)
+    (labels : R → List ℕ) → new_ride ≡ ride → new_ready ≡ ready → new_before ≡ before → new_fallen ≡ fallen →
+    IsSettled never n o k (lane l (labels_in labels ride)) (lane l (labels_in labels ready))
+    (lane l (labels_in labels before)) fallen →
+    IsSettled never n o k (lane l (labels_in labels new_ride)) (lane l (labels_in labels new_ready))
+    (lane l (labels_in labels new_before)) new_fallen
+settled_of l labels e f i j s = rw (e, f, i, j) s
+
+pub lower_to-requires-clause-same : goal.lower_to-requires-clause-same
+lower_to-requires-clause-same g c =
+    let never = g.R.LaneLabels.NEVER in
+    let base = c.args.batch.base in
+    let n = c.args.query.network.now in
+    let later = start_at c.args.query (cut base never c.args.batch.later) in
+    let k = c.args.rides in
+    let was = c.args.kept.now in
+    let x = get_or was (k + 1) c.index-kept-rides.result in
+    let long = kept_long base never (k + 1) n later x
+    (c.requires.kept.bounds (k + 1) x (omega arith) (omega arith)
+    (slice_get-get_or was (k + 1) c.index-kept-rides.result (omega (arith, c.requires.kept.many)))) in
+    omega (
+      arith,
+      long.0,
+      ap length c.as_slice.ensures.value,
+      (ap length c.as_mut_slice-ride.ensures.value ∙ c.requires.workspace.ride),
+    )
+
+pub lower_to-requires-clause-fits : goal.lower_to-requires-clause-fits
+lower_to-requires-clause-fits g c l p h =
+    (state_of l g.R.LaneLabels.labels c.as_mut_slice-ride.ensures.value c.as_mut_slice-ready.ensures.value
+    (c.requires.labels.states l h)).ride_fits p
+
+pub scan_lines-requires-clause-fits : goal.scan_lines-requires-clause-fits
+scan_lines-requires-clause-fits g c l p h =
+    let rows = labels_in g.R.LaneLabels.labels in
+    fits_after g.R.LaneLabels.NEVER (lane l (rows c.as_mut_slice-ride.result.now)) (lane l (rows c.lower_to.new.labels))
+    (state_of l g.R.LaneLabels.labels c.as_mut_slice-ride.ensures.value c.as_mut_slice-ready.ensures.value
+    (c.requires.labels.states l h)).ride_fits (c.lower_to.ensures l h) p
+
+pub scan_lines-requires-clause-before : goal.scan_lines-requires-clause-before
+scan_lines-requires-clause-before g c l h =
+    let rows = labels_in g.R.LaneLabels.labels in
+    let x = get_or c.args.kept.now (c.args.rides + 1) c.index-kept-rides.result in
+    let bound = c.requires.kept.bounds (c.args.rides + 1) x (omega arith) (omega arith)
+    (slice_get-get_or c.args.kept.now (c.args.rides + 1) c.index-kept-rides.result (omega (
+      arith,
+      c.requires.kept.many,
+    ))) in
+    let settled = settled_of l g.R.LaneLabels.labels c.as_mut_slice-ride.ensures.value
+    c.as_mut_slice-ready.ensures.value c.as_mut_slice-before.ensures.value c.as_mut_slice-fallen.ensures.value
+    (c.requires.labels.settled l h) in
+    record {
+      before = settled.was;
+      fell = c.falls_of.ensures.falls l settled.was h settled.noted;
+      settled = λ p y within o. settled.settled (bounds_in c.args.batch.base g.R.LaneLabels.NEVER x.ride.items)
+          (bounds_in c.args.batch.base g.R.LaneLabels.NEVER x.ready.items) (lane l (rows c.lower_to.new.labels)) o.trip
+          o.t bound (rw c.as_slice.ensures.value at (c.lower_to.ensures l h)) (rw c.trips.ensures at o.runs) p y within
+          o.carries;
+    }
+
+pub bound_ready-requires-clause-bound : goal.bound_ready-requires-clause-bound
+bound_ready-requires-clause-bound g c =
+    let never = g.R.LaneLabels.NEVER in
+    let base = c.args.batch.base in
+    let n = c.args.query.network.now in
+    let later = start_at c.args.query (cut base never c.args.batch.later) in
+    let k = c.args.rides in
+    let was = c.args.kept.now in
+    let x = get_or was (k + 1) c.index-kept-rides.result in
+    let long = kept_long base never (k + 1) n later x
+    (c.requires.kept.bounds (k + 1) x (omega arith) (omega arith)
+    (slice_get-get_or was (k + 1) c.index-kept-rides.result (omega (arith, c.requires.kept.many)))) in
+    omega (
+      arith,
+      long.1,
+      ap length c.as_slice-2.ensures.value,
+      (ap length c.as_mut_slice-ready.ensures.value ∙ c.requires.workspace.ready),
+    )
+
+pub bound_ready-requires-clause-fits : goal.bound_ready-requires-clause-fits
+bound_ready-requires-clause-fits g c l p h =
+    (state_of l g.R.LaneLabels.labels c.as_mut_slice-ride.ensures.value c.as_mut_slice-ready.ensures.value
+    (c.requires.labels.states l h)).ready_fits p
+
+pub transfer_marked-requires-clause-fits : goal.transfer_marked-requires-clause-fits
+transfer_marked-requires-clause-fits g c l p h =
+    let rows = labels_in g.R.LaneLabels.labels in
+    fits_after g.R.LaneLabels.NEVER (lane l (rows c.as_mut_slice-ready.result.now))
+    (lane l (rows c.bound_ready.new.labels))
+    (state_of l g.R.LaneLabels.labels c.as_mut_slice-ride.ensures.value c.as_mut_slice-ready.ensures.value
+    (c.requires.labels.states l h)).ready_fits (c.bound_ready.ensures.lanes l h) p
+
+pub transfer_marked-requires-clause-settled : goal.transfer_marked-requires-clause-settled
+transfer_marked-requires-clause-settled g c l x h within none =
+    let never = g.R.LaneLabels.NEVER in
+    let base = c.args.batch.base in
+    let rows = labels_in g.R.LaneLabels.labels in
+    let n = c.args.query.network.now in
+    let ok = cut_net_is_net base never n c.known.ensures in
+    let k = c.args.rides in
+    let later = start_at c.args.query (cut base never c.args.batch.later) in
+    let o = start_at c.args.query (slice_index (g.R.LaneLabels.labels c.args.batch.departs) l) in
+    let bound = c.requires.kept.bounds (k + 1) (get_or c.args.kept.now (c.args.rides + 1) c.index-kept-rides.result)
+    (omega arith) (omega arith) (slice_get-get_or c.args.kept.now (c.args.rides + 1) c.index-kept-rides.result
+    (omega (arith, c.requires.kept.many))) in
+    let lowered = rows c.lower_to.new.labels in
+    let ridden = rows c.scan_lines.new.ride in
+    let there : x < n.stops = omega (
+      arith,
+      within,
+      ap (λ (f : FeetData). length f.walks) c.feet.ensures,
+      c.known.ensures.in_range.lists,
+    ) in
+    let falls = lane_falls (lane l lowered) (lane l ridden) (c.scan_lines.ensures.lanes l h) x in
+    let marks_long : length c.fill.new.self ≡ n.stops =
+    c.fill.ensures.len ∙ (ap length c.as_mut_slice-marked.ensures.value ∙ c.requires.workspace.marked) in
+    let still = unmarked_still lowered ridden c.fill.new.self c.scan_lines.new.marked x l c.scan_lines.ensures.marks
+    (omega (arith, there, marks_long)) none h falls in
+    rw c.feet.ensures (round_walks never (cut_net base never n) ok later o k
+    (lane l (rows c.as_mut_slice-ride.result.now))
+    (lane l (rows c.as_mut_slice-ready.result.now)) (lane l lowered) (lane l ridden)
+    (lane l (rows c.bound_ready.new.labels))
+    (bounds_in base never (get_or c.args.kept.now (c.args.rides + 1) c.index-kept-rides.result).ride.items)
+    (bounds_in base never (get_or c.args.kept.now (c.args.rides + 1) c.index-kept-rides.result).ready.items)
+    (state_of l g.R.LaneLabels.labels c.as_mut_slice-ride.ensures.value c.as_mut_slice-ready.ensures.value
+    (c.requires.labels.states l h)) bound (rw c.as_slice.ensures.value at (c.lower_to.ensures l h))
+    (rw c.as_slice-2.ensures.value at (c.bound_ready.ensures.lanes l h)) x there still)
+
+pub keep_both-requires-clause-ride : goal.keep_both-requires-clause-ride
+keep_both-requires-clause-ride g c =
+    let never = g.R.LaneLabels.NEVER in
+    let base = c.args.batch.base in
+    let n = c.args.query.network.now in
+    let later = start_at c.args.query (cut base never c.args.batch.later) in
+    let k = c.args.rides in
+    let was = c.args.kept.now in
+    let x = get_or was (k + 1) c.index-kept-rides.result in
+    let long = kept_long base never (k + 1) n later x
+    (c.requires.kept.bounds (k + 1) x (omega arith) (omega arith)
+    (slice_get-get_or was (k + 1) c.index-kept-rides.result (omega (arith, c.requires.kept.many)))) in
+    omega (
+      arith,
+      long.0,
+      ap (λ (y : Kept). length y.ride.items) c.index-kept-rides.is,
+      c.lower_to.auto.labels,
+      c.scan_lines.auto.ride,
+      (ap length c.as_mut_slice-ride.ensures.value ∙ c.requires.workspace.ride),
+    )
+
+pub keep_both-requires-clause-ready : goal.keep_both-requires-clause-ready
+keep_both-requires-clause-ready g c =
+    let never = g.R.LaneLabels.NEVER in
+    let base = c.args.batch.base in
+    let n = c.args.query.network.now in
+    let later = start_at c.args.query (cut base never c.args.batch.later) in
+    let k = c.args.rides in
+    let was = c.args.kept.now in
+    let x = get_or was (k + 1) c.index-kept-rides.result in
+    let long = kept_long base never (k + 1) n later x
+    (c.requires.kept.bounds (k + 1) x (omega arith) (omega arith)
+    (slice_get-get_or was (k + 1) c.index-kept-rides.result (omega (arith, c.requires.kept.many)))) in
+    omega (
+      arith,
+      long.1,
+      ap (λ (y : Kept). length y.ready.items) c.index-kept-rides.is,
+      c.bound_ready.auto.labels,
+      c.transfer_marked.auto.ready,
+      (ap length c.as_mut_slice-ready.ensures.value ∙ c.requires.workspace.ready),
+    )
+
+pub keep_both-requires-clause-ride_fits : goal.keep_both-requires-clause-ride_fits
+keep_both-requires-clause-ride_fits g c p =
+    let never = g.R.LaneLabels.NEVER in
+    let rows = labels_in g.R.LaneLabels.labels in
+    let some : 0 < g.R.LaneLabels.LANES = omega (arith, g.met.R.LaneLabels.some) in
+    fits_after never (lane 0 (rows c.lower_to.new.labels)) (lane 0 (rows c.scan_lines.new.ride))
+    (fits_after never (lane 0 (rows c.as_mut_slice-ride.result.now)) (lane 0 (rows c.lower_to.new.labels))
+    (state_of 0 g.R.LaneLabels.labels c.as_mut_slice-ride.ensures.value c.as_mut_slice-ready.ensures.value
+    (c.requires.labels.states 0 some)).ride_fits (c.lower_to.ensures 0 some))
+    (c.scan_lines.ensures.lanes 0 some) p
+
+pub keep_both-requires-clause-ready_fits : goal.keep_both-requires-clause-ready_fits
+keep_both-requires-clause-ready_fits g c p =
+    let never = g.R.LaneLabels.NEVER in
+    let rows = labels_in g.R.LaneLabels.labels in
+    let some : 0 < g.R.LaneLabels.LANES = omega (arith, g.met.R.LaneLabels.some) in
+    fits_after never (lane 0 (rows c.bound_ready.new.labels)) (lane 0 (rows c.transfer_marked.new.ready))
+    (fits_after never (lane 0 (rows c.as_mut_slice-ready.result.now)) (lane 0 (rows c.bound_ready.new.labels))
+    (state_of 0 g.R.LaneLabels.labels c.as_mut_slice-ride.ensures.value c.as_mut_slice-ready.ensures.value
+    (c.requires.labels.states 0 some)).ready_fits (c.bound_ready.ensures.lanes 0 some))
+    (c.transfer_marked.ensures.lanes 0 some) p
+
+pub returns-clause-workspace : goal.returns-clause-workspace
+returns-clause-workspace g c =
+    let t = c.args.workspace.now in
+    let stops = c.args.query.network.now.stops in
+    let ride : length c.scan_lines.new.ride ≡ stops =
+    c.scan_lines.auto.ride ∙ (c.lower_to.auto.labels
+    ∙ (ap length c.as_mut_slice-ride.ensures.value ∙ c.requires.workspace.ride)) in
+    let ready : length c.transfer_marked.new.ready ≡ stops =
+    c.transfer_marked.auto.ready ∙ (c.bound_ready.auto.labels
+    ∙ (ap length c.as_mut_slice-ready.ensures.value ∙ c.requires.workspace.ready)) in
+    let before : length c.transfer_marked.new.before ≡ stops =
+    c.transfer_marked.auto.before ∙ (ap length c.as_mut_slice-before.ensures.value ∙ c.requires.workspace.before) in
+    let falls : length c.falls_of.new.falls ≡ stops =
+    c.falls_of.auto.falls ∙ (ap length c.as_mut_slice-falls.ensures.value ∙ c.requires.workspace.falls) in
+    let marked : length c.scan_lines.new.marked ≡ stops =
+    c.scan_lines.auto.marked ∙ (c.fill.ensures.len
+    ∙ (ap length c.as_mut_slice-marked.ensures.value ∙ c.requires.workspace.marked)) in
+    let fallen : length c.transfer_marked.new.fallen ≡ stops =
+    c.transfer_marked.auto.fallen ∙ (c.bound_ready.auto.fallen
+    ∙ (ap length c.as_mut_slice-fallen.ensures.value ∙ c.requires.workspace.fallen)) in
+    let lines = length c.args.query.lines.now.lines in
+    let due : length c.scan_lines.new.due ≡ lines =
+    c.scan_lines.ensures.due ∙ (ap length c.as_mut_slice-due.ensures.value ∙ c.requires.workspace.due) in
+    record {
+      ride = written_long t.ride c.scan_lines.new.ride c.requires.workspace.ride
+          c.as_mut_slice-ride.ensures.value c.as_mut_slice-ride.ensures.len ride;
+      ready = written_long t.ready.labels c.transfer_marked.new.ready c.requires.workspace.ready
+          c.as_mut_slice-ready.ensures.value c.as_mut_slice-ready.ensures.len ready;
+      before = written_long t.ready.before c.transfer_marked.new.before c.requires.workspace.before
+          c.as_mut_slice-before.ensures.value c.as_mut_slice-before.ensures.len before;
+      falls = written_long t.falls c.falls_of.new.falls c.requires.workspace.falls
+          c.as_mut_slice-falls.ensures.value c.as_mut_slice-falls.ensures.len falls;
+      marked = written_long t.marked c.scan_lines.new.marked c.requires.workspace.marked
+          c.as_mut_slice-marked.ensures.value c.as_mut_slice-marked.ensures.len marked;
+      fallen = written_long t.ready.fallen c.transfer_marked.new.fallen c.requires.workspace.fallen
+          c.as_mut_slice-fallen.ensures.value c.as_mut_slice-fallen.ensures.len fallen;
+      due = written_long t.due c.scan_lines.new.due c.requires.workspace.due
+          c.as_mut_slice-due.ensures.value c.as_mut_slice-due.ensures.len due;
+    }
+
+pub returns-clause-labels : goal.returns-clause-labels
+returns-clause-labels g c =
+    let t = c.args.workspace.now in
+    let stops = c.args.query.network.now.stops in
+    let ride : length c.scan_lines.new.ride ≡ stops =
+    c.scan_lines.auto.ride ∙ (c.lower_to.auto.labels
+    ∙ (ap length c.as_mut_slice-ride.ensures.value ∙ c.requires.workspace.ride)) in
+    let ready : length c.transfer_marked.new.ready ≡ stops =
+    c.transfer_marked.auto.ready ∙ (c.bound_ready.auto.labels
+    ∙ (ap length c.as_mut_slice-ready.ensures.value ∙ c.requires.workspace.ready)) in
+    let before : length c.transfer_marked.new.before ≡ stops =
+    c.transfer_marked.auto.before ∙ (ap length c.as_mut_slice-before.ensures.value ∙ c.requires.workspace.before) in
+    let falls : length c.falls_of.new.falls ≡ stops =
+    c.falls_of.auto.falls ∙ (ap length c.as_mut_slice-falls.ensures.value ∙ c.requires.workspace.falls) in
+    let marked : length c.scan_lines.new.marked ≡ stops =
+    c.scan_lines.auto.marked ∙ (c.fill.ensures.len
+    ∙ (ap length c.as_mut_slice-marked.ensures.value ∙ c.requires.workspace.marked)) in
+    let fallen : length c.transfer_marked.new.fallen ≡ stops =
+    c.transfer_marked.auto.fallen ∙ (c.bound_ready.auto.fallen
+    ∙ (ap length c.as_mut_slice-fallen.ensures.value ∙ c.requires.workspace.fallen)) in
+    let never = g.R.LaneLabels.NEVER in
+    let base = c.args.batch.base in
+    let rows = labels_in g.R.LaneLabels.labels in
+    let n = c.args.query.network.now in
+    let cn = cut_net base never n in
+    let ok = cut_net_is_net base never n c.known.ensures in
+    let limit : never ≤ NEVER = omega (arith, c.requires.batch.base) in
+    let later = start_at c.args.query (cut base never c.args.batch.later) in
+    let departs = g.R.LaneLabels.labels c.args.batch.departs in
+    let some : 0 < g.R.LaneLabels.LANES = omega (arith, g.met.R.LaneLabels.some) in
+    let k = c.args.rides in
+    let was = c.args.kept.now in
+    let bound = c.requires.kept.bounds (k + 1) (get_or c.args.kept.now (c.args.rides + 1) c.index-kept-rides.result)
+    (omega arith) (omega arith) (slice_get-get_or c.args.kept.now (c.args.rides + 1) c.index-kept-rides.result
+    (omega (arith, c.requires.kept.many))) in
+    let lanes : (l : ℕ) → l < g.R.LaneLabels.LANES →
+    LaneStateTo never cn (start_at c.args.query (slice_index departs l)) (k + 1)
+    (lane l (rows c.scan_lines.new.ride)) (lane l (rows c.transfer_marked.new.ready)) = λ l h.
+    bounded_next never cn ok (start_at c.args.query (slice_index departs l)) later c.requires.asked.origin refl
+    (c.requires.batch.none_later l h) limit k (lane l (rows c.as_mut_slice-ride.result.now))
+    (lane l (rows c.as_mut_slice-ready.result.now))
+    (lane l (rows c.lower_to.new.labels)) (lane l (rows c.scan_lines.new.ride))
+    (lane l (rows c.bound_ready.new.labels)) (lane l (rows c.transfer_marked.new.ready))
+    (bounds_in base never (get_or c.args.kept.now (c.args.rides + 1) c.index-kept-rides.result).ride.items)
+    (bounds_in base never (get_or c.args.kept.now (c.args.rides + 1) c.index-kept-rides.result).ready.items)
+    (state_of l g.R.LaneLabels.labels c.as_mut_slice-ride.ensures.value c.as_mut_slice-ready.ensures.value
+    (c.requires.labels.states l h)) bound (rw c.as_slice.ensures.value at (c.lower_to.ensures l h))
+    (rw c.trips.ensures at (c.scan_lines.ensures.lanes l h))
+    (rw c.as_slice-2.ensures.value at (c.bound_ready.ensures.lanes l h))
+    (rw c.feet.ensures at (c.transfer_marked.ensures.lanes l h)) in
+    let is_ride = written t.ride c.scan_lines.new.ride c.requires.workspace.ride
+    c.as_mut_slice-ride.ensures.value c.as_mut_slice-ride.ensures.len ride in
+    let is_ready = written t.ready.labels c.transfer_marked.new.ready c.requires.workspace.ready
+    c.as_mut_slice-ready.ensures.value c.as_mut_slice-ready.ensures.len ready in
+    let is_before = written t.ready.before c.transfer_marked.new.before c.requires.workspace.before
+    c.as_mut_slice-before.ensures.value c.as_mut_slice-before.ensures.len before in
+    let is_fallen = written t.ready.fallen c.transfer_marked.new.fallen c.requires.workspace.fallen
+    c.as_mut_slice-fallen.ensures.value c.as_mut_slice-fallen.ensures.len fallen in
+    record {
+      states = λ l h. rw (is_ride, is_ready) (lanes l h);
+      settled = λ l h. rw (is_ride, is_ready, is_before, is_fallen) (record {
+        was = lane l (rows c.bound_ready.new.labels);
+        noted = c.transfer_marked.ensures.before l (lane l (rows c.bound_ready.new.labels)) h (none_noted
+            (lane l (rows c.bound_ready.new.labels)) (lane l (rows c.as_mut_slice-before.result.now))
+            c.bound_ready.new.fallen c.bound_ready.ensures.none);
+        settled = λ next next_ready lowered trip t more lower runs.
+            round_settled never cn ok later
+            (start_at c.args.query (slice_index departs l)) k (lane l (rows c.as_mut_slice-ride.result.now))
+            (lane l (rows c.as_mut_slice-ready.result.now)) (lane l (rows c.lower_to.new.labels))
+            (lane l (rows c.scan_lines.new.ride)) (lane l (rows c.bound_ready.new.labels)) lowered
+            (bounds_in base never (get_or was (k + 1) c.index-kept-rides.result).ride.items)
+            (bounds_in base never (get_or was (k + 1) c.index-kept-rides.result).ready.items)
+            next next_ready (state_of l g.R.LaneLabels.labels c.as_mut_slice-ride.ensures.value
+            c.as_mut_slice-ready.ensures.value
+            (c.requires.labels.states l h)) (lanes l h).ride_len bound more
+            (rw c.trips.ensures at (c.scan_lines.ensures.lanes l h))
+            (rw c.as_slice-2.ensures.value at (c.bound_ready.ensures.lanes l h)) lower trip t runs;
+      });
+    }
+
+pub returns-clause-kept : goal.returns-clause-kept
+returns-clause-kept g c =
+    let never = g.R.LaneLabels.NEVER in
+    let base = c.args.batch.base in
+    let rows = labels_in g.R.LaneLabels.labels in
+    let n = c.args.query.network.now in
+    let cn = cut_net base never n in
+    let ok = cut_net_is_net base never n c.known.ensures in
+    let limit : never ≤ NEVER = omega (arith, c.requires.batch.base) in
+    let later = start_at c.args.query (cut base never c.args.batch.later) in
+    let departs = g.R.LaneLabels.labels c.args.batch.departs in
+    let some : 0 < g.R.LaneLabels.LANES = omega (arith, g.met.R.LaneLabels.some) in
+    let k = c.args.rides in
+    let was = c.args.kept.now in
+    let bound = c.requires.kept.bounds (k + 1) (get_or c.args.kept.now (c.args.rides + 1) c.index-kept-rides.result)
+    (omega arith) (omega arith) (slice_get-get_or c.args.kept.now (c.args.rides + 1) c.index-kept-rides.result
+    (omega (arith, c.requires.kept.many))) in
+    let lanes : (l : ℕ) → l < g.R.LaneLabels.LANES →
+    LaneStateTo never cn (start_at c.args.query (slice_index departs l)) (k + 1)
+    (lane l (rows c.scan_lines.new.ride)) (lane l (rows c.transfer_marked.new.ready)) = λ l h.
+    bounded_next never cn ok (start_at c.args.query (slice_index departs l)) later c.requires.asked.origin refl
+    (c.requires.batch.none_later l h) limit k (lane l (rows c.as_mut_slice-ride.result.now))
+    (lane l (rows c.as_mut_slice-ready.result.now))
+    (lane l (rows c.lower_to.new.labels)) (lane l (rows c.scan_lines.new.ride))
+    (lane l (rows c.bound_ready.new.labels)) (lane l (rows c.transfer_marked.new.ready))
+    (bounds_in base never (get_or c.args.kept.now (c.args.rides + 1) c.index-kept-rides.result).ride.items)
+    (bounds_in base never (get_or c.args.kept.now (c.args.rides + 1) c.index-kept-rides.result).ready.items)
+    (state_of l g.R.LaneLabels.labels c.as_mut_slice-ride.ensures.value c.as_mut_slice-ready.ensures.value
+    (c.requires.labels.states l h)) bound (rw c.as_slice.ensures.value at (c.lower_to.ensures l h))
+    (rw c.trips.ensures at (c.scan_lines.ensures.lanes l h))
+    (rw c.as_slice-2.ensures.value at (c.bound_ready.ensures.lanes l h))
+    (rw c.feet.ensures at (c.transfer_marked.ensures.lanes l h)) in
+    record {
+      many = search rules;
+      own = λ keeps j x below here.
+          elim (cases_lt j (k + 1)) [
+            | inl lt ↦ c.requires.kept.own keeps j x (omega arith)
+                (sym (set_other c.args.kept.now (k + 1) j c.keep_both.new.kept (λ e. omega arith)) ∙ here)
+            | inr ge ↦
+                let e : j ≡ k + 1 = omega arith in
+                let here' = rw e at here in
+                let is : c.keep_both.new.kept ≡ x =
+                same_Some _ _ (sym (set_same c.args.kept.now (k + 1) c.keep_both.new.kept (omega arith))
+                ∙ here') in
+                rw (e, ← is, c.keep_both.ensures.ride keeps, c.keep_both.ensures.ready keeps) (lanes 0 some)
+          ];
+      bounds = λ j x more few here. c.requires.kept.bounds j x (omega arith) few
+          (sym (set_other c.args.kept.now (k + 1) j c.keep_both.new.kept (λ e. omega arith)) ∙ here);
+    }

@@ -1,7 +1,0 @@
-use Rattle.std.proofs.Common.{arith}
-use Rattle.trip_lanes.proofs.Select.{smaller_at}
-use Rattle.trip_lanes.proofs.narrow.NarrowRow.lower_of.Goals as goal
-use mir.Syntax.{w16}
-
-pub returns : goal.returns
-returns c l h = smaller_at w16 32 c.args.self c.args.other l h (omega arith) (omega arith)

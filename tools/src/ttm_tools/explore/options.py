@@ -1,0 +1,33 @@
+"""What an exploration begins with."""
+
+import datetime
+from dataclasses import dataclass, field
+
+SHARES = (10, 25, 50, 75, 90)  # percent, between which the page's slider chooses
+OF_NO_OPTION = ("window", "shares", "date", "name", "generated", "most_walk")  # fields that no option has the name of
+
+
+@dataclass(frozen=True)
+class ExploreOptions:
+    """The options of the command, and what is made of them."""
+
+    feed: str  # the folder of an unpacked feed
+    date: datetime.date
+    window: tuple[str, str]  # the first and the last departure at first, HH:MM
+    out: str  # the folder into which a study is saved
+    trips: int = 4  # at first, 1 to 8
+    walk: int = 600  # at first, seconds
+    shares: tuple[int, ...] = SHARES
+    plan: str | None = None
+    opportunities: list[str] = field(default_factory=list)
+    footpaths: str | None = None
+    streets: str | None = None  # a file of OpenStreetMap, along whose streets walks are made
+    grid: float | None = None  # metres, the side of the cells that are made
+    back: int = 1
+    ahead: int = 1
+    title: str | None = None
+    program: str | None = None
+    leaflet: str = "/usr/share/javascript/leaflet"
+    name: str | None = None  # of the feed, where the one that is explored was made of it
+    generated: bool = False  # whether feed and walks are in a folder that goes with the exploration
+    most_walk: int = 1800  # seconds, at the end of the page's slider

@@ -1,0 +1,125 @@
+"""Kinds of values of a TOML file: each says what is allowed and what an error says of any other value, and converts it.
+`Entry.read` checks them, for plans and studies alike.
+"""
+
+import datetime
+import difflib
+import re
+from dataclasses import dataclass
+from decimal import Decimal
+from typing import Any, Callable, Generic, Iterable, TypeVar
+
+Value = TypeVar("Value")
+CLOCK = re.compile(r"([0-9]{1,3}):([0-5][0-9])(?::([0-5][0-9]))?")
+LAST_TIME = 604_799  # 167:59:59, the last time that a feed can state
+
+
+@dataclass(frozen=True)
+class Kind(Generic[Value]):
+    """A kind of value."""
+
+    allowed: str
+    wrong: str  # what an error says of any other value
+    convert: Callable[[Any], Value]  # raises a ValueError for any other value
+    names: tuple[str, ...] = ()  # all that are allowed, of which an error shows the nearest
+    is_shown: bool = True  # whether an error shows the value
+    of_tables: bool = False  # whether it converts the tables of a list
+
+
+def near(name: str, names: Iterable[str]) -> str:
+    """The nearest of some names, as an error shows it; nothing where none is near."""
+    found = difflib.get_close_matches(name, list(names), 1, 0.5)
+    return f"; the nearest is {found[0]!r}" if found else ""
+
+
+def as_written(value: Any) -> str:
+    """A value as its file has it."""
+    if isinstance(value, list):
+        return "[" + ", ".join(repr(item) if isinstance(item, str) else str(item) for item in value) + "]"
+    return str(value)
+
+
+def is_number(value: object) -> bool:
+    return type(value) is int or isinstance(value, Decimal) and value.is_finite()
+
+
+def taken_if(fits: Callable[[Any], bool]) -> Callable[[Any], Any]:
+    """The conversion of values that are used as they are."""
+
+    def convert(value: Any) -> Any:
+        if not fits(value):
+            raise ValueError(value)
+        return value
+
+    return convert
+
+
+def texts_of(value: Any) -> list[str]:
+    """A text, or several."""
+    listed = [value] if isinstance(value, str) else value
+    if not isinstance(listed, list) or not listed or not all(isinstance(item, str) and item for item in listed):
+        raise ValueError(value)
+    return listed
+
+
+def seconds_of(value: Any) -> int:
+    """Seconds after midnight."""
+    match = CLOCK.fullmatch(value.isoformat("seconds") if isinstance(value, datetime.time) else str(value))
+    seconds = 0 if match is None else sum(int(part or 0) * of for part, of in zip(match.groups(), (3600, 60, 1)))
+    if match is None or seconds > LAST_TIME:
+        raise ValueError(value)
+    return seconds
+
+
+def whole(least: int, most: int, unit: str = "") -> Kind[int]:
+    allowed = f"a whole number from {least:,} to {most:,} {unit}".rstrip()
+    return Kind(allowed, "isn't one", taken_if(lambda value: type(value) is int and least <= value <= most))
+
+
+def wholes(count: int, most: int) -> Kind[list[int]]:
+    """This many whole numbers from 0 on."""
+    allowed = f"{count} whole numbers between brackets, 0 to {most:,}"
+    one = whole(0, most).convert
+    return Kind(allowed, "isn't that", taken_if(lambda value: type(value) is list and len([*map(one, value)]) == count))
+
+
+def number(least: float, most: float, unit: str = "") -> Kind[float]:
+    allowed = f"a number from {least:g} to {most:,.10g} {unit}".rstrip()
+    convert = taken_if(lambda value: is_number(value) and least <= value <= most)
+    return Kind(allowed, "isn't one", lambda value: float(convert(value)))
+
+
+def decimal(least: str, most: str) -> Kind[Decimal]:
+    """A number with at most six decimals."""
+    allowed, low, high = f"a number from {least} to {most}, of at most six decimals", Decimal(least), Decimal(most)
+    convert = taken_if(lambda value: is_number(value) and low <= value <= high and value == round(value, 6))
+    return Kind(allowed, "isn't one", lambda value: Decimal(convert(value)))
+
+
+def ascending(least: float, most: float, unit: str, is_whole: bool = True, count: int = 8) -> Kind[tuple[float, ...]]:
+    """One to this many numbers of a range, each greater than the one before it."""
+    allowed = f"1 to {count} {'whole ' * is_whole}numbers between brackets, {least:g} to {most:,.10g} {unit}, ascending"
+    one: Kind[int] | Kind[float] = whole(int(least), int(most)) if is_whole else number(least, most)
+
+    def convert(value: Any) -> tuple[float, ...]:
+        listed = value if isinstance(value, list) else [value]
+        numbers = tuple(map(one.convert, listed))
+        if not 1 <= len(numbers) <= count or any(low >= high for low, high in zip(listed, listed[1:])):
+            raise ValueError(value)
+        return numbers
+
+    return Kind(allowed, "isn't that", convert)
+
+
+def one_of(*names: str) -> Kind[str]:
+    listed = ", ".join(f'"{name}"' for name in names)
+    return Kind(f"one of {listed}", f"isn't one of {listed}", taken_if(lambda value: value in names), names)
+
+
+TEXT: Kind[str] = Kind("a text between quotes", "is no text", taken_if(lambda value: isinstance(value, str)))
+NAME: Kind[str] = Kind(
+    "a text between quotes", "is no text", taken_if(lambda value: isinstance(value, str) and value != "")
+)
+TEXTS = Kind('"one" or ["one", "other"]', "is no text and no list of texts", texts_of, is_shown=False)
+FLAG: Kind[bool] = Kind("true or false", "isn't one", taken_if(lambda value: isinstance(value, bool)))
+TIME = Kind("HH:MM or HH:MM:SS, from 00:00 to 167:59:59", "is no time", seconds_of)

@@ -1,0 +1,151 @@
+"""A TOML file as tables whose values know their lines, so an error names the line, what is allowed, and the nearest
+right name.
+"""
+
+import re
+from dataclasses import dataclass, field
+from typing import Any, Iterable, Iterator, Sequence
+
+from ..faults import BadInput
+from .kinds import NAME, TEXT, TEXTS, Kind, Value, as_written, near
+from .texts import read_toml
+
+TOKENS = re.compile(
+    r'"""(?:\\.|[^\\])*?"""|\'\'\'.*?\'\'\'|"(?:\\.|[^"\\\n])*"|\'[^\'\n]*\'|#[^\n]*|[\[\]{}\n]|[^\[\]{}\n#"\']+',
+    re.DOTALL,
+)
+
+
+@dataclass
+class LineNumbers:
+    """On which line a table begins, its keys stand, and the tables in it begin, those of a list one after another."""
+
+    line: int
+    keys: dict[str, int] = field(default_factory=dict)
+    tables: dict[str, list["LineNumbers"]] = field(default_factory=dict)
+
+    def inner(self, key: str, number: int = 0) -> "LineNumbers":
+        """A table in this one; one within a statement stands on the line of its key."""
+        found = self.tables.get(key, [])
+        return found[number] if number < len(found) else LineNumbers(self.keys.get(key, self.line))
+
+
+@dataclass(frozen=True)
+class Entry:
+    """A table: what it says, and on which lines."""
+
+    path: str
+    values: dict[str, Any]
+    lines: LineNumbers
+
+    def fault(
+        self, what: str, key: str | None = None, value: str | None = None, allowed: str | None = None
+    ) -> BadInput:
+        """What is wrong with a value, or with the whole table."""
+        line = self.lines.line if key is None else self.lines.keys.get(key, self.lines.line)
+        return BadInput(f"{self.path}: line {line}", what, column=key, value=value, allowed=allowed)
+
+    def only(self, keys: Sequence[str]) -> None:
+        """Refuses a key that isn't one of these."""
+        for key in self.values:
+            if key not in keys:
+                raise self.fault(f"isn't known{near(key, keys)}", key, allowed=", ".join(keys))
+
+    def has(self, key: str) -> bool:
+        return key in self.values
+
+    def one_of(self, *keys: str) -> str:
+        """Which one of some keys is there."""
+        found = [key for key in keys if key in self.values]
+        if not found:
+            raise self.fault("needed", " or ".join(keys))
+        if len(found) > 1:
+            raise self.fault(f"is there together with {found[0]}", found[1], allowed=f"one of {', '.join(keys)}")
+        return found[0]
+
+    def get(self, key: str) -> Any:
+        if key not in self.values:
+            raise self.fault("needed", key)
+        return self.values[key]
+
+    def read(self, key: str, kind: Kind[Value], default: Value | None = None) -> Value:
+        """A value of a kind, which is needed where there is no default."""
+        value = self.get(key) if default is None else self.values.get(key, default)
+        try:
+            return kind.convert(self.inner(key) if kind.of_tables else value)
+        except ValueError:
+            what = f"{kind.wrong}{near(str(value), kind.names)}"
+            shown, allowed = as_written(value) if kind.is_shown else None, None if kind.names else kind.allowed
+            raise self.fault(what, key, shown, allowed) from None
+
+    def text(self, key: str, default: str | None = None) -> str:
+        """A text, which isn't empty where the default isn't."""
+        return self.read(key, TEXT if default == "" else NAME, default)
+
+    def texts(self, key: str) -> list[str]:
+        return self.read(key, TEXTS)
+
+    def table(self, key: str) -> "Entry":
+        """A table in this one."""
+        if not isinstance(self.get(key), dict):
+            raise self.fault("is no table", key, allowed=f"[{key}] with its fields in the lines below")
+        return Entry(self.path, self.values[key], self.lines.inner(key))
+
+    def inner(self, key: str) -> list["Entry"]:
+        """The tables of a list."""
+        value = self.get(key)
+        if not isinstance(value, list) or not value or not all(isinstance(item, dict) for item in value):
+            raise self.fault("is no list of tables", key, allowed="[{ .. }, { .. }]")
+        return [Entry(self.path, item, self.lines.inner(key, number)) for number, item in enumerate(value)]
+
+    def known(self, key: str, value: str, names: Iterable[str], what: str) -> None:
+        """Refuses a value that isn't one of some names."""
+        if value not in names:
+            raise self.fault(f"{what}{near(value, names)}", key, value)
+
+
+def statements(text: str) -> Iterator[tuple[int, str]]:
+    """The statements of a TOML file, each with the line on which it begins."""
+    line, begin, depth, statement = 1, 1, 0, ""
+    for token in TOKENS.findall(text):
+        depth += (token in ("[", "{")) - (token in ("]", "}"))
+        if token == "\n" and depth == 0:
+            if statement.strip():
+                yield begin, statement.strip()
+            begin, statement = line + 1, ""
+        elif not token.startswith("#"):
+            statement += token
+        line += token.count("\n")
+    if statement.strip():
+        yield begin, statement.strip()
+
+
+def key_of(statement: str) -> str:
+    return statement.split("=", 1)[0].split(".", 1)[0].strip().strip("\"'")
+
+
+def lines_of(text: str) -> LineNumbers:
+    """The lines of a file."""
+    whole = LineNumbers(1)
+    table = whole
+    for line, statement in statements(text):
+        if not statement.startswith("["):
+            table.keys.setdefault(key_of(statement), line)
+            continue
+        table = whole
+        *outer, name = statement.strip("[] \t").replace(" ", "").split(".")
+        for key in outer:
+            table.keys.setdefault(key, line)
+            table = table.tables.setdefault(key, [LineNumbers(line)])[-1]
+        table.keys.setdefault(name, line)
+        inner = table.tables.setdefault(name, [])
+        if statement.startswith("[[") or not inner:
+            inner.append(LineNumbers(line))
+        table = inner[-1]
+    return whole
+
+
+def read_entry(path: str) -> tuple[str, Entry]:
+    """The text of a file, and all of it as a table."""
+    text, values = read_toml(path)
+    return text, Entry(path, values, lines_of(text))

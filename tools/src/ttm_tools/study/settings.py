@@ -1,0 +1,276 @@
+"""What a study's file says: a dataclass for each of its tables, whose fields say what is allowed, and what holds where
+they are left out.
+"""
+
+from dataclasses import dataclass, field
+from pathlib import Path
+from typing import Any
+
+from ..opening.kinds import FLAG, TEXT, ascending, number, whole
+from .kinds import BOX, DATE, DATES, FILE, FILES, MINUTE, TEXTS, WINDOWS, Window, setting
+from .result_settings import ResultSettings
+
+
+@dataclass(frozen=True)
+class About:
+    """Titles of the report, the maps and the page."""
+
+    title: str = setting(TEXT, "the report's title; without it, the name of this file", '"Without route 13"', "")
+    question: str = setting(TEXT, "the study's question, a sentence or more", '"Who loses jobs if route 13 goes?"', "")
+    note: str = setting(TEXT, "what else a reader needs to know", '"Jobs are those of the map of 2025."', "")
+
+
+@dataclass(frozen=True)
+class FeedSettings:
+    """The timetable."""
+
+    files: tuple[str, ...] = setting(FILES, "published feeds, zip files or folders; several are merged", '["feed.zip"]')
+    ready: bool = setting(
+        FLAG, "the feed is one folder that ttm reads, not checked but for trips on the date", "true", False
+    )
+    repair: bool = setting(FLAG, "repair errors by the rules of ttm-tools prepare; false refuses them", "false", True)
+    allow_loss: bool = setting(
+        FLAG, "continue if a repair removes much of a file, or if no trip runs on the date", "true", False
+    )
+    same_clock: bool = setting(FLAG, "merge feeds of several time zones", "true", False)
+    box: tuple[float, float, float, float] | None = setting(
+        BOX, "stops inside are kept; without it, all", "[7.5, 47.4, 7.8, 47.7]", None
+    )
+    area: str | None = setting(FILE, "GeoJSON polygons: stops inside are kept", '"region.geojson"', None)
+    routes: tuple[str, ...] = setting(TEXTS, "identifiers of the routes to keep; without it, all", '["L1"]', ())
+    agencies: tuple[str, ...] = setting(
+        TEXTS, "identifiers of the agencies whose routes to keep; without it, all", '["city"]', ()
+    )
+    only_days: bool = setting(FLAG, "keep only trips of services that run on the days of the study", "true", False)
+
+
+@dataclass(frozen=True)
+class RunSettings:
+    """The arguments of ttm: docs/reference/options.md."""
+
+    date: str = setting(DATE, "the day of the departures", "2026-05-04", instead="dates")
+    first: str = setting(MINUTE, "the first departure of the window", '"07:30"', instead="windows")
+    last: str = setting(MINUTE, "the last departure: there is one each minute", '"08:29"', instead="windows")
+    dates: tuple[str, ...] = setting(
+        DATES, "several days, instead of date: a matrix for each", "[2026-05-04, 2026-05-09]", ()
+    )
+    windows: tuple[Window, ...] = setting(
+        WINDOWS,
+        "several windows, instead of from and to: a matrix for each",
+        '[{ name = "peak", from = "07:00", to = "08:59" }]',
+        (),
+    )
+    trips: int = setting(whole(1, 8), "the maximum number of vehicles of a journey", "4", 4)
+    walk: int = setting(whole(0, 7200, "seconds"), "the longest walk; 0 for none", "600", 600)
+    shares: tuple[int, ...] = setting(
+        ascending(1, 100, "percent"), "the percentiles of the travel times", "[25, 50, 75]", (50,)
+    )
+    limits: tuple[int, ...] = setting(
+        ascending(0, 4294967295, "seconds"), "limits within which access counts", "[1800]", (1800,)
+    )
+    cutoffs: tuple[float, ...] | None = setting(
+        ascending(0, 10000, "minutes", False), "the same in minutes, instead of limits", "[30]", None
+    )
+    origins: str | None = setting(
+        FILE,
+        "a file with the column stop_id: where journeys begin; without it, all stops, or points",
+        '"few.csv"',
+        None,
+    )
+    back: int = setting(whole(0, 6, "days"), "service days before the date that count", "1", 1)
+    ahead: int = setting(whole(0, 6, "days"), "service days after the date that count", "1", 1)
+    tries: int = setting(whole(1, 8), "how many times a row is attempted", "1", 1)
+
+
+@dataclass(frozen=True)
+class WalkSettings:
+    """Walks between stops, and to points."""
+
+    none: bool = setting(FLAG, "only the walks of the feed's transfers", "true", False)
+    limit: int | None = setting(whole(1, 7200, "seconds"), "the longest walk; without it, walk of [run]", "600", None)
+    speed: float = setting(number(0.01, 100, "m/s"), "the walking speed", "1.33", 1.33)
+    detour: float = setting(number(1, 100), "length of a walk, as a multiple of the straight line", "1.3", 1.3)
+    streets: str | None = setting(
+        FILE, "a file of OpenStreetMap: walks along its ways; without it, straight lines", '"town.osm.pbf"', None
+    )
+    near: float = setting(number(0, 10000, "metres"), "the greatest distance of a stop from a way", "100", 100.0)
+    table: str | None = setting(
+        FILE, "walks of your own: from_stop_id, to_stop_id, seconds; decimals are rounded up", '"walks.csv"', None
+    )
+
+
+@dataclass(frozen=True)
+class PointSettings:
+    """Points such as cells, homes or schools, instead of stops: docs/howto/points.md."""
+
+    files: tuple[str, ...] = setting(FILES, "points at which journeys begin and end", '["cells.csv"]', ())
+    origins: tuple[str, ...] = setting(FILES, "points at which journeys only begin", '["homes.csv"]', ())
+    destinations: tuple[str, ...] = setting(FILES, "points at which journeys only end", '["schools.csv"]', ())
+    leave_out: bool = setting(FLAG, "leave out points without a stop in reach", "true", False)
+    grid: float | None = setting(
+        number(10, 100000, "metres"),
+        "the width of square cells, the points at those ends of journeys that no file names; without it, none",
+        "250",
+        None,
+    )
+    grid_area: str | None = setting(
+        FILE,
+        "polygons over which the cells lie; without it, wherever a stop is within a walk",
+        '"region.geojson"',
+        None,
+    )
+    grid_people: tuple[str, ...] = setting(
+        FILES, "points or polygons whose numbers are summed into the cells", '["addresses.csv"]', ()
+    )
+
+    @property
+    def are_any(self) -> bool:
+        """Whether journeys begin and end at points."""
+        return bool(self.all) or self.grid is not None
+
+    @property
+    def all(self) -> tuple[str, ...]:
+        """All files, each once."""
+        return tuple(dict.fromkeys([*self.files, *self.origins, *self.destinations]))
+
+
+@dataclass(frozen=True)
+class OpportunitySettings:
+    """What travellers reach."""
+
+    files: tuple[str, ...] = setting(
+        FILES,
+        "tables with stop_id (or id) and columns of numbers; points have theirs in their files",
+        '["jobs.csv"]',
+        (),
+    )
+    columns: tuple[str, ...] = setting(
+        TEXTS, "the columns that are counted in tables and page; without it, all", '["jobs", "schools"]', ()
+    )
+    column: str | None = setting(
+        TEXT, "the column that ttm counts as access; without it, the only one, else 1 for each stop", '"jobs"', None
+    )
+    people: str | None = setting(
+        FILE, "a table with stop_id (or id) and numbers of residents by origin, for equity", '"people.csv"', None
+    )
+    groups: tuple[str, ...] = setting(TEXTS, "the columns of people that count; without it, all", '["residents"]', ())
+
+
+@dataclass(frozen=True)
+class ScenarioSettings:
+    """What is compared with the feed as it is: scenario files of ttm, or a plan of ttm-tools scenarios."""
+
+    files: tuple[str, ...] = setting(FILES, "scenario files, named as their scenarios", '["no13.csv"]', ())
+    plan: str | None = setting(FILE, "a plan of new lines, headways and speeds", '"plan.toml"', None)
+
+
+@dataclass(frozen=True)
+class PartSettings:
+    """How the run is cut into parts. The results are the same."""
+
+    count: int | None = setting(whole(1, 9999), "the number of parts; without it, by minutes and memory", "40", None)
+    minutes: float = setting(number(0.1, 10000, "minutes"), "the approximate processor time of a part", "5", 5.0)
+    memory: int | None = setting(
+        whole(64, 10_000_000, "MB"),
+        "memory of all parts that run at once; without it, most of what is free",
+        "6000",
+        None,
+    )
+    keep: bool = setting(FLAG, "keep the parts' matrices after joining", "true", False)
+
+
+@dataclass(frozen=True)
+class Question:
+    """A window of a day, which has a matrix of its own."""
+
+    date: str  # YYYYMMDD
+    window: Window
+
+    @property
+    def name(self) -> str:
+        """What its files are called."""
+        return f"{self.date}_{self.window.name}"
+
+    @property
+    def day(self) -> str:
+        """The day as people write it."""
+        return f"{self.date[:4]}-{self.date[4:6]}-{self.date[6:]}"
+
+    @property
+    def label(self) -> str:
+        return f"{self.day}, {self.window.name} ({self.window.first} to {self.window.last})"
+
+
+@dataclass(frozen=True)
+class Study:
+    """All that a study's file says, and where it lies: paths are from its folder on."""
+
+    path: Path
+    about: About
+    feed: FeedSettings
+    run: RunSettings
+    walks: WalkSettings = field(default_factory=WalkSettings)
+    points: PointSettings = field(default_factory=PointSettings)
+    opportunities: OpportunitySettings = field(default_factory=OpportunitySettings)
+    scenarios: ScenarioSettings = field(default_factory=ScenarioSettings)
+    results: ResultSettings = field(default_factory=ResultSettings)
+    parts: PartSettings = field(default_factory=PartSettings)
+
+    text: str = field(default="", compare=False)  # of its file
+    generated: tuple[str, ...] = ()  # files that it makes itself, by their paths in its folder
+
+    def at(self, path: str) -> str:
+        """A path of the file, as it is opened."""
+        return path if path in self.generated else str(self.path.parent / path)
+
+    @property
+    def counts_people(self) -> bool:
+        """Whether it says who lives where: in a file, or in the cells of its grid."""
+        return bool(self.opportunities.people or self.points.grid and self.opportunities.groups)
+
+    @property
+    def title(self) -> str:
+        return self.about.title or self.path.stem
+
+    @property
+    def questions(self) -> list[Question]:
+        """The windows of all days, where several are named; the first one's matrix is that of maps and page."""
+        run = self.run
+        if not run.dates and not run.windows:
+            return []
+        windows = run.windows or (Window(f"{run.first}-{run.last}".replace(":", ""), run.first, run.last),)
+        return [Question(date, window) for date in run.dates or (run.date,) for window in windows]
+
+    @property
+    def share(self) -> int:
+        """The share of tables and maps."""
+        return self.results.share or (50 if 50 in self.run.shares else self.run.shares[0])
+
+    @property
+    def within(self) -> int:
+        """The limit of tables and maps, in seconds."""
+        return self.run.limits[-1] if self.results.within is None else self.results.within
+
+    @property
+    def cutoffs(self) -> tuple[float, ...]:
+        """The limits of the table of access, in minutes."""
+        return self.results.cutoffs or tuple(limit / 60 for limit in self.run.limits)
+
+    @property
+    def walk_limit(self) -> int:
+        """The longest walk that is made, in seconds."""
+        return self.walks.limit or max(1, self.run.walk)
+
+
+TABLES: dict[str, type[Any]] = {
+    "feed": FeedSettings,
+    "run": RunSettings,
+    "walks": WalkSettings,
+    "points": PointSettings,
+    "opportunities": OpportunitySettings,
+    "scenarios": ScenarioSettings,
+    "results": ResultSettings,
+    "parts": PartSettings,
+}
+NAMES = {"first": "from", "last": "to"}  # fields whose names are words of Python, as the file has them
+NEEDED = ("feed", "run")

@@ -1,0 +1,71 @@
+"""The streets of a page, along which one walks on from its stops; `assets/streets.js` searches them."""
+
+from dataclasses import dataclass
+from typing import Iterator
+
+import numpy as np
+import numpy.typing as npt
+
+from ...walks import Pace
+from ...walks.osm import read_streets
+from ...walks.reach import Reach, reach_of
+from .parts import Element, part
+from .places import MICRO, PagePlaces, ranks
+
+MOST_NODES = 600_000  # that a page takes, some 6 MB
+ASIDE = 50  # metres to both sides of a street that one reaches, as in isochrones
+NO_NODE = -1
+Numbers = npt.NDArray[np.int32]
+
+
+@dataclass(frozen=True)
+class PageStreets:
+    """Nodes of streets, neighbours together, and one-way connections by the nodes at which they begin."""
+
+    degrees: Numbers  # latitude and longitude of each node in millionths of a degree
+    begin: Numbers  # of each connection, ascending
+    end: Numbers
+    at: Numbers  # of each place of the page the node where it is put, NO_NODE for none
+    beside: npt.NDArray[np.float32]  # of each place the metres to there
+    speed: float  # metres a second
+
+    def parts(self) -> Iterator[Element]:
+        yield part("street-nodes", np.diff(self.degrees, axis=0, prepend=np.zeros((1, 2), np.int32)))
+        yield part("street-counts", np.bincount(self.begin, minlength=len(self.degrees)).astype(np.uint16))
+        yield part("street-ends", self.end - self.begin)
+        yield part("street-at", self.at)
+        yield part("street-beside", self.beside)
+
+
+def page_streets(path: str, places: PagePlaces, columns: Numbers, pace: Pace, near: float) -> PageStreets | None:
+    """The streets within a walk of the columns' places that are drawn as marks; None where there is no such place."""
+    bare = [column for column in columns.tolist() if is_bare(places, column)]
+    if not bare:
+        return None
+    streets = read_streets(path)
+    return within_walks(
+        reach_of(streets, places.latitudes[bare], places.longitudes[bare], pace, near), places, bare, pace
+    )
+
+
+def is_bare(places: PagePlaces, place: int) -> bool:
+    """Whether a place is on the map, and neither a square nor an area."""
+    is_area = places.widths[place] > 0 or places.identifiers[place] in places.areas
+    return not is_area and not np.isnan(places.latitudes[place])
+
+
+def within_walks(reach: Reach, places: PagePlaces, bare: list[int], pace: Pace) -> PageStreets:
+    """The streets that one reaches from some places within the longest walk."""
+    left = reach.left_at_nodes(np.full(len(bare), pace.limit * pace.speed) - reach.beside)
+    walked = left[reach.begin] > 0
+    begin, end = reach.begin[walked], reach.end[walked]
+    nodes = np.unique(np.concatenate([begin, end]))
+    nodes = nodes[np.argsort(ranks(reach.latitudes[nodes], reach.longitudes[nodes]), kind="stable")]
+    number = np.full(len(reach.latitudes), NO_NODE, np.int32)
+    number[nodes] = np.arange(len(nodes))
+    order = np.lexsort((number[end], number[begin]))
+    degrees = np.rint(np.stack([reach.latitudes[nodes], reach.longitudes[nodes]], axis=1) * MICRO)
+    at, beside = np.full(len(places.names), NO_NODE, np.int32), np.zeros(len(places.names), np.float32)
+    at[bare] = number[len(reach.latitudes) - len(bare) :]
+    beside[bare] = reach.beside
+    return PageStreets(degrees.astype(np.int32), number[begin][order], number[end][order], at, beside, pace.speed)

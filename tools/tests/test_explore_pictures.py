@@ -1,0 +1,34 @@
+"""The script that makes the README's film strip of a change, with the real program in a real browser."""
+
+import struct
+from pathlib import Path
+
+import pytest
+
+import feedgen
+from browser import lacking
+
+pytestmark = [pytest.mark.program, pytest.mark.xdist_group("browser")]
+for package in ("selenium", "PIL", "flask", "jinja2", "pandas"):
+    pytest.importorskip(package)
+
+import explore_pictures  # noqa: E402
+
+ROOT = Path(__file__).resolve().parents[2]
+
+
+def test_the_readme_shows_its_pictures_in_their_order() -> None:
+    text = (ROOT / "README.md").read_text()
+    places = [text.index(f"](docs/images/{name})") for name in explore_pictures.NAMES]
+    assert places == sorted(places)
+
+
+def test_each_picture_is_another_one_of_the_whole_window(program: str, tmp_path: Path) -> None:
+    if lacking():
+        pytest.skip(str(lacking()))
+    feedgen.write_feed("town", 1, str(tmp_path))
+    (tmp_path / "out").mkdir()
+    explore_pictures.make(tmp_path, tmp_path / "out", program)
+    found = [(tmp_path / "out" / name).read_bytes() for name in explore_pictures.NAMES]
+    assert [struct.unpack(">II", item[16:24]) for item in found] == [explore_pictures.SIZE] * 3
+    assert len(set(found)) == 3
