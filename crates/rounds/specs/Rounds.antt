@@ -23,8 +23,8 @@ IsKept never base n start k x =
     LaneStateTo never (cut_net base never n) start k (bounds_in base never x.ride.items)
     (bounds_in base never x.ready.items)
 
--- what is kept of up to k rides are the labels of the batch's first departure, if it keeps them, and of more rides those
--- that bound them
+-- what is kept of up to k rides are the labels of the batch's first departure, if it keeps them, and of more rides
+-- those that bound them
 pub record AreKeptAfter {R : Type 0} (never : ℕ) (labels : R → List ℕ) (q : Query) (b : Batch R) (k : ℕ)
     (kept : List Kept) : Type 0 where
   pub many : length kept ≡ q.rides + 1

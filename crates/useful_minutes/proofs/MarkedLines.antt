@@ -1,5 +1,6 @@
 -- The trips of a line that can be boarded first, and the boardings of the line.
-use Rattle.std.proofs.Common.{◌≡◌, ◌≢◌, ℕ, ◌+◌, ◌*◌, ◌<◌, ◌≤◌, ◌⊎◌, ◌++◌, ◌∷◌, [], inl, inr, false, List, Bool, All, IsTrue, length}
+use Rattle.std.proofs.Common.{◌≡◌, ◌≢◌, ℕ, ◌+◌, ◌*◌, ◌<◌, ◌≤◌, ◌⊎◌, ◌++◌, ◌∷◌, [], inl, inr, false, List, Bool}
+use Rattle.std.proofs.Common.{All, IsTrue, length}
 use Rattle.std.proofs.Common.{slice_get, slice_index, get_or, Some, refl, sym, ◌∙◌, ap, subst, arith}
 use Rattle.std.proofs.lemmas.Bool.{cases_lt, false≢true}
 use Rattle.std.proofs.lemmas.Option.{same_Some, slice_get_within, slice_get-get_or, get_or_from_slice_get}
@@ -175,8 +176,8 @@ module _ (n : Net) (origin : ℕ) (walks : List ℕ) (ok : IsNet n) (are : AreWa
             walk = refl;
             some = λ never. omega (arith, never, walks_same, walk, short);
           } in
-          let k = boards.all j (slice_index walks call.0.stop.0) (let l = boarding.rides_on in omega (arith, l)) boarding
-          in
+          let inside : j < length calls = let l = boarding.rides_on in omega (arith, l) in
+          let k = boards.all j (slice_index walks call.0.stop.0) inside boarding in
           let time = view.departure r j c.on is_at in
           let in_time = c.in_time in
           let found = covers r (slice_get_within row r trip here) k.0 j (slice_index walks call.0.stop.0) m

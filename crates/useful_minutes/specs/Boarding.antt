@@ -9,7 +9,7 @@ use Rattle.timetable.specs.Networks.{Net}
 abbrev pub IsNear : Net → ℕ → ℕ → ℕ → Type 0
 IsNear n origin p seconds = ((p ≡ origin) × (seconds ≡ 0)) ⊎ IsFoot n.feet.walks origin p seconds
 
--- who departs at this time can board the trip first at event j, at the origin or after a walk, and it goes on from there
+-- who departs at this time can board the trip first at event j, at the origin or after a walk, and it goes on
 pub record Catches (n : Net) (origin time trip j : ℕ) : Type 0 where
   pub t : Trip
   pub on : Event

@@ -17,11 +17,11 @@ pub record Grows (old new : List Bool) : Type 0 where
   pub same : length new ≡ length old
   pub kept : (m : ℕ) → IsMarked old m → IsMarked new m
 
--- a minute of the window is marked
+-- the minute is marked, if it is one of the window's
 abbrev pub IsNoted : List Bool → ℕ → Type 0
 IsNoted marks m = m < length marks → IsMarked marks m
 
--- the minute before `next`, which is noted, lets a time be reached, as none after it does
+-- the minute before `next` is noted, and who departs in it is in time
 pub record IsLastBefore (first time : ℕ) (marks : List Bool) (next : ℕ) : Type 0 where
   pub minute : ℕ
   pub is : next ≡ minute + 1

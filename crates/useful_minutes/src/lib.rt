@@ -4,8 +4,8 @@
 //!
 //! - `marks`: which minutes are useful.
 //! - `plan`: [`plan_for`], which minutes are searched, and which of them stands in for each minute.
-//! - `waits`: [`fill_in`], the durations of all minutes from those of the searched ones, four at a time by the places of
-//!   `orders`. `walks`: [`walk_alone`], the walks that need no trip.
+//! - `waits`: [`fill_in`], the durations of all minutes from those of the searched ones, four at a time by the places
+//!   of `orders`. `walks`: [`walk_alone`], the walks that need no trip.
 #![tactic(auto)]
 
 mod marks;

@@ -4,8 +4,8 @@ ghost use Rattle.std.specs.Prelude.{OnOk};
 ghost use Rattle.timetable.specs.declared.limits.TheConstants.{END_OF_AXIS, MOST_FOOT_SECONDS};
 ghost use Rattle.timetable.specs.LineViews.{departures_in};
 ghost use Rattle.timetable.specs.Networks.{Net};
-ghost use Rattle.useful_minutes.specs.Marks.{AreBoardings, AreWalks, CoversAll, CoversLine, CoversTrip, Grows, HasWalks};
-ghost use Rattle.useful_minutes.specs.Marks.{IsLastBefore};
+ghost use Rattle.useful_minutes.specs.Marks.{AreBoardings, AreWalks, CoversAll, CoversLine, CoversTrip, Grows};
+ghost use Rattle.useful_minutes.specs.Marks.{HasWalks, IsLastBefore};
 
 use std::alloc::{AllocError, Global};
 use timetable::{Call, CallTimes, Lines, NEVER, Renumbered, StopNo};

@@ -4,10 +4,14 @@ use Rattle.std.proofs.lemmas.Option.{slice_get-get_or}
 use Rattle.timetable.specs.declared.views.Call.{Call}
 use Rattle.useful_minutes.proofs.MarkedLines.{boardings_more, boardings_same, no_boarding}
 use Rattle.useful_minutes.proofs.marks.boardings_of.Goals as goal
-use Rattle.useful_minutes.proofs.marks.boardings_of.Goals.{then-seconds+then-calls-position+then-position-calls+in_ok-push}
+use Rattle.useful_minutes.proofs.marks.boardings_of.Goals.{
+  then-seconds+then-calls-position+then-position-calls+in_ok-push
+}
 use Rattle.useful_minutes.proofs.marks.boardings_of.Goals.{else-seconds, else-seconds-via-else-seconds}
 use Rattle.useful_minutes.proofs.marks.boardings_of.Goals.{else-seconds-via-then-seconds+else-calls-position}
-use Rattle.useful_minutes.proofs.marks.boardings_of.Goals.{else-seconds-via-then-seconds+then-calls-position+else-position-calls}
+use Rattle.useful_minutes.proofs.marks.boardings_of.Goals.{
+  else-seconds-via-then-seconds+then-calls-position+else-position-calls
+}
 
 pub loop-position-preserved : goal.loop-position-preserved
 loop-position-preserved c =
@@ -19,7 +23,8 @@ loop-position-preserved c =
     let here = slice_get-get_or calls n none c.loop-position-test.true in
     let old = c.loop-position.invariant in
     elim c.if-seconds.branch [
-      | then-seconds+then-calls-position+then-position-calls+in_ok-push w ↦ rw (w.boardings-is, w.in_ok-push.ensures.items)
+      | then-seconds+then-calls-position+then-position-calls+in_ok-push w ↦
+          rw (w.boardings-is, w.in_ok-push.ensures.items)
           (boardings_more calls walks n (slice_index walks call.stop.0) c.loop-position.boardings.items (record {
             call = call;
             here = here;
