@@ -5,12 +5,12 @@ use Rattle.timetable.specs.declared.views.Call.{Call}
 use Rattle.useful_minutes.proofs.MarkedLines.{boardings_more, boardings_same, no_boarding}
 use Rattle.useful_minutes.proofs.marks.boardings_of.Goals as goal
 use Rattle.useful_minutes.proofs.marks.boardings_of.Goals.{
-  then-seconds+then-calls-position+then-position-calls+in_ok-push
+  then-seconds+then-calls-position+then-position-calls+in_ok-push,
 }
 use Rattle.useful_minutes.proofs.marks.boardings_of.Goals.{else-seconds, else-seconds-via-else-seconds}
 use Rattle.useful_minutes.proofs.marks.boardings_of.Goals.{else-seconds-via-then-seconds+else-calls-position}
 use Rattle.useful_minutes.proofs.marks.boardings_of.Goals.{
-  else-seconds-via-then-seconds+then-calls-position+else-position-calls
+  else-seconds-via-then-seconds+then-calls-position+else-position-calls,
 }
 
 pub loop-position-preserved : goal.loop-position-preserved

@@ -55,5 +55,5 @@ returns-clause-covers c n origin has =
           line_covers n origin c.args.walks.now has.ok has.walked lines has.lined line v.row calls v.times v.at v.view
           bs c.in_ok-boardings.ensures c.args.first c.if-len-gt0.marks
           (λ r l k j seconds m inside here caught.
-            absurd (omega (arith, inside, w.if-len-gt0.false, c.len.ensures, c.in_ok-boardings.boardings.ok.0)))
+          absurd (omega (arith, inside, w.if-len-gt0.false, c.len.ensures, c.in_ok-boardings.boardings.ok.0)))
     ]
