@@ -327,7 +327,7 @@ def test_links_of_a_ready_feed_do_not_lead_out_of_it(bare: Place) -> None:
     (bare.folder / "published/shapes.txt").symlink_to("../jobs.csv")
     (bare.folder / "made").mkdir()
     with pytest.raises(BadInput, match="leads out of the folder"), contextlib.chdir(bare.folder / "made"):
-        study_inputs.taken(str(bare.folder / "published"))
+        study_inputs.taken(str(bare.folder / "published"), bare.folder / "made")
     assert read_study(path).feed.ready
 
 

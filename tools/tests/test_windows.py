@@ -160,12 +160,12 @@ def test_parts_of_other_windows_are_removed_and_foreign_files_stay(tmp_path: Pat
         for window in ("", "20260504_night", "20260504_gone"):
             parts_for(["A"], 1, "key", window)[0].begin()
         Path("parts/20260504_gone/mine.txt").write_text("mine")
-        remove_windows({"20260504_night"})
+        remove_windows(tmp_path, {"20260504_night"})
         names = {str(path) for path in Path("parts").rglob("*") if path.is_file()}
         assert names == {f"parts/{name}" for name in ("0001/origins.csv", "20260504_night/0001/origins.csv")} | {
             "parts/20260504_gone/mine.txt"
         }
-        remove_parts()
+        remove_parts(tmp_path)
         assert [str(path) for path in Path("parts").rglob("*") if path.is_file()] == ["parts/20260504_gone/mine.txt"]
 
 
@@ -239,7 +239,7 @@ def test_a_part_that_a_network_refuses_is_named_and_the_others_are_kept(
 ) -> None:
     monkeypatch.setenv("TTM_PROGRAM", canned(tmp_path))
     run = Run("feed", "20260504", ("00:05", "00:06"))
-    with standing_in(tmp_path), KeptNetwork(run) as network:
+    with standing_in(tmp_path), KeptNetwork(run, tmp_path) as network:
         os.mkdir("stages")
         parts = parts_for(["A", "fault", "end", "B"], 4, "key")
         failed = network.run_parts(run, parts, Shape(4, 2, 1))
@@ -255,7 +255,7 @@ def test_a_part_that_a_network_refuses_is_named_and_the_others_are_kept(
 def test_the_first_ctrl_c_keeps_the_parts_that_are_asked_for(tmp_path: Path, monkeypatch: pytest.MonkeyPatch) -> None:
     monkeypatch.setenv("TTM_PROGRAM", canned(tmp_path))
     run = Run("feed", "20260504", ("00:05", "00:06"))
-    with standing_in(tmp_path), KeptNetwork(run) as network:
+    with standing_in(tmp_path), KeptNetwork(run, tmp_path) as network:
         os.mkdir("stages")
         parts = parts_for(["slow", "B"], 2, "key")
         kept = network.ask

@@ -11,9 +11,9 @@ import subprocess
 import threading
 from collections import deque
 from dataclasses import dataclass
-from typing import IO, Sequence
+from typing import IO, Any, Sequence
 
-from .engine import EngineFault, refusal_of
+from .engine import EngineFault, Pathlike, refusal_of
 from .faults import WrongWords
 
 HEAD = re.compile(rb"answer ([0-9]{1,3}) ([0-9]{1,18})\n")
@@ -43,11 +43,12 @@ class Conversation:
     then it is of no more use.
     """
 
-    def __init__(self, arguments: Sequence[str]) -> None:
+    def __init__(self, arguments: Sequence[str], folder: Pathlike | None = None) -> None:
         self.owner = os.getpid()
         pipe = subprocess.PIPE
         # a session of its own, so that Ctrl-C reaches this process alone, which decides what becomes of the question
-        self.process = subprocess.Popen(arguments, stdin=pipe, stdout=pipe, stderr=pipe, start_new_session=True)
+        how: dict[str, Any] = {"cwd": folder, "start_new_session": True}
+        self.process = subprocess.Popen(arguments, stdin=pipe, stdout=pipe, stderr=pipe, **how)
         self.lines: deque[bytes] = deque(maxlen=LAST_LINES)
         self.listener = threading.Thread(target=listen, args=(self.process.stderr, self.lines), daemon=True)
         self.listener.start()

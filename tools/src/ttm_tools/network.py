@@ -37,10 +37,12 @@ def command_of(program: str, arguments: Sequence[str]) -> list[str]:
 
 
 class Processes:
-    """Some processes with the same network, each asked by one thread at a time; they begin when they are needed."""
+    """Some processes with the same network, each asked by one thread at a time; they begin when they are needed, in a
+    folder, or where this process works.
+    """
 
-    def __init__(self, arguments: Sequence[str], count: int) -> None:
-        self.arguments, self.lock, self.closed = list(arguments), threading.Lock(), False
+    def __init__(self, arguments: Sequence[str], count: int, folder: Pathlike | None = None) -> None:
+        self.folder, self.arguments, self.lock, self.closed = folder, list(arguments), threading.Lock(), False
         self.running: set[Conversation] = set()
         self.free: queue.LifoQueue[Conversation | None] = queue.LifoQueue()
         for _ in range(count - 1):
@@ -52,7 +54,7 @@ class Processes:
         with self.lock:
             if self.closed:
                 raise WrongWords("the network is closed")
-            conversation = Conversation(self.arguments)
+            conversation = Conversation(self.arguments, self.folder)
             self.running.add(conversation)
             return conversation
 

@@ -27,8 +27,10 @@ class WrittenFolder:
     arguments: str | None  # those of a run with all scenarios
 
 
-def make(feed: str, path: str, out: str, only: str | None = None) -> WrittenFolder:
-    """Writes the folder of all scenarios of a plan, or of one of them alone."""
+def make(feed: str, path: str, out: str, only: str | None = None, called: str | None = None) -> WrittenFolder:
+    """Writes the folder of all scenarios of a plan, or of one of them alone. The arguments of a run name the folder by
+    its path, or as it is called.
+    """
     is_free(Path(out))
     plan = read_plan(path)
     if only is not None and only not in [scenario.name for scenario in plan.scenarios]:
@@ -41,7 +43,7 @@ def make(feed: str, path: str, out: str, only: str | None = None) -> WrittenFold
     with many_written_aside(out) as folder:
         write_all(written, folder)
         write_lists(written, folder)
-        arguments = write_arguments(written, folder, out) if only is None else None
+        arguments = write_arguments(written, folder, called or out) if only is None else None
         write_report(plan, finished, lines, folder)
     return WrittenFolder(lines, arguments)
 

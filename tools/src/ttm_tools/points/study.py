@@ -50,6 +50,7 @@ class PointsOptions:
     limit: int  # the longest walk, seconds
     leaves_out: bool  # points from which no stop is in reach
     near: float  # metres to a street, for what is reported
+    called: str | None = None  # what the arguments of a run call the folder, where that isn't its path
 
 
 @dataclass(frozen=True)
@@ -278,7 +279,7 @@ def opportunities(
 
 def arguments_of(options: PointsOptions) -> str:
     """The arguments of a run, an option a line, as a shell reads them."""
-    folder = Path(options.out)
+    folder = Path(options.called or options.out)
     named = {
         "feed": folder / FEED,
         "footpaths": folder / FOOTPATHS,

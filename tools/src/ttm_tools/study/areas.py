@@ -23,7 +23,7 @@ def ground_for(whole: Whole) -> tuple[AreaGround, Walking]:
     """Where the places of the matrix lie, and how one walks on from them."""
     study, (matrix, stops) = whole.study, whole.open()
     there = stops.of(matrix.stops)
-    ground = isochrones.ground_of(there, isochrones.polygons_of(points_in(whole.inputs.feed)))
+    ground = isochrones.ground_of(there, isochrones.polygons_of(points_in(whole.at(whole.inputs.feed))))
     walking = Walking(study.walks.speed, study.walks.detour, study.walk_limit)
     if study.walks.streets:
         ground = isochrones.along_streets(ground, there, study.at(study.walks.streets), walking, study.walks.near)
@@ -44,13 +44,13 @@ def areas_stage(whole: Whole) -> Stage:
     def make() -> list[str]:
         matrix, _ = whole.open()
         ground, walking = ground_for(whole)
-        Path(AREAS).mkdir()
+        Path(whole.at(AREAS)).mkdir()
         for origin, name in names.items():
             bands = isochrones.Bands(
                 origin, matrix.compared, [matrix.share(study.share)], settings.isochrone_bands, walking
             )
             found = isochrones.isochrones_of(matrix, ground, bands, whole.counts(matrix))
-            with output(f"{AREAS}/{name}.geojson") as file:
+            with output(whole.at(f"{AREAS}/{name}.geojson")) as file:
                 isochrones.write_geojson(file, found, origin)
         return [f"{AREAS}: {len(names)} files"]
 

@@ -5,6 +5,7 @@ import signal
 import time
 from concurrent.futures import FIRST_COMPLETED, Future, ThreadPoolExecutor, wait
 from dataclasses import dataclass
+from pathlib import Path
 from types import TracebackType
 from typing import Iterator, Sequence
 
@@ -47,10 +48,12 @@ class PartQuestion:
 
 
 class KeptNetwork:
-    """The network of a day: its processes begin with the first question, and end with the block."""
+    """The network of a day: its processes begin in the study's folder with the first question, and end with the
+    block.
+    """
 
-    def __init__(self, run: Run) -> None:
-        self.run = run
+    def __init__(self, run: Run, study: Path) -> None:
+        self.run, self.study = run, study
         self.processes: Processes | None = None
         self.seconds: dict[str, float] = {}  # that the part of a matrix took
         self.is_ending = False  # whether no more parts begin, since somebody pressed Ctrl-C
@@ -77,12 +80,10 @@ class KeptNetwork:
         """Asks for the parts of a window that aren't done; one that fails is reported at once, and the others go on."""
         missing = missing_of(parts)
         if missing and self.processes is None:
-            self.processes = Processes(
-                command_of(program_at(self.run.program), kept_arguments(self.run)), shape.at_once
-            )
+            command = command_of(program_at(self.run.program), kept_arguments(self.run))
+            self.processes = Processes(command, shape.at_once, self.study)
         questions = [
-            PartQuestion(part, question_of(with_origins(run, str(part.origins_file), shape.threads)))
-            for part in missing
+            PartQuestion(part, question_of(with_origins(run, part.origins_name, shape.threads))) for part in missing
         ]
         with ends_gently(self.end):
             failed = [part for part in shown(self.answered(questions, shape.at_once), len(missing)) if part is not None]
@@ -128,7 +129,7 @@ class KeptNetwork:
         settle(aside)
         os.replace(aside, part.matrix)
         part.finish()
-        log("part", part.folder.name, round(self.seconds[str(part.matrix)], 3))
+        log(part.study, "part", part.folder.name, round(self.seconds[str(part.matrix)], 3))
         return None
 
 

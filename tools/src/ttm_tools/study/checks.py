@@ -55,7 +55,7 @@ def check_runs(study: Study, folder: str, days: Sequence[datetime.date]) -> None
     """
     if study.feed.allow_loss or not days:
         return
-    with room() as aside:
+    with room(study.folder) as aside:
         feed = read_feed(folder, aside)
         for day in days if not check(feed) else ():
             refuse_day(study.at(study.feed.files[0]), feed, day)

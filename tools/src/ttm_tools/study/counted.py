@@ -2,6 +2,7 @@
 those where they begin.
 """
 
+import os
 from pathlib import Path
 from typing import Sequence
 
@@ -88,13 +89,14 @@ def counts_stage(
     """What there is at each place at which journeys end, in one table; a table may say something of other places."""
     kind = OF_POINTS if study.points.all else "stop of the feed"
     sources = Sources(study.at, study.opportunities.files)
-    own = {path: sum_of(path) for path in tables if path not in map(study.at, study.opportunities.files)}
+    given = list(map(study.at, study.opportunities.files))
+    own = {os.path.relpath(path, study.folder): sum_of(path) for path in tables if path not in given}
 
     def make() -> list[str]:
         every = list(dict.fromkeys([*known, *all_points(study)]))
         whole = read_counts(tables, every, kind, columns)
         counts = at(every, stops, whole)
-        write_counts(COUNTED, stops, counts)
+        write_counts(study.folder / COUNTED, stops, counts)
         lost = sentences_on_lost(whole, counts, "not counted, at places where no journey ends")
         return [f"{COUNTED}: {', '.join(map(shown, counts.names))} at {len(stops):,} places", *lost]
 
@@ -109,11 +111,11 @@ def people_stage(study: Study, origins: Record, path: str) -> Stage:
     sources = Sources(study.at, [study.opportunities.people or ""])
 
     def make() -> list[str]:
-        names = origins_in(ORIGINS)
+        names = origins_in(str(study.folder / ORIGINS))
         every = list(dict.fromkeys([*names, *all_points(study)]))
         whole = read_counts([path], every, "origin of the study", groups)
         counts = at(every, names, whole)
-        write_counts(PEOPLE, names, counts)
+        write_counts(study.folder / PEOPLE, names, counts)
         lost = sentences_on_lost(whole, counts, "not counted, at points that are left out")
         return [f"{PEOPLE}: {', '.join(map(shown, counts.names))} at {len(names):,} origins", *lost]
 
@@ -122,15 +124,15 @@ def people_stage(study: Study, origins: Record, path: str) -> Stage:
     return Stage("people", facts, [PEOPLE], make, refuse_changed=same, stated=sources.stated)
 
 
-def write_counts(path: str, stops: Sequence[str], counts: Counts) -> None:
+def write_counts(path: Path, stops: Sequence[str], counts: Counts) -> None:
     lines = ([stop, *map(plain, numbers)] for stop, numbers in zip(stops, counts.numbers.tolist()))
     with open(path, "wb") as file:
         write_rows(file, ["stop_id", *counts.names], lines)
 
 
-def opportunities_stage(counted: Record, column: str) -> Stage:
+def opportunities_stage(study: Path, counted: Record, column: str) -> Stage:
     """What `ttm` counts at each place, in whole numbers."""
-    path = COUNTED
+    path = str(study / COUNTED)
 
     def make() -> list[str]:
         rounded = Rounded()
@@ -139,7 +141,7 @@ def opportunities_stage(counted: Record, column: str) -> Stage:
             for record, (stop, number) in table_rows(path, ["stop_id", column])
             if number != "0"
         ]
-        with open(OPPORTUNITIES, "wb") as file:
+        with open(study / OPPORTUNITIES, "wb") as file:
             write_rows(file, ["stop_id", OWN_NAME], rows)
         whole = f"; {rounded.count:,} numbers with decimals were rounded" if rounded.count else ""
         return [f"{OPPORTUNITIES}: {shown(column)} at {len(rows):,} places{whole}"]

@@ -11,7 +11,7 @@ from pathlib import Path
 from typing import Any, Collection, Sequence
 
 from ..files import is_running, output, remove, sum_of
-from ..parts import origins_in, parts_of, write_stops
+from ..parts import parts_of, write_stops
 from .counted import ORIGINS
 from .inputs import Inputs
 from .stages import as_text, key_of, settle, write_settled
@@ -59,10 +59,11 @@ class Part:
     origins: Sequence[str]
     key: str  # the sum of all that the matrix depends on
     window: str = FIRST
+    study: Path = Path()  # the study's folder
 
     @property
     def folder(self) -> Path:
-        return Path(PARTS) / self.window / f"{self.number:04}"
+        return self.study / PARTS / self.window / f"{self.number:04}"
 
     @property
     def matrix(self) -> Path:
@@ -71,6 +72,11 @@ class Part:
     @property
     def origins_file(self) -> Path:
         return self.folder / "origins.csv"
+
+    @property
+    def origins_name(self) -> str:
+        """The same from the study's folder on, as a run there names it."""
+        return str(self.origins_file.relative_to(self.study))
 
     @property
     def errors_file(self) -> Path:
@@ -121,10 +127,10 @@ def study_key(inputs: Inputs, version: Sequence[str]) -> str:
     return key_of({"words": run.arguments(), "inputs": sums, "ttm": list(version)})
 
 
-def parts_for(origins: Sequence[str], count: int, key: str, window: str = FIRST) -> list[Part]:
-    """So many parts of the origins."""
+def parts_for(origins: Sequence[str], count: int, key: str, window: str = FIRST, study: Path = Path()) -> list[Part]:
+    """So many parts of the origins, in a study's folder."""
     keys = [(some, key_of({"study": key, "origins": list(some)})) for some in parts_of(origins, count)]
-    return [Part(number, some, own, window) for number, (some, own) in enumerate(keys, 1)]
+    return [Part(number, some, own, window, study) for number, (some, own) in enumerate(keys, 1)]
 
 
 def processor_time() -> float:
@@ -135,11 +141,11 @@ def processor_time() -> float:
 
 def trial(inputs: Inputs, origins: Sequence[str], room: Path) -> tuple[float, Report]:
     """The processor time of a run of some origins, which other work beside it hardly changes; and its report."""
-    path = room / "origins.csv"
+    path = (room / "origins.csv").absolute()
     with open(path, "wb") as file:
         write_stops(file, origins)
     begin = processor_time()
-    report = report_of(with_origins(inputs.run, str(path), 1))
+    report = report_of(with_origins(inputs.run, str(path), 1), inputs.folder)
     return processor_time() - begin, report
 
 
@@ -184,10 +190,10 @@ def shape_of(settings: PartSettings, costs: Costs, origins: int, workers: int, k
 
 def cut_of(settings: PartSettings, inputs: Inputs, key: str, workers: int, room: Path) -> tuple[list[Part], Shape]:
     """The parts as they were cut before, or as they are cut now; parts of another study are removed."""
-    origins = origins_in(str(inputs.run.files["origins"]))
+    origins, noted_in = inputs.origins(), inputs.folder / CUT
     facts = key_of([key, origins, asdict(settings) | {"keep": False}])
     try:
-        noted = json.loads(Path(CUT).read_text(encoding="utf-8"))
+        noted = json.loads(noted_in.read_text(encoding="utf-8"))
         known = noted["key"] == facts and noted["workers"] == workers
         shape = Shape(**noted["shape"]) if noted["key"] == facts else None
     except (OSError, ValueError, KeyError, TypeError):
@@ -196,24 +202,24 @@ def cut_of(settings: PartSettings, inputs: Inputs, key: str, workers: int, room:
         costs = costs_of(inputs, origins, room)
         shape = shape_of(settings, costs, len(origins), workers, shape.parts if shape else None)
         noted = {"key": facts, "workers": workers, "shape": asdict(shape), "costs": asdict(costs)}
-        write_settled(Path(CUT), as_text(noted))
-    parts = parts_for(origins, shape.parts, key)
-    Path(PARTS).mkdir(exist_ok=True)
-    remove_others(FIRST, {part.folder.name for part in parts})
+        write_settled(noted_in, as_text(noted))
+    parts = parts_for(origins, shape.parts, key, study=inputs.folder)
+    (inputs.folder / PARTS).mkdir(exist_ok=True)
+    remove_others(inputs.folder, FIRST, {part.folder.name for part in parts})
     return parts, shape
 
 
-def parts_noted() -> int:
+def parts_noted(study: Path) -> int:
     """How many parts there were."""
     try:
-        return int(json.loads(Path(CUT).read_text(encoding="utf-8"))["shape"]["parts"])
+        return int(json.loads((study / CUT).read_text(encoding="utf-8"))["shape"]["parts"])
     except (OSError, ValueError, KeyError, TypeError):
         return 1
 
 
-def remove_others(window: str, names: Collection[str] = ()) -> None:
+def remove_others(study: Path, window: str, names: Collection[str] = ()) -> None:
     """Removes the folders of a window's parts but for some."""
-    folder = Path(PARTS) / window
+    folder = study / PARTS / window
     for path in folder.iterdir() if folder.is_dir() else ():
         if path.is_dir() and OWN_FOLDER.fullmatch(path.name) and path.name not in names:
             remove_own(path, OF_A_PART)
@@ -222,19 +228,19 @@ def remove_others(window: str, names: Collection[str] = ()) -> None:
             folder.rmdir()
 
 
-def remove_windows(names: Collection[str] = ()) -> None:
+def remove_windows(study: Path, names: Collection[str] = ()) -> None:
     """Removes the parts of all windows but some, and of the first."""
-    for path in Path(PARTS).iterdir() if Path(PARTS).is_dir() else ():
+    for path in (study / PARTS).iterdir() if (study / PARTS).is_dir() else ():
         if path.is_dir() and OF_A_WINDOW.fullmatch(path.name) and path.name not in names:
-            remove_others(path.name)
+            remove_others(study, path.name)
 
 
-def remove_parts() -> None:
+def remove_parts(study: Path) -> None:
     """Removes all parts, and what was noted of them, but nothing else."""
-    if Path(PARTS).is_dir():
-        remove_others(FIRST)
-        remove_windows()
-        remove_own(Path(PARTS), OF_ALL)
+    if (study / PARTS).is_dir():
+        remove_others(study, FIRST)
+        remove_windows(study)
+        remove_own(study / PARTS, OF_ALL)
 
 
 def remove_own(folder: Path, names: re.Pattern[str]) -> None:

@@ -55,6 +55,7 @@ class Document:
     title: str
     markdown: list[str] = field(default_factory=list)
     body: list[str] = field(default_factory=list)
+    folder: Path = Path()  # where its pictures lie
 
     def heading(self, text: str, level: int = 2) -> None:
         self.markdown.append(f"{'#' * level} {plain(text)}")
@@ -97,7 +98,7 @@ class Document:
     def picture(self, path: str, text: str) -> None:
         """A picture, which the page of HTML has in itself."""
         self.markdown.append(f"![{plain(text)}]({quote(path)})")
-        source = PNG + base64.b64encode(Path(path).read_bytes()).decode("ascii")
+        source = PNG + base64.b64encode((self.folder / path).read_bytes()).decode("ascii")
         self.body.append(f'<p><img src="{source}" alt="{html.escape(text)}"></p>')
 
     def as_markdown(self) -> str:

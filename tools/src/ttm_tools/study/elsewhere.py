@@ -57,7 +57,7 @@ def run_elsewhere(run: Run, parts: Sequence[Part], key: str, version: Sequence[s
     missing = still(parts)
     if missing:
         write_task(run, parts, key, version)
-    job = job_that_goes_on() if means.slurm and missing else None
+    job = job_that_goes_on(missing[0].study) if means.slurm and missing else None
     if job is not None:
         say(f"parts: job {job} of this study goes on, and is waited for")
         wait(missing, end_of(job))

@@ -40,7 +40,7 @@ def grid_stage(study: Study, feed: str, stops_sum: str | None, reads: Callable[.
         area = study.at(settings.grid_area) if settings.grid_area else None
         cells = grids.grid_over(area, width) if area else grids.grid_near(read_stops(feed), width, pace.metres)
         points, sentences = grids.filled(cells, [study.at(path) for path in settings.grid_people])
-        with open(GRID, "wb") as file:
+        with open(study.folder / GRID, "wb") as file:
             write_rows(file, ["id", "name", "lat", "lon", "width", *points.columns], point_lines(points))
         return [f"{GRID}: {len(points.identifiers):,} cells of {width:g} metres", *sentences]
 

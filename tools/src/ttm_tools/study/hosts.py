@@ -5,7 +5,6 @@ import csv
 import os
 import signal
 import subprocess
-from pathlib import Path
 from typing import Any, Iterator, Sequence
 
 from ..faults import needs_program, say
@@ -28,10 +27,12 @@ class Hosts:
 
     def __init__(self, missing: Sequence[Part], hosts: str, options: Sequence[str]) -> None:
         own = ["parallel", "--sshlogin", hosts, "--joblog", LOG, *options]
-        called = [*own, command(os.getcwd()), ":::", *[str(part.number) for part in missing]]
-        self.missing, self.is_ending, self.has_said_so = missing, False, False
-        with open(f"{PARTS}/hosts.txt", "wb") as file:
-            how: dict[str, Any] = {"stdin": subprocess.DEVNULL, "stdout": file, "stderr": file}
+        study = missing[0].study
+        called = [*own, command(str(study.resolve())), ":::", *[str(part.number) for part in missing]]
+        self.log, self.missing, self.is_ending, self.has_said_so = study / LOG, missing, False, False
+        self.log.unlink(missing_ok=True)
+        with open(study / PARTS / "hosts.txt", "wb") as file:
+            how: dict[str, Any] = {"cwd": study, "stdin": subprocess.DEVNULL, "stdout": file, "stderr": file}
             self.process = subprocess.Popen(called, **how, start_new_session=True)
 
     def end(self) -> None:
@@ -54,7 +55,7 @@ class Hosts:
     def done(self) -> set[int]:
         """The numbers of the parts that parallel's log says were done; none where it can't be read."""
         with contextlib.suppress(OSError, KeyError, ValueError, IndexError):
-            lines = Path(LOG).read_text(encoding="utf-8", errors="replace").splitlines()
+            lines = self.log.read_text(encoding="utf-8", errors="replace").splitlines()
             ended = list(csv.DictReader(lines, delimiter="\t", quoting=csv.QUOTE_NONE))
             return {self.missing[int(row["Seq"]) - 1].number for row in ended if row["Exitval"] == "0"}
         return set()
@@ -70,7 +71,6 @@ class Hosts:
 def by_parallel(missing: Sequence[Part], hosts: str, options: Sequence[str]) -> Iterator[Hosts]:
     """Runs the parts on hosts by GNU parallel, and ends what runs where this is left."""
     needs_program("parallel", "parallel")
-    Path(LOG).unlink(missing_ok=True)
     work = Hosts(missing, hosts, options)
     try:
         yield work

@@ -1,5 +1,5 @@
 """What a run of `ttm` reads, made in the study's folder, one stage after the other: the feed, a plan's scenarios,
-points, walks, origins, opportunities. All paths of what is made are from that folder on, where the command works.
+points, walks, origins, opportunities. All paths of what is made are from that folder on; `ttm` runs there.
 """
 
 import datetime
@@ -52,6 +52,15 @@ class Inputs:
     destinations: list[str]  # points at which journeys end; none where all stops are shown
     records: dict[str, Record]
     sources: dict[str, str]  # sums of the files from outside, by the paths that the study's file gives
+    folder: Path  # the study's
+
+    def at(self, name: str) -> str:
+        """A file of the study's folder, as it is opened."""
+        return str(self.folder / name)
+
+    def origins(self) -> list[str]:
+        """Where journeys begin."""
+        return origins_in(self.at(str(self.run.files["origins"])))
 
     @property
     def feed(self) -> str:
@@ -89,6 +98,10 @@ class Maker:
         self.files: dict[str, str] = {}
         self.sources: dict[str, str] = {}
 
+    def at(self, name: str) -> str:
+        """A file of the study's folder, as it is opened."""
+        return str(self.folder.at(name))
+
     def reads(self, *given: str | None) -> Sources:
         """Files and folders that the study's file names, with their sums."""
         sources = Sources(self.study.at, [path for path in given if path])
@@ -115,8 +128,8 @@ class Maker:
         if self.study.scenarios.plan:
             self.do(plan_stage(self))
             self.feed = PLANNED
-            arguments = shlex.split((Path(PLANNED) / plans.WORDS).read_text(encoding="utf-8", errors="surrogateescape"))
-            return arguments[2:]
+            words = self.folder.at(f"{PLANNED}/{plans.WORDS}")
+            return shlex.split(words.read_text(encoding="utf-8", errors="surrogateescape"))[2:]
         if self.study.scenarios.files:
             self.do(scenarios_stage(self))
         return [f"{SCENARIOS}/{Path(path).name}" for path in self.study.scenarios.files]
@@ -124,7 +137,7 @@ class Maker:
     def grid(self) -> None:
         """The cells of a grid, which are points from here on."""
         if self.study.points.grid is not None:
-            self.do(grid_stage(self.study, self.feed, self.stops_sum, self.reads))
+            self.do(grid_stage(self.study, self.at(self.feed), self.stops_sum, self.reads))
             self.study = with_grid(self.study)
             check_points(self.study)
 
@@ -141,13 +154,13 @@ class Maker:
 
     def destinations(self) -> list[str]:
         """The points at which journeys end, where there are points."""
-        return origins_in(DESTINATIONS) if self.study.points.all else []
+        return origins_in(self.at(DESTINATIONS)) if self.study.points.all else []
 
     def counts(self) -> None:
         """What is counted, by the tools and by `ttm`, and for whom."""
-        study, settings, known = self.study, self.study.opportunities, origins_of_feed(self.feed)
+        study, settings, known = self.study, self.study.opportunities, origins_of_feed(self.at(self.feed))
         ends = self.destinations() or known
-        path = f"{self.feed}/{points.POINTS}" if study.points.all else None
+        path = self.at(f"{self.feed}/{points.POINTS}") if study.points.all else None
         own = own_columns(path, known, ends) if path else []
         tables = [*([path] if path and columns_or_none(path) else []), *map(study.at, settings.files)]
         columns = counted_columns(study, tables, own)
@@ -155,7 +168,7 @@ class Maker:
             self.do(counts_stage(study, self.stops_sum, tables, columns, known, ends))
             column = settings.column or (columns[0] if len(columns) == 1 else None)
             if column is not None:
-                self.do(opportunities_stage(self.records["counted"], column))
+                self.do(opportunities_stage(study.folder, self.records["counted"], column))
                 self.files["opportunities"] = OPPORTUNITIES
         if settings.people:
             self.do(people_stage(study, self.records["origins"], study.at(settings.people)))
@@ -163,6 +176,7 @@ class Maker:
 
 def make_inputs(study: Study, folder: Folder, program: str) -> Inputs:
     """Does all stages that come before the run, which is by a program."""
+    study = replace(study, folder=folder.path)
     maker = Maker(study, folder)
     if study.points.grid is None:
         check_points(study)
@@ -171,16 +185,17 @@ def make_inputs(study: Study, folder: Folder, program: str) -> Inputs:
     maker.grid()
     study = maker.study
     if not study.points.all:
-        check_stops(study, maker.feed)
+        check_stops(study, maker.at(maker.feed))
     maker.walks()
     maker.do(origins_stage(maker))
     maker.files["origins"] = ORIGINS
     maker.counts()
     base = TODAY if any(name_of(path) == TODAY for path in scenarios) else BASE
-    shown_as = shown_names(scenarios, study.results.csv) if base == TODAY else {}
+    shown_as = shown_names([*map(maker.at, scenarios)], study.results.csv) if base == TODAY else {}
     own = [path for path in scenarios if shown_as.get(name_of(path)) != BASE]
     run = replace(run_of(study, maker.feed, maker.files, own), program=program)
-    return Inputs(run, base, tuple(scenarios), shown_as, maker.destinations(), maker.records, maker.sources)
+    known = (maker.destinations(), maker.records, maker.sources, folder.path)
+    return Inputs(run, base, tuple(scenarios), shown_as, *known)
 
 
 def dates_of(study: Study) -> list[datetime.date]:
@@ -201,22 +216,22 @@ def feed_stage(maker: Maker) -> Stage:
     sources = maker.reads(*settings.files, settings.area)
     paths = [study.at(path) for path in settings.files]
     area = study.at(settings.area) if settings.area else None
-    dates, days = dates_of(study), days_of(study)
+    dates, days, out = dates_of(study), days_of(study), maker.at(FEED)
     clip = Clip(settings.box, area, settings.routes, settings.agencies, days)
 
     def make() -> list[str]:
         if settings.ready:
-            sentences = taken(paths[0])
-            check_runs(study, FEED, dates)
+            sentences = taken(paths[0], study.folder)
+            check_runs(study, out, dates)
             return sentences
         from ..prepare.make import PrepareOptions, make as make_ready
 
-        with room() as folder:
+        with room(study.folder) as folder:
             options = PrepareOptions(
-                paths, FEED, settings.repair, clip, settings.allow_loss, dates[0], settings.same_clock
+                paths, out, settings.repair, clip, settings.allow_loss, dates[0], settings.same_clock
             )
             sentences = make_ready(options, folder)
-        check_runs(study, FEED, dates[1:])
+        check_runs(study, out, dates[1:])
         return sentences
 
     depends = {"wish": facts_of(settings), "days": [str(day) for day in [*dates, *days]], "inputs": sources.sums}
@@ -228,12 +243,12 @@ def facts_of(settings: FeedSettings) -> dict[str, Any]:
     return {key: value for key, value in asdict(settings).items() if key not in ("files", "area")}
 
 
-def taken(path: str) -> list[str]:
-    """Copies a feed that is ready."""
+def taken(path: str, study: Path) -> list[str]:
+    """Copies a feed that is ready into a study's folder."""
     if not Path(path).is_dir():
         raise BadInput(path, "is no folder: a feed that is ready is one")
     files = sorted(path for path in Path(path).iterdir() if path.suffix in (".txt", ".csv") and path.is_file())
-    with many_written_aside(FEED) as folder:
+    with many_written_aside(study / FEED) as folder:
         for file in files:
             copy_file(inside(Path(path), file), folder / file.name)
     return [f"{FEED}: {len(files)} files as they are"]
@@ -241,11 +256,11 @@ def taken(path: str) -> list[str]:
 
 def plan_stage(maker: Maker) -> Stage:
     """The feed that has the trips of all scenarios of a plan, and their files."""
-    plan, feed = maker.study.at(maker.study.scenarios.plan or ""), maker.feed
+    plan, feed = maker.study.at(maker.study.scenarios.plan or ""), maker.at(maker.feed)
     sources = maker.reads(maker.study.scenarios.plan)
 
     def make() -> list[str]:
-        return plans.make(feed, plan, PLANNED).lines
+        return plans.make(feed, plan, maker.at(PLANNED), called=PLANNED).lines
 
     depends = {"feed": maker.feed_sums, "inputs": sources.sums}
     return Stage("plan", depends, [PLANNED], make, refuse_changed=sources.refuse_changed)
@@ -253,9 +268,9 @@ def plan_stage(maker: Maker) -> Stage:
 
 def origins_stage(maker: Maker) -> Stage:
     """Where journeys begin."""
-    study, feed = maker.study, maker.feed
+    study, feed = maker.study, maker.at(maker.feed)
     named = study.at(study.run.origins) if study.run.origins else None
-    given = f"{POINTS}/origins.csv" if study.points.all else named
+    given = maker.at(f"{POINTS}/origins.csv") if study.points.all else named
     sources = maker.reads(study.run.origins)
 
     def make() -> list[str]:
@@ -267,7 +282,7 @@ def origins_stage(maker: Maker) -> Stage:
         lost = next(((number, stop) for number, stop in enumerate(origins, 2) if stop not in among), None)
         if lost is not None:
             raise BadInput(given or feed, f"{shown(lost[1])} is no stop of the feed", record=lost[0])
-        with open(ORIGINS, "wb") as file:
+        with open(maker.at(ORIGINS), "wb") as file:
             write_stops(file, origins)
         return [f"{ORIGINS}: {len(origins):,} origins"]
 
@@ -288,7 +303,7 @@ def scenarios_stage(maker: Maker) -> Stage:
     sources = maker.reads(*study.scenarios.files)
 
     def make() -> list[str]:
-        with many_written_aside(SCENARIOS) as folder:
+        with many_written_aside(maker.at(SCENARIOS)) as folder:
             for path in paths:
                 copy_file(path, folder / path.name)
         return [f"{SCENARIOS}: {', '.join(names)}"]

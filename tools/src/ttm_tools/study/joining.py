@@ -73,7 +73,7 @@ def join_parts(
     shown_as: Mapping[str, str],
     shown: Sequence[str],
     threads: int,
-    path: str = MATRIX,
+    path: str,
 ) -> list[str]:
     """Writes the matrix of all parts, which are looked at once more, with the scenarios that are shown, and those
     columns alone that are to be shown, where there are any.
@@ -84,7 +84,7 @@ def join_parts(
     write_open_matrix(matrix, path, threads)
     sentences = [f"{path}: {joined.begins[-1]:,} origins, {len(matrix.stops):,} {'points' if shown else 'stops'}"]
     if with_csv:
-        with output(CSV) as file:
+        with output(str(parts[0].study / CSV)) as file:
             write_whole([PartMatrix(str(part.matrix)) for part in parts], file)
         sentences.append(f"{CSV}: the bytes of one run")
     return sentences

@@ -56,7 +56,7 @@ def maps_of_nearest(whole: Whole) -> list[StudyMap]:
     if not whole.study.results.nearest:
         return []
     base, drawn = whole.inputs.base, list[StudyMap]()
-    names = columns_of(COUNTED) if "counted" in whole.inputs.records else [STOPS]
+    names = columns_of(whole.at(COUNTED)) if "counted" in whole.inputs.records else [STOPS]
     ends = ["", *(f"_{name}" for name in whole.others.values())]
     for what, column in file_names(names, ends).items():
         drawn.append(StudyMap(f"{MAPS}/nearest_{column}.png", "nearest", base, nearest=what))
@@ -85,7 +85,7 @@ def maps_stage(whole: Whole) -> Stage:
     drawn = maps_of(whole)
 
     def make() -> list[str]:
-        with many_written_aside(MAPS) as folder:
+        with many_written_aside(whole.at(MAPS)) as folder:
             walked = functools.cache(lambda: ground_for(whole))
             for picture in drawn:
                 draw(whole, picture, folder, walked)
@@ -122,8 +122,8 @@ def options_of(whole: Whole, drawn: StudyMap) -> PictureOptions:
 def sheet_of(whole: Whole, drawn: StudyMap) -> Sheet:
     """What stands around a map, with the lines that a scenario takes out or brings."""
     inputs = whole.inputs
-    edits = [inputs.edits[name] for name in (inputs.base, drawn.scenario) if name in inputs.edits]
-    planned = planned_of(inputs.feed, edits, inputs.base, drawn.scenario, drawn.is_difference)
+    edits = [whole.at(inputs.edits[name]) for name in (inputs.base, drawn.scenario) if name in inputs.edits]
+    planned = planned_of(whole.at(inputs.feed), edits, inputs.base, drawn.scenario, drawn.is_difference)
     own = edits if drawn.is_difference else []
     return Sheet(None, whole.study.about.note, edits=own, planned=planned)
 
@@ -132,7 +132,7 @@ def areas_drawn(whole: Whole, drawn: StudyMap, walked: tuple[AreaGround, Walking
     """The areas that are reached from a place."""
     matrix, stops = whole.open()
     areas = Areas(drawn.origin or "", options_of(whole, drawn), *walked)
-    return figure_of_isochrones(matrix, stops, whole.inputs.feed, sheet_of(whole, drawn), areas)
+    return figure_of_isochrones(matrix, stops, whole.at(whole.inputs.feed), sheet_of(whole, drawn), areas)
 
 
 def classes_drawn(whole: Whole, drawn: StudyMap) -> Any:
@@ -144,4 +144,4 @@ def classes_drawn(whole: Whole, drawn: StudyMap) -> Any:
         sought = Nearest(drawn.nearest, numbers, whole.study.results.nearest[0])
     picture = picture_of(drawn.kind, matrix, stops, drawn.origin, options_of(whole, drawn), sought)
     base = whole.inputs.base if drawn.is_difference else None
-    return figure_of(picture, matrix, stops, whole.inputs.feed, sheet_of(whole, drawn), base)
+    return figure_of(picture, matrix, stops, whole.at(whole.inputs.feed), sheet_of(whole, drawn), base)

@@ -43,7 +43,7 @@ def write_notes(whole: Whole, records: dict[str, Record], version: Version, part
         "question": study.about.question,
         "study_file": study.text,
         "sources": inputs.sources,
-        "sources_in": os.path.relpath(study.path.parent),
+        "sources_in": os.path.relpath(study.path.parent, study.folder),
         "words": inputs.run.arguments(),
         "run": facts_of(inputs.run),
         "shown_as": inputs.shown_as,
@@ -56,17 +56,17 @@ def write_notes(whole: Whole, records: dict[str, Record], version: Version, part
         "versions": versions(version.lines, version.sum),
     }
     try:
-        there = read_notes(Path("."))
+        there = read_notes(study.folder)
         there.pop("times", None)
     except BadInput:
         there = {}
     if there != json.loads(json.dumps(facts)):
-        write_settled(Path(NOTES), as_text({**facts, "times": times()}))
+        write_settled(study.folder / NOTES, as_text({**facts, "times": times(study.folder)}))
 
 
-def times() -> dict[str, Any]:
+def times(study: Path) -> dict[str, Any]:
     """When the study's commands ran, and how long stages and parts took, as far as they came to an end."""
-    lines = logged()
+    lines = logged(study)
     parts = [line["seconds"] for line in lines if line["kind"] == "part"]
     return {
         "began": lines[0]["at"] if lines else "",

@@ -25,7 +25,7 @@ def page_stage(whole: Whole) -> Stage:
 
     def make() -> list[str]:
         page = page_of(whole.whole(), settings_of(whole))
-        with output(PAGE) as file:
+        with output(whole.at(PAGE)) as file:
             page.write(file)
         ground = page.content.ground
         sentence = f"{len(ground.places.identifiers):,} places, travel times from {len(ground.rows):,} of them"
@@ -44,15 +44,15 @@ def page_stage(whole: Whole) -> Stage:
 def settings_of(whole: Whole) -> PageSettings:
     """What the page is to show."""
     study, inputs = whole.study, whole.inputs
-    counted = [COUNTED] if "counted" in inputs.records else []
-    people = [PEOPLE] if "people" in inputs.records else []
-    if counted and people and set(columns_of(COUNTED)) & set(columns_of(PEOPLE)):
+    counted = [whole.at(COUNTED)] if "counted" in inputs.records else []
+    people = [whole.at(PEOPLE)] if "people" in inputs.records else []
+    if counted and people and set(columns_of(counted[0])) & set(columns_of(people[0])):
         people = []  # they are counted as what is reached
     cutoffs = [cutoff for cutoff in study.cutoffs if LEAST <= cutoff <= MOST] or [30.0]
     return PageSettings(
-        feed=inputs.feed,
-        points=f"{inputs.feed}/{POINTS}" if "points" in inputs.records else None,
-        edits=list(inputs.edits.values()),
+        feed=whole.at(inputs.feed),
+        points=whole.at(f"{inputs.feed}/{POINTS}") if "points" in inputs.records else None,
+        edits=list(map(whole.at, inputs.edits.values())),
         opportunities=counted,
         people=people,
         scenarios=[],

@@ -41,8 +41,8 @@ def report_stages(whole: Whole, records: Records) -> list[Stage]:
 
     def make() -> list[str]:
         document = report_of(whole, records)
-        Path(MARKDOWN).write_text(document.as_markdown(), encoding="utf-8", errors="backslashreplace")
-        Path(HTML).write_text(document.as_html(), encoding="utf-8", errors="backslashreplace")
+        Path(whole.at(MARKDOWN)).write_text(document.as_markdown(), encoding="utf-8", errors="backslashreplace")
+        Path(whole.at(HTML)).write_text(document.as_html(), encoding="utf-8", errors="backslashreplace")
         return [f"{MARKDOWN}, {HTML}"]
 
     about = whole.study.about
@@ -55,7 +55,7 @@ def report_stages(whole: Whole, records: Records) -> list[Stage]:
 
 def report_of(whole: Whole, records: Records) -> Document:
     study, inputs = whole.study, whole.inputs
-    document = Document(study.title)
+    document = Document(study.title, folder=study.folder)
     for text in (study.about.question, study.about.note):
         if text:
             document.paragraph(text)
@@ -72,7 +72,7 @@ def report_of(whole: Whole, records: Records) -> Document:
     for path in file_names_of(study):
         day = f" for {Path(path).stem.removeprefix('told_')}" if path != TOLD else ""
         document.paragraph(f"What ttm reported about days, trips and walks{day}:")
-        lines = Path(path).read_text(encoding="utf-8").splitlines()
+        lines = Path(whole.at(path)).read_text(encoding="utf-8").splitlines()
         document.code(lines)
         warnings += [line for line in lines if line.startswith("warning") and line not in warnings]
     document.paragraph("Warnings: " + ("; ".join(warnings) if warnings else "none."))
@@ -103,14 +103,14 @@ def write_figures(document: Document, whole: Whole, records: Records) -> None:
         if f"compare_{name}" in records:
             document.heading(f"{shown(scenario)} compared with {shown(whole.inputs.base)}", 3)
             document.items(records[f"compare_{name}"].lines)
-            write_changes(document, f"compare_{name}.csv")
+            write_changes(document, whole, f"compare_{name}.csv")
     if "equity" in records:
         document.heading("How it is spread over people", 3)
-        header, *lines = all_rows(EQUITY_TABLE)
+        header, *lines = all_rows(whole.at(EQUITY_TABLE))
         document.table(f"Access by groups of people ({EQUITY_TABLE})", [as_phrase(column) for column in header], lines)
     for name, caption in OF_PEOPLE.items():
         if name in records:
-            header, *lines = all_rows(f"{name}.csv")
+            header, *lines = all_rows(whole.at(f"{name}.csv"))
             document.table(f"{caption} ({name}.csv)", [as_phrase(column) for column in header], lines)
             for path in (output for output in records[name].outputs if output.endswith(".png")):
                 document.picture(path, f"{caption}: {shown(Path(path).stem)}")
@@ -134,7 +134,7 @@ def told_of(drawn: StudyMap) -> str:
 
 def means(whole: Whole) -> Iterator[list[str]]:
     """The mean access of each scenario, by what is counted and within which limit."""
-    table = read_access(ACCESS_TABLE)
+    table = read_access(whole.at(ACCESS_TABLE))
     places = [table.scenario(name) for name in whole.scenarios]
     for number, kind in enumerate(table.kinds):
         if kind.percentile in ("", str(whole.study.share)):
@@ -165,12 +165,12 @@ def as_phrase(name: str) -> str:
     return name.replace("_", " ")
 
 
-def write_changes(document: Document, path: str) -> None:
+def write_changes(document: Document, whole: Whole, path: str) -> None:
     """The origins that lose most, and those that gain most: the table has losers first, and then winners."""
-    _, header = next(records_in(path))
+    _, header = next(records_in(whole.at(path)))
     place = header.index("change")
     for what, sign in (("loses", "-"), ("gains", "")):
-        wanted = (fields for _, fields in records_in(path) if is_change(fields[place], sign))
+        wanted = (fields for _, fields in records_in(whole.at(path)) if is_change(fields[place], sign))
         found = list(itertools.islice(wanted, FEW))
         if found:
             rows = [[shown(field) for field in fields] for fields in found]

@@ -45,6 +45,10 @@ class Whole:
     windows: dict[str, str] = field(default_factory=dict)  # the matrices of the other windows, with their sums
     version: Sequence[str] = ()  # lines of the program's
 
+    def at(self, name: str) -> str:
+        """A file of the study's folder, as it is opened."""
+        return self.inputs.at(name)
+
     @property
     def others(self) -> dict[str, str]:
         """The scenarios beside the base, and how their files are called."""
@@ -55,7 +59,7 @@ class Whole:
         """What `ttm` counts as access: as the study calls it, or its column."""
         if "opportunities" not in self.inputs.records:
             return self.study.results.unit or (POINTS if self.study.points.all else STOPS)
-        return self.study.results.unit or shown(self.study.opportunities.column or columns_of(COUNTED)[0])
+        return self.study.results.unit or shown(self.study.opportunities.column or columns_of(self.at(COUNTED))[0])
 
     @property
     def depends(self) -> dict[str, Any]:
@@ -65,17 +69,17 @@ class Whole:
 
     def whole(self) -> Matrix:
         """The matrix, up to the greatest travel time that the study names."""
-        return capped(open_matrix(MATRIX), self.study.results.max_minutes)
+        return capped(open_matrix(self.at(MATRIX)), self.study.results.max_minutes)
 
     def shown_in(self, path: str) -> Matrix:
         """The matrix of another window, as far as it is shown."""
-        matrix, _ = shown_of(capped(open_matrix(path), self.study.results.max_minutes), self.inputs.feed, None)
-        return matrix
+        matrix = capped(open_matrix(self.at(path)), self.study.results.max_minutes)
+        return shown_of(matrix, self.at(self.inputs.feed), None)[0]
 
     def counts(self, matrix: Matrix) -> Counts:
         """What is counted at its stops: each as one where nothing is named."""
         if "counted" in self.inputs.records:
-            return read_counts([COUNTED], matrix.stops, "stop of the matrix")
+            return read_counts([self.at(COUNTED)], matrix.stops, "stop of the matrix")
         return Counts([STOPS], np.ones((len(matrix.stops), 1)))
 
     def kind_drawn(self, kinds: Sequence[AccessKind], opportunity: str, of_times: bool = False) -> AccessKind:
@@ -90,7 +94,7 @@ class Whole:
 
     def open(self) -> tuple[Matrix, Stops]:
         """The matrix, with names and places of what it shows."""
-        matrix, stops = shown_of(self.whole(), self.inputs.feed, None)
+        matrix, stops = shown_of(self.whole(), self.at(self.inputs.feed), None)
         assert stops is not None  # a feed was named
         return matrix, stops
 
@@ -136,7 +140,7 @@ def access_stage(whole: Whole) -> Stage:
             return access(matrix, scenario, share, counts.numbers, decay, study.cutoffs)
 
         found = [measured(matrix, scenario, matrix.shares, measure) for scenario in matrix.scenarios]
-        with output(ACCESS_TABLE) as file:
+        with output(whole.at(ACCESS_TABLE)) as file:
             write_access(file, found, counts.names, study.cutoffs, Form(ACCESS))
         return [f"{ACCESS_TABLE}: {', '.join(map(shown, counts.names))}"]
 
@@ -157,7 +161,7 @@ def nearest_stage(whole: Whole) -> Stage:
             return nearest(matrix, scenario, share, counts.numbers, settings.nearest)
 
         found = [measured(matrix, scenario, matrix.shares, measure) for scenario in matrix.scenarios]
-        with output(NEAREST_TABLE) as file:
+        with output(whole.at(NEAREST_TABLE)) as file:
             write_access(file, found, counts.names, settings.nearest, Form(NEAREST))
         return [f"{NEAREST_TABLE}: {', '.join(map(shown, counts.names))}"]
 
@@ -193,11 +197,11 @@ def equity_stage(whole: Whole, access: Record, people: Record, end: str) -> Stag
     csv, page = f"equity{end}.csv", f"equity{end}.md"
 
     def make() -> list[str]:
-        table = read_access(read)
-        counts = read_counts([PEOPLE], table.origins, f"origin of {read}")
+        table = read_access(whole.at(read))
+        counts = read_counts([whole.at(PEOPLE)], table.origins, f"origin of {read}")
         options = equity.EquityOptions(whole.inputs.base, LOSE, table.kinds)
         for path, form in ((csv, tables.CSV), (page, tables.MARKDOWN)):
-            with output(path) as file:
+            with output(whole.at(path)) as file:
                 equity.write_equity(file, equity.measured(table, counts, options), form)
         return [f"{csv}: {', '.join(map(shown, counts.names))}"]
 
@@ -213,9 +217,9 @@ def bands_stages(whole: Whole, access: Record, people: Record, names: PeopleTabl
     pictures = [names.bands_name] if whole.study.results.maps else []
 
     def make() -> list[str]:
-        table = read_access(read)
-        counts = read_counts([PEOPLE], table.origins, f"origin of {read}")
-        with output(csv) as file:
+        table = read_access(whole.at(read))
+        counts = read_counts([whole.at(PEOPLE)], table.origins, f"origin of {read}")
+        with output(whole.at(csv)) as file:
             bands.write_bands(file, table, bands.bands_of(table, table.kinds, counts, names.bands), tables.CSV)
         for folder in pictures:
             draw_bands(whole, folder, table, counts, names.bands)
@@ -228,7 +232,7 @@ def bands_stages(whole: Whole, access: Record, people: Record, names: PeopleTabl
 
 def draw_bands(whole: Whole, folder: str, table: AccessTable, people: Counts, limits: Sequence[float]) -> None:
     """Draws the bars of each thing that is counted."""
-    with many_written_aside(folder) as aside:
+    with many_written_aside(whole.at(folder)) as aside:
         for name, path in bands_pictures(folder, table).items():
             figure = bands.figure_of(table, [whole.kind_drawn(table.kinds, name, table.of_times)], people, limits)
             with output(str(aside / Path(path).name)) as file:
@@ -251,10 +255,10 @@ def compare_stage(whole: Whole, scenario: str, name: str) -> Stage:
         pair = pair_of(matrix, whole.inputs.base, scenario, study.share)
         place = matrix.limit(study.within)[0]
         comparison: Comparison = compare(pair, settings.differs, with_pairs=settings.pairs)
-        with output(by_origin) as file:
+        with output(whole.at(by_origin)) as file:
             write_origins(file, pair, place, comparison, stops)
         if settings.pairs:
-            with output(by_pair) as file:
+            with output(whole.at(by_pair)) as file:
                 write_pairs(file, pair, comparison.changes, stops)
         return summary(pair, comparison, settings.differs, place)
 

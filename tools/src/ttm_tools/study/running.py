@@ -140,7 +140,7 @@ def ends_of(pool: Pool) -> Generator[Failed | None, None, None]:
 
 def begun(run: Run, part: Part, threads: int) -> Running:
     part.begin()
-    return Running(with_origins(run, str(part.origins_file), threads), part.matrix)
+    return Running(with_origins(run, part.origins_name, threads), part.matrix, part.study)
 
 
 def ended(part: Part, running: Running) -> Failed | None:
@@ -149,7 +149,7 @@ def ended(part: Part, running: Running) -> Failed | None:
     if message is not None:
         return Failed(part, message)
     part.finish()
-    log("part", part.folder.name, round(time.monotonic() - running.begin, 3))
+    log(part.study, "part", part.folder.name, round(time.monotonic() - running.begin, 3))
     return None
 
 

@@ -218,10 +218,11 @@ class Study:
 
     text: str = field(default="", compare=False)  # of its file
     generated: tuple[str, ...] = ()  # files that it makes itself, by their paths in its folder
+    folder: Path = field(default=Path(), compare=False)  # where all that it makes lies
 
     def at(self, path: str) -> str:
         """A path of the file, as it is opened."""
-        return path if path in self.generated else str(self.path.parent / path)
+        return str((self.folder if path in self.generated else self.path.parent) / path)
 
     @property
     def counts_people(self) -> bool:

@@ -22,10 +22,10 @@ def ranges(numbers: Sequence[int]) -> str:
     return ",".join(ranges_found)
 
 
-def job_that_goes_on() -> str | None:
+def job_that_goes_on(study: Path) -> str | None:
     """The array of this study that a command before submitted, and that still has tasks."""
     needs_program("squeue", "slurm-client")
-    job = Path(JOB).read_text(encoding="utf-8").strip() if Path(JOB).is_file() else ""
+    job = (study / JOB).read_text(encoding="utf-8").strip() if (study / JOB).is_file() else ""
     return job if job and is_queued(job) else None
 
 
@@ -34,11 +34,12 @@ def submit(missing: Sequence[Part], options: Sequence[str]) -> str:
     needs_program("sbatch", "slurm-client")
     array = f"--array={ranges([part.number for part in missing])}"
     own = ["--parsable", "--requeue", array, f"--output={PARTS}/slurm_%a.txt", "--open-mode=append"]
-    ran = subprocess.run(["sbatch", *own, *options, SCRIPT], capture_output=True, text=True)
+    study = missing[0].study
+    ran = subprocess.run(["sbatch", *own, *options, SCRIPT], cwd=study, capture_output=True, text=True)
     if ran.returncode != 0:
         raise BadInput("sbatch", one_line(ran.stderr) or f"ended with status {ran.returncode}")
     job = ran.stdout.strip().split(";")[0]
-    write_settled(Path(JOB), job + "\n")
+    write_settled(study / JOB, job + "\n")
     say(f"parts: {len(missing)} as job {job}; it goes on without this command, and the same command waits for it")
     return job
 

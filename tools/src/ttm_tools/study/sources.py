@@ -1,6 +1,5 @@
 """What a study reads from outside, bound to the sums that it states: what changes while it is read ends the stage."""
 
-import os
 from dataclasses import dataclass
 from pathlib import Path
 from typing import Callable, Iterable, Mapping
@@ -75,8 +74,8 @@ class Sources:
                 raise BadInput(file.path, CHANGED)
 
 
-def refuse_other_sums(sums: Mapping[str, str]) -> None:
-    """Refuses files of the study that changed while a run read them."""
+def refuse_other_sums(study: Path, sums: Mapping[str, str]) -> None:
+    """Refuses files of a study's folder that changed while a run read them."""
     for name, was in sums.items():
-        if not os.path.isfile(name) or sum_of(name) != was:
+        if not (study / name).is_file() or sum_of(study / name) != was:
             raise BadInput(name, "changed while ttm read it; the same command makes it again")

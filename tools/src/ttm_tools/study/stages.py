@@ -106,6 +106,24 @@ class Folder:
     def at(self, name: str) -> Path:
         return self.path / name
 
+    def shown(self, text: str) -> str:
+        """A text whose paths inside the folder begin there, as those of the study do wherever it lies."""
+        return text.replace(f"{self.path.absolute()}{os.sep}", "")
+
+    @contextlib.contextmanager
+    def shown_in_faults(self) -> Iterator[None]:
+        """Has faults of the block name files of the folder from there on."""
+        try:
+            yield
+        except BadInput as fault:
+            fault.file, fault.what = self.shown(fault.file), self.shown(fault.what)
+            fault.args = tuple(self.shown(str(text)) for text in fault.args)
+            raise
+        except OSError as fault:
+            if isinstance(fault.filename, str):
+                fault.filename = self.shown(fault.filename)
+            raise
+
     def record(self, name: str) -> Record | None:
         """What is known of a stage; nothing where it wasn't done to its end."""
         try:
@@ -163,7 +181,7 @@ class Folder:
             self.at(name).parent.mkdir(parents=True, exist_ok=True)
         note([])
         with outputs_noted(note):
-            return stage.make()
+            return [self.shown(line) for line in stage.make()]
 
     def do(self, stage: Stage) -> Record:
         """Does a stage, unless it was done."""
@@ -183,16 +201,16 @@ class Folder:
         record = Record(key, sums, lines, round(time.monotonic() - begin, 3))
         write_settled(self.path / RECORDS / f"{stage.name}.json", as_text(record.facts))
         self.at(f"{RECORDS}/{stage.name}.begun").unlink()
-        log("stage", stage.name, record.seconds)
+        log(self.path, "stage", stage.name, record.seconds)
         for line in lines:
             say(f"  {line}")
         return record
 
 
 @contextlib.contextmanager
-def room() -> Iterator[Path]:
+def room(study: Path) -> Iterator[Path]:
     """A folder for a while, inside of the study's own: the next command removes it where this one is killed."""
-    folder = Path(f".part.{os.getpid()}.room")
+    folder = study / f".part.{os.getpid()}.room"
     remove(folder)
     folder.mkdir()
     try:
@@ -201,17 +219,17 @@ def room() -> Iterator[Path]:
         remove(folder)
 
 
-def log(kind: str, name: str, seconds: float) -> None:
-    """Notes what was done, when, and how long it took, behind what was noted before."""
+def log(study: Path, kind: str, name: str, seconds: float) -> None:
+    """Notes what was done in a study's folder, when, and how long it took, behind what was noted before."""
     facts = {"at": time.strftime("%Y-%m-%dT%H:%M:%SZ", time.gmtime()), "kind": kind, "name": name, "seconds": seconds}
-    with open(LOG, "a", encoding="utf-8") as file:
+    with open(study / LOG, "a", encoding="utf-8") as file:
         file.write(json.dumps(facts) + "\n")
 
 
-def logged() -> list[dict[str, Any]]:
+def logged(study: Path) -> list[dict[str, Any]]:
     """What was noted; a line that a kill cut short isn't."""
-    entries = list[dict[str, Any]]()
-    text = Path(LOG).read_text(encoding="utf-8", errors="replace") if Path(LOG).is_file() else ""
+    entries, path = list[dict[str, Any]](), study / LOG
+    text = path.read_text(encoding="utf-8", errors="replace") if path.is_file() else ""
     for line in text.splitlines():
         with contextlib.suppress(ValueError, RecursionError):
             facts = json.loads(line)

@@ -3,11 +3,11 @@ parts/run.json, and `parts/one_part.sh NUMBER` is `ttm-tools study --part NUMBER
 decides what a whole part is.
 """
 
-import contextlib
 import json
 import os
 import shlex
 import sys
+from dataclasses import replace
 from pathlib import Path
 from typing import Any, Sequence
 
@@ -16,30 +16,32 @@ from ..faults import BadInput
 from ..files import remove
 from ..parts import origins_in
 from .cutting import FIRST, PARTS, Part, parts_for
-from .stages import PACKAGE, TASK, as_text, write_settled
-from .ttm import Running, facts_of, version_of, with_origins
+from .stages import PACKAGE, TASK, Folder, as_text, write_settled
+from .ttm import Running, facts_of, found_program, version_of, with_origins
 
 SCRIPT = f"{PARTS}/one_part.sh"
 
 
 def write_task(run: Run, parts: Sequence[Part], key: str, version: Sequence[str]) -> None:
     """Writes what a part's machine has to know."""
+    study = parts[0].study
     known = {"run": facts_of(run), "parts": len(parts), "window": parts[0].window, "key": key}
     known["version"] = list(version)
-    write_settled(Path(TASK), as_text(known))
+    write_settled(study / TASK, as_text(known))
     names = {"PYTHONPATH": str(PACKAGE.parent), "TTM_PROGRAM": os.path.abspath(program_at(run.program))}
     own = " ".join(f"{name}={shlex.quote(value)}" for name, value in names.items())
     command = f"{shlex.quote(sys.executable)} -m ttm_tools study --part"
-    text = f"#!/bin/sh\n# Computes a part of the study: one_part.sh NUMBER\ncd {shlex.quote(os.getcwd())} || exit 1\n"
+    text = "#!/bin/sh\n# Computes a part of the study: one_part.sh NUMBER\n"
+    text += f"cd {shlex.quote(str(study.resolve()))} || exit 1\n"
     text += f'number=${{1:-$SLURM_ARRAY_TASK_ID}}\nexec env {own} {command} "$number" .\n'
-    write_settled(Path(SCRIPT), text)
-    os.chmod(SCRIPT, 0o755)
+    write_settled(study / SCRIPT, text)
+    os.chmod(study / SCRIPT, 0o755)
 
 
-def task_known() -> dict[str, Any]:
-    """What is to be computed; nothing where no study asks for it any more."""
+def task_known(study: Path) -> dict[str, Any]:
+    """What is to be computed in a study's folder; nothing where no study asks for it any more."""
     try:
-        return dict(json.loads(Path(TASK).read_text(encoding="utf-8")))
+        return dict(json.loads((study / TASK).read_text(encoding="utf-8")))
     except (OSError, ValueError):
         return {}
 
@@ -48,13 +50,14 @@ def one_part(folder: Path, number: int) -> None:
     """Computes a part where a study's folder says so; what goes wrong is noted beside it."""
     if not folder.is_dir():
         raise BadInput(folder, "is no folder of a study")
-    with contextlib.chdir(folder):
-        known = task_known()
+    study = Folder(folder.resolve())
+    with study.shown_in_faults():
+        known = task_known(study.path)
         if not known:
             raise BadInput(folder, f"is no folder of a study with parts to compute: no {TASK}")
         run = Run(**known["run"])
-        window = known.get("window", FIRST)
-        parts = parts_for(origins_in(str(run.files["origins"])), known["parts"], known["key"], window)
+        origins, window = origins_in(str(study.at(str(run.files["origins"])))), known.get("window", FIRST)
+        parts = parts_for(origins, known["parts"], known["key"], window, study.path)
         if not 1 <= number <= len(parts):
             raise BadInput(folder, f"has no part {number}, but 1 to {len(parts)}")
         part = parts[number - 1]
@@ -62,7 +65,7 @@ def one_part(folder: Path, number: int) -> None:
             return
         part.begin()
         threads = int(os.environ.get("SLURM_CPUS_PER_TASK", "1"))
-        message = computed(with_origins(run, str(part.origins_file), threads), part, known)
+        message = computed(with_origins(run, part.origins_name, threads), part, known)
         if message is not None:
             write_settled(part.errors_file, message + "\n")
             raise BadInput(part.folder, message)
@@ -70,16 +73,16 @@ def one_part(folder: Path, number: int) -> None:
 
 def computed(run: Run, part: Part, known: dict[str, Any]) -> str | None:
     """Runs a part with the version of `ttm` that the study has; gives the line that says why there is no matrix."""
-    own = version_of(program_at(None))
+    own = version_of(program := found_program())
     if own != known["version"]:
         return f"{program_at(None)} is {own[0]}, and the study's ttm is another one, or proved with another toolchain"
-    running = Running(run, part.matrix)
+    running = Running(replace(run, program=program), part.matrix, part.study)
     try:
         message = running.end()
     except BaseException:
         running.stop()
         raise
-    if message is None and task_known() != known:
+    if message is None and task_known(part.study) != known:
         remove(part.matrix)
         return "the study's inputs were written again meanwhile"
     if message is None:

@@ -5,6 +5,7 @@ its name when it is whole.
 import ctypes
 import os
 import re
+import shutil
 import signal
 import socket
 import subprocess
@@ -13,9 +14,9 @@ import tempfile
 import time
 from dataclasses import dataclass, replace
 from pathlib import Path
-from typing import Any, Sequence
+from typing import Any
 
-from ..engine import EngineFault, Run, refusal_of
+from ..engine import EngineFault, Run, program_at, refusal_of
 from ..faults import one_line
 from ..files import remove
 from .stages import settle
@@ -37,6 +38,12 @@ class Version:
 
     lines: list[str]
     sum: str
+
+
+def found_program() -> str:
+    """The path of `ttm`, which holds from any folder."""
+    found = program_at(None)
+    return os.path.abspath(shutil.which(found) or found)
 
 
 def version_of(program: str) -> list[str]:
@@ -78,10 +85,11 @@ class Report:
         return line.removeprefix("ttm: ").startswith(OF_THE_MACHINE)
 
 
-def report_of(run: Run) -> Report:
-    """Runs `ttm` for its report alone."""
+def report_of(run: Run, folder: Path) -> Report:
+    """Runs `ttm` in a folder for its report alone."""
     arguments = [*run.command(), "--report"]
-    ran = subprocess.run(arguments, stdout=subprocess.DEVNULL, stderr=subprocess.PIPE, preexec_fn=die_with_parent)
+    how: dict[str, Any] = {"cwd": folder, "preexec_fn": die_with_parent}
+    ran = subprocess.run(arguments, stdout=subprocess.DEVNULL, stderr=subprocess.PIPE, **how)
     if ran.returncode != 0:
         raise EngineFault("\n".join(refusal_of(ran.stderr, ran.returncode)), ran.returncode)
     return Report(ran.stderr.decode("utf-8", "replace").splitlines())
@@ -98,18 +106,17 @@ def aside_of(path: Path) -> Path:
 
 
 class Running:
-    """A run that goes on: its matrix is written aside, and gets its name when `end` finds it whole. It has a session of
-    its own, so that Ctrl-C reaches this process alone, which decides what becomes of the run.
+    """A run that goes on in a folder: its matrix is written aside, and gets its name when `end` finds it whole. It has
+    a session of its own, so that Ctrl-C reaches this process alone, which decides what becomes of the run.
     """
 
-    def __init__(self, run: Run, out: Path, arguments: Sequence[str] = ()) -> None:
+    def __init__(self, run: Run, out: Path, folder: Path) -> None:
         self.out, self.begin = out, time.monotonic()
         self.aside = aside_of(out)
         self.errors = tempfile.TemporaryFile()
-        called = [*run.command(), *arguments]
         with open(self.aside, "wb") as matrix:
-            how: dict[str, Any] = {"preexec_fn": die_with_parent, "start_new_session": True}
-            self.process = subprocess.Popen(called, stdout=matrix, stderr=self.errors, **how)
+            how: dict[str, Any] = {"cwd": folder, "preexec_fn": die_with_parent, "start_new_session": True}
+            self.process = subprocess.Popen(run.command(), stdout=matrix, stderr=self.errors, **how)
 
     def is_over(self) -> bool:
         return self.process.poll() is not None

@@ -1,6 +1,5 @@
 """A study looked at once more: the sums of all its files, and a drawn tenth of its rows, computed again."""
 
-import contextlib
 import itertools
 import os
 import random
@@ -21,9 +20,9 @@ from ..records import shown
 from .cutting import PARTS
 from .joining import CSV, MATRIX
 from .notes import NOTES, read_notes
-from .stages import LOCK, RECORDS, held, room
-from .ttm import version_of
-from .work import found_program, sweep
+from .stages import LOCK, RECORDS, Folder, held, room
+from .ttm import found_program, version_of
+from .work import sweep
 
 OF_ALL = 10  # one in so many rows is computed again
 
@@ -32,62 +31,79 @@ def verify(folder: Path, seed: int | None, workers: int) -> None:
     """Refuses the first file that isn't as it was, or row that `ttm` computes in another way."""
     notes = read_notes(folder)
     program = found_program()
-    with held(folder), contextlib.chdir(folder):
-        sweep(Path("."), inside_parts=False)
-        with as_one_line(folder / NOTES, "isn't as a study writes it"):
-            files = {name: was for stage in notes["stages"].values() for name, was in stage["files"].items()}
-            sources = {f"{notes.get('sources_in', '..')}/{name}": was for name, was in notes["sources"].items()}
-        refuse_changed(files)
-        say(f"sums: {len(files)} files are as {NOTES} says", *unstated(files))
-        refuse_changed_sources(sources)
-        run = Run(**notes["run"], program=program)
-        own, was = version_of(program), [notes["versions"]["ttm"], notes["versions"]["toolchain"]]
-        if own[: len(was)] != was:
-            say(f"ttm here is {own[0]}, {own[-1]}; that of the study was {was[0]}, {was[1]}")
-        origins = origins_in(str(run.files["origins"]))
-        seed = random.SystemRandom().randrange(1 << 32) if seed is None else seed
-        count = -(-len(origins) // OF_ALL)
-        places = sorted(random.Random(seed).sample(range(len(origins)), count))
-        drawn = [origins[place] for place in places]
-        kept = [(run, [open_matrix(MATRIX), *([CsvMatrix(CSV)] if CSV in files else [])])]
-        kept += [
-            (Run(**facts, program=program), [open_matrix(path)]) for path, facts in (notes.get("windows") or {}).items()
-        ]
-        few_at_once = parts_of(drawn, -(-count * notes["parts"] // len(origins)))
-        for (own_run, matrices), few in itertools.product(kept, few_at_once):
-            compare_again(replace(own_run, workers=workers), few, matrices, notes.get("shown_as") or {})
-        say(f"rows: those of {count:,} of {len(origins):,} origins, drawn by --seed {seed}, have the same bytes")
+    with held(folder):
+        study = Folder(folder.resolve())
+        with study.shown_in_faults():
+            sweep(study.path, inside_parts=False)
+            with as_one_line(folder / NOTES, "isn't as a study writes it"):
+                files = {name: was for stage in notes["stages"].values() for name, was in stage["files"].items()}
+                sources = {f"{notes.get('sources_in', '..')}/{name}": was for name, was in notes["sources"].items()}
+            refuse_changed(study, files)
+            say(f"sums: {len(files)} files are as {NOTES} says", *unstated(study, files))
+            refuse_changed_sources(study, sources)
+            own, was = version_of(program), [notes["versions"]["ttm"], notes["versions"]["toolchain"]]
+            if own[: len(was)] != was:
+                say(f"ttm here is {own[0]}, {own[-1]}; that of the study was {was[0]}, {was[1]}")
+            given = {MATRIX: notes["run"], **(notes.get("windows") or {})}
+            how: dict[str, Any] = {"program": program, "workers": workers}
+            runs = {name: run_of(study, Run(**{**facts, **how})) for name, facts in given.items()}
+            verify_rows(study, notes, runs, seed)
 
 
-def unstated(files: dict[str, str]) -> Iterator[str]:
+def verify_rows(study: Folder, notes: dict[str, Any], runs: dict[str, Run], seed: int | None) -> None:
+    """Computes a drawn tenth of the rows again, by the runs of their matrices, and refuses the first that differs."""
+    origins = origins_in(str(runs[MATRIX].files["origins"]))
+    seed = random.SystemRandom().randrange(1 << 32) if seed is None else seed
+    count = -(-len(origins) // OF_ALL)
+    places = sorted(random.Random(seed).sample(range(len(origins)), count))
+    drawn = [origins[place] for place in places]
+    matrices = {name: [open_matrix(str(study.at(name)))] for name in runs}
+    if any(CSV in stage["files"] for stage in notes["stages"].values()):
+        matrices[MATRIX].append(CsvMatrix(str(study.at(CSV))))
+    few_at_once = parts_of(drawn, -(-count * notes["parts"] // len(origins)))
+    for (name, run), few in itertools.product(runs.items(), few_at_once):
+        compare_again(study, run, few, matrices[name], notes.get("shown_as") or {})
+    say(f"rows: those of {count:,} of {len(origins):,} origins, drawn by --seed {seed}, have the same bytes")
+
+
+def run_of(study: Folder, run: Run) -> Run:
+    """A run in a study's folder by paths that hold from anywhere."""
+    files = {name: study.at(str(path)) for name, path in run.files.items()}
+    scenarios = [study.at(str(path)) for path in run.scenarios]
+    return replace(run, feed=study.at(str(run.feed)), files=files, scenarios=scenarios)
+
+
+def unstated(study: Folder, files: dict[str, str]) -> Iterator[str]:
     """Reports the files that the study didn't write."""
     own = {NOTES, LOCK, *files}
-    for path in sorted(path for path in Path(".").rglob("*") if not path.is_dir()):
+    for path in sorted(path.relative_to(study.path) for path in study.path.rglob("*") if not path.is_dir()):
         if str(path) not in own and path.parts[0] not in (RECORDS, PARTS):
             yield f"{path}: is there, and {NOTES} doesn't state it"
 
 
-def refuse_changed_sources(sources: dict[str, str]) -> None:
+def refuse_changed_sources(study: Folder, sources: dict[str, str]) -> None:
     """Refuses the first source that isn't as it was read; those that aren't there any more are reported as well."""
-    lost = [path for path in sources if not Path(path).is_file()]
+    lost = [path for path in sources if not study.at(path).is_file()]
     for path, was in sources.items():
-        if path not in lost and sum_of(path) != was:
+        if path not in lost and sum_of(study.at(path)) != was:
             raise BadInput(path, f"has another sum than {NOTES} says: it was changed since the study read it")
     if lost:
         say(f"sources: {len(lost)} of {len(sources)} files aren't there any more: {some(lost)}")
 
 
-def refuse_changed(files: dict[str, str]) -> None:
+def refuse_changed(study: Folder, files: dict[str, str]) -> None:
     for name, was in files.items():
-        if not Path(name).is_file():
+        if not study.at(name).is_file():
             raise BadInput(name, f"no longer exists, and {NOTES} has its checksum")
-        if sum_of(name) != was:
+        if sum_of(study.at(name)) != was:
             raise BadInput(name, f"has another sum than {NOTES} says: it was changed")
 
 
-def compare_again(run: Run, origins: Sequence[str], kept: Sequence[Matrix], shown_as: dict[str, str]) -> None:
+def compare_again(
+    study: Folder, run: Run, origins: Sequence[str], kept: Sequence[Matrix], shown_as: dict[str, str]
+) -> None:
     """Computes the rows of some origins, and compares them with those that are kept, whatever these are called."""
-    with room() as folder:
+    with room(study.path) as folder:
         path, out = folder / "origins.csv", folder / "matrix.csv"
         with open(path, "wb") as file:
             write_stops(file, origins)

@@ -18,7 +18,8 @@ POINTS, FOOTPATHS = "inputs/points", "inputs/footpaths.csv"
 
 def walks_stage(maker: "Maker") -> Stage:
     """Walks between the stops."""
-    study, settings, feed = maker.study, maker.study.walks, maker.feed
+    study, settings, feed = maker.study, maker.study.walks, maker.at(maker.feed)
+    path = maker.at(FOOTPATHS)
     sources = maker.reads(settings.streets, settings.table)
 
     def make() -> list[str]:
@@ -29,9 +30,9 @@ def walks_stage(maker: "Maker") -> Stage:
         else:
             found = walker(study)(stops, None)
             rows, sentence = found.rows(), walks_summary(found, "stops", settings.near)
-        with open(FOOTPATHS, "wb") as file:
+        with open(path, "wb") as file:
             write_rows(file, ["from_stop_id", "to_stop_id", "seconds"], rows)
-        nearer = sentences_on_nearer(feed, FOOTPATHS, study.run.walk)
+        nearer = sentences_on_nearer(feed, path, study.run.walk)
         return [f"{FOOTPATHS}: {len(rows):,} footpaths; {sentence}", *sentences_on_limits(study), *nearer]
 
     depends = {"stops": maker.stops_sum, "walk": study.run.walk, **walk_facts(study), "streets": sources.sums}
@@ -63,7 +64,7 @@ def walker(study: Study) -> Callable[[Stops, int | None], Walks]:
 
 def points_stage(maker: "Maker") -> Stage:
     """The feed with points as stops, and the walks to and from them."""
-    study, settings, feed = maker.study, maker.study.points, maker.feed
+    study, settings, feed, out = maker.study, maker.study.points, maker.at(maker.feed), maker.at(POINTS)
     begins = [path in (*settings.files, *settings.origins) for path in settings.all]
     ends = [path in (*settings.files, *settings.destinations) for path in settings.all]
     paths = [study.at(path) for path in settings.all]
@@ -71,9 +72,9 @@ def points_stage(maker: "Maker") -> Stage:
 
     def make() -> list[str]:
         files, limit, near = [read_points(path) for path in paths], study.walk_limit, study.walks.near
-        options = points.PointsOptions(feed, POINTS, files, begins, ends, limit, settings.leave_out, near)
+        options = points.PointsOptions(feed, out, files, begins, ends, limit, settings.leave_out, near, POINTS)
         sentences = [*points.make(options, walker(study)), *sentences_on_limits(study)]
-        return [*sentences, *sentences_on_nearer(f"{POINTS}/{points.FEED}", f"{POINTS}/footpaths.csv", study.run.walk)]
+        return [*sentences, *sentences_on_nearer(f"{out}/{points.FEED}", f"{out}/footpaths.csv", study.run.walk)]
 
     facts = {"begins": begins, "ends": ends, "leave_out": settings.leave_out, "inputs": sources.sums}
     depends = {"feed": maker.feed_sums, "walk": study.run.walk, **walk_facts(study), **facts}

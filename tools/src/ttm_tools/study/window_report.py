@@ -41,7 +41,7 @@ def write_windows(document: Document, whole: Whole, records: dict[str, Record]) 
     for kind in kinds_drawn(whole):
         names = ["date", "window", *COLUMNS]
         caption = f"{kind.label}: mean of the people, and of the tenth that has least ({EQUITY} has all)"
-        lines = list(lines_of(names, [kind.opportunity, kind.percentile, kind.cutoff]))
+        lines = list(lines_of(whole.at(EQUITY), names, [kind.opportunity, kind.percentile, kind.cutoff]))
         document.table(caption, [name.replace("_", " ") for name in names], lines)
     if PICTURES in {path.rpartition("/")[0] for path in records["windows_access"].outputs}:
         for name, paths in pictures_of(whole).items():
@@ -49,9 +49,9 @@ def write_windows(document: Document, whole: Whole, records: dict[str, Record]) 
                 document.picture(path, f"{shown(name)}: {what}")
 
 
-def lines_of(names: Sequence[str], kind: Sequence[str]) -> Iterator[list[str]]:
-    """Some columns of the lines of a kind."""
-    table = records_in(EQUITY)
+def lines_of(path: str, names: Sequence[str], kind: Sequence[str]) -> Iterator[list[str]]:
+    """Some columns of the lines of a kind in a table."""
+    table = records_in(path)
     _, header = next(table)
     first, places = len(HEADS), [header.index(name) for name in names]
     for _, fields in table:

@@ -93,9 +93,9 @@ def tables_stage(whole: Whole, of: Of) -> Stage:
     def make() -> list[str]:
         tables = dict[Question, AccessTable]()
         header = [*HEADS, "scenario", "id", "opportunity", "percentile", *of.heads]
-        with output(by_origin) as file:
+        with output(whole.at(by_origin)) as file:
             write_rows(file, header, lines_of(whole, of, tables))
-        with output(by_people) as file:
+        with output(whole.at(by_people)) as file:
             write_spread(file, tables, whole)
         for _ in pictures:
             draw_all(whole, tables)
@@ -144,7 +144,7 @@ def table_of(path: str, found: Sequence[Measured], counts: Counts, of: Of) -> Ac
 def people_of(whole: Whole, origins: Sequence[str]) -> Counts:
     """Who lives at the origins; where no people are named, one at each."""
     if "people" in whole.inputs.records:
-        return read_counts([PEOPLE], origins, "origin of the study")
+        return read_counts([whole.at(PEOPLE)], origins, "origin of the study")
     return Counts([EACH], np.ones((len(origins), 1)))
 
 
@@ -171,7 +171,7 @@ def kinds_drawn(whole: Whole) -> list[AccessKind]:
 
 def pictures_of(whole: Whole) -> dict[str, list[str]]:
     """The pictures of each thing that is counted: by time, the heat map, and the maps."""
-    names = columns_of(COUNTED) if "counted" in whole.inputs.records else [STOPS]
+    names = columns_of(whole.at(COUNTED)) if "counted" in whole.inputs.records else [STOPS]
     called = file_names(names, [f"_{kind}" for kind in KINDS])
     return {name: [f"{PICTURES}/{file}_{kind}.png" for kind in KINDS] for name, file in called.items()}
 
@@ -182,7 +182,7 @@ def draw_all(whole: Whole, tables: dict[Question, AccessTable]) -> None:
     people = people_of(whole, first.origins)
     places, base = POINTS if whole.study.points.all else STOPS, first.scenario(whole.inputs.base)
     _, stops = whole.open()
-    with many_written_aside(PICTURES) as folder:
+    with many_written_aside(whole.at(PICTURES)) as folder:
         for name, paths in pictures_of(whole).items():
             kind = whole.kind_drawn(first.kinds, name)
             number = first.kinds.index(kind)

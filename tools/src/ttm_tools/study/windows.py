@@ -43,15 +43,15 @@ class Machine:
 def make_windows(study: Study, inputs: Inputs, folder: Folder, machine: Machine) -> dict[str, Record]:
     """Does the matrices of all windows but the first, day by day."""
     records = dict[str, Record]()
-    remove_windows({question.name for question in study.questions[1:]})
+    remove_windows(folder.path, {question.name for question in study.questions[1:]})
     for _, questions in itertools.groupby(study.questions[1:], lambda question: question.date):
         own = list(questions)
-        with KeptNetwork(inputs_of(inputs, own[0]).run) as network:
+        with KeptNetwork(inputs_of(inputs, own[0]).run, folder.path) as network:
             for question in own:
                 stage = window_stage(study, inputs, question, machine, network)
                 records[stage.name] = folder.do(stage)
                 if not study.parts.keep:
-                    remove_others(question.name)
+                    remove_others(folder.path, question.name)
     return records
 
 
@@ -62,21 +62,23 @@ def window_stage(study: Study, inputs: Inputs, question: Question, machine: Mach
     key = study_key(task, version.lines)
 
     def make() -> list[str]:
-        with room() as folder:
+        with room(inputs.folder) as folder:
             first, shape = cut_of(study.parts, inputs, study_key(inputs, version.lines), means.at_once, folder)
-        parts = parts_for([origin for part in first for origin in part.origins], len(first), key, question.name)
+        origins = [origin for part in first for origin in part.origins]
+        parts = parts_for(origins, len(first), key, question.name, inputs.folder)
         if means.is_elsewhere:
             failed = run_elsewhere(task.run, parts, key, version.lines, means)
         else:
             failed = network.run_parts(task.run, parts, shape)
         refuse_failed(failed, len(parts))
-        path = matrix_of(question)
-        return join_parts(parts, False, inputs.shown_as, inputs.destinations, means.threads, path)
+        return join_parts(
+            parts, False, inputs.shown_as, inputs.destinations, means.threads, inputs.at(matrix_of(question))
+        )
 
     depends = {"study": key, "origins": inputs.records["origins"].outputs, "form": FORM}
     depends |= {"shown": inputs.destinations, "shown_as": inputs.shown_as}
     known = {**inputs.sums, str(inputs.run.program): version.sum}
-    same = functools.partial(refuse_other_sums, known)
+    same = functools.partial(refuse_other_sums, inputs.folder, known)
     return Stage(
         f"matrix_{question.name}",
         depends,

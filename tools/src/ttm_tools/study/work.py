@@ -1,20 +1,15 @@
 """All of a study, from its file to its folder, in order: what is done isn't done again."""
 
-import contextlib
 import functools
-import os
 import re
-import shutil
 from dataclasses import replace
 from pathlib import Path
 
-from ..engine import program_at
 from ..faults import BadInput, needs, say
 from ..gtfs.stops import read_stops
 from ..files import is_running, remove, sum_of
 from ..matrices import BASE, TODAY, open_matrix
 from ..naming import sentences_on_names
-from ..parts import origins_in
 from ..views.page.document import LEAFLET, leaflet_files
 from .cutting import FIRST, PARTS, cut_of, parts_noted, remove_others, remove_parts, study_key, trial
 from .elsewhere import Means, run_elsewhere
@@ -28,7 +23,7 @@ from .results import Whole, names_of_scenarios
 from .running import refuse_failed, run_parts
 from .sources import refuse_other_sums
 from .stages import RECORDS, Folder, Record, Stage, held, log, refuse_folder, room
-from .ttm import Version, version_of
+from .ttm import Version, found_program, version_of
 from .windows import Machine, make_windows
 from .settings import Study
 
@@ -43,30 +38,39 @@ def make_study(study: Study, out: Path, means: Means) -> None:
     refuse_folder(out)
     needs(*packages_of(study))
     program = found_program()
-    with held(out), contextlib.chdir(out):
-        Path(RECORDS).mkdir(exist_ok=True)
-        folder, version = Folder(Path(".")), Version(version_of(program), sum_of(program))
-        log("command", "began", 0.0)
-        sweep(Path("."), inside_parts=False)
-        inputs = make_inputs(study, folder, program)
-        study = with_grid(study)
-        refuse_settings(study, inputs)
-        say(*sentences_on_names(names_of_scenarios(list(inputs.edits), inputs.base)))
-        key = study_key(inputs, version.lines)
-        records = days_listed(study, inputs, folder, version)
-        records["matrix"] = folder.do(matrix_stage(study, inputs, key, version, means))
-        if not study.parts.keep:
-            remove_others(FIRST)
-        windows = make_windows(study, inputs, folder, Machine(version, means))
-        records |= windows
-        if not study.parts.keep:
-            remove_parts()
-        sum_of_matrix = records["matrix"].outputs[MATRIX]
-        sums = {name: was for record in windows.values() for name, was in record.outputs.items()}
-        whole = Whole(study, inputs, sum_of_matrix, open_matrix(MATRIX).scenarios, sums, version.lines)
-        records = make_results(whole, folder, records)
-        write_notes(whole, records, version, parts_noted())
-        sweep(Path("."), inside_parts=True)
+    with held(out):
+        folder = Folder(out.resolve())
+        with folder.shown_in_faults():
+            make_in(folder, replace(study, folder=folder.path), program, means)
+
+
+def make_in(folder: Folder, study: Study, program: str, means: Means) -> None:
+    """Makes all of a study in its folder, which is held."""
+    path = folder.path
+    folder.at(RECORDS).mkdir(exist_ok=True)
+    version = Version(version_of(program), sum_of(program))
+    machine = Machine(version, means)
+    log(path, "command", "began", 0.0)
+    sweep(path, inside_parts=False)
+    inputs = make_inputs(study, folder, program)
+    study = with_grid(study)
+    refuse_settings(study, inputs)
+    say(*sentences_on_names(names_of_scenarios(list(inputs.edits), inputs.base)))
+    records = days_listed(study, inputs, folder, version)
+    records["matrix"] = folder.do(matrix_stage(study, inputs, machine))
+    if not study.parts.keep:
+        remove_others(path, FIRST)
+    windows = make_windows(study, inputs, folder, machine)
+    records |= windows
+    if not study.parts.keep:
+        remove_parts(path)
+    sum_of_matrix = records["matrix"].outputs[MATRIX]
+    sums = {name: was for record in windows.values() for name, was in record.outputs.items()}
+    scenarios = open_matrix(inputs.at(MATRIX)).scenarios
+    whole = Whole(study, inputs, sum_of_matrix, scenarios, sums, version.lines)
+    records = make_results(whole, folder, records)
+    write_notes(whole, records, version, parts_noted(path))
+    sweep(path, inside_parts=True)
 
 
 def packages_of(study: Study) -> list[str]:
@@ -85,22 +89,16 @@ def refuse_settings(study: Study, inputs: Inputs) -> None:
         leaflet_files(LEAFLET)
     if not (study.results.maps or study.results.page or study.results.isochrones):
         return
-    origins = set(origins_in(str(inputs.run.files["origins"])))
+    origins = set(inputs.origins())
     for key, named in (("map_origins", study.results.map_origins), ("isochrones", study.results.isochrones)):
         lost = next((stop for stop in named if stop not in origins), None)
         if lost is not None:
             raise BadInput(study.path, f"{key} of [results]: {lost} is no origin of the study")
-    if not read_stops(inputs.feed).placed.any():
+    if not read_stops(inputs.at(inputs.feed)).placed.any():
         raise BadInput(
             f"{inputs.feed}/stops.txt",
             "no stop has stop_lat and stop_lon: say maps = false and page = false in [results]",
         )
-
-
-def found_program() -> str:
-    """The path of `ttm`, which holds from any folder."""
-    found = program_at(None)
-    return os.path.abspath(shutil.which(found) or found)
 
 
 def days_listed(study: Study, inputs: Inputs, folder: Folder, version: Version) -> dict[str, Record]:
@@ -117,10 +115,10 @@ def days_stage(inputs: Inputs, key: str, name: str, path: str) -> Stage:
     """What `ttm` says of the feed, a day and its scenarios: the report of a run of one origin."""
 
     def make() -> list[str]:
-        with room() as folder:
-            _, report = trial(inputs, origins_in(str(inputs.run.files["origins"]))[:1], folder)
+        with room(inputs.folder) as folder:
+            _, report = trial(inputs, inputs.origins()[:1], folder)
         lines = beside_today(inputs, [line for line in report.facts if not line.startswith(OF_ONE_ORIGIN)])
-        Path(path).write_text("".join(line + "\n" for line in lines), encoding="utf-8")
+        Path(inputs.at(path)).write_text("".join(line + "\n" for line in lines), encoding="utf-8")
         return [line for line in lines if line.startswith(("runs in scenario", "warning"))]
 
     return Stage(name, {"study": key}, [path], make)
@@ -153,24 +151,26 @@ def beside_today(inputs: Inputs, lines: list[str]) -> list[str]:
     return sentences
 
 
-def matrix_stage(study: Study, inputs: Inputs, key: str, version: Version, means: Means) -> Stage:
+def matrix_stage(study: Study, inputs: Inputs, machine: Machine) -> Stage:
     """The matrix, by parts of the origins."""
-    with_csv = study.results.csv
+    with_csv, version, means = study.results.csv, machine.version, machine.means
+    key = study_key(inputs, version.lines)
 
     def make() -> list[str]:
-        with room() as folder:
+        with room(inputs.folder) as folder:
             parts, shape = cut_of(study.parts, inputs, key, means.at_once, folder)
         if means.is_elsewhere:
             failed = run_elsewhere(inputs.run, parts, key, version.lines, means)
         else:
             failed = run_parts(inputs.run, parts, shape.at_once, shape.threads)
         refuse_failed(failed, len(parts))
-        return join_parts(parts, with_csv, inputs.shown_as, inputs.destinations, means.threads)
+        path = inputs.at(MATRIX)
+        return join_parts(parts, with_csv, inputs.shown_as, inputs.destinations, means.threads, path)
 
     depends = {"study": key, "origins": inputs.records["origins"].outputs, "csv": with_csv}
     depends |= {"shown": inputs.destinations, "shown_as": inputs.shown_as, "form": FORM}
     outputs, known = [MATRIX, *([CSV] if with_csv else [])], {**inputs.sums, str(inputs.run.program): version.sum}
-    same = functools.partial(refuse_other_sums, known)
+    same = functools.partial(refuse_other_sums, inputs.folder, known)
     return Stage("matrix", depends, outputs, make, of_tools=False, keeps_task=True, refuse_changed=same)
 
 
@@ -179,6 +179,6 @@ def sweep(folder: Path, inside_parts: bool) -> None:
     work on some.
     """
     for path in sorted(folder.rglob(".part.*")):
-        found = ASIDE.fullmatch(path.name)
-        if found and (inside_parts if PARTS in path.parts else not is_running(int(found[1]))):
+        found, is_of_parts = ASIDE.fullmatch(path.name), PARTS in path.relative_to(folder).parts
+        if found and (inside_parts if is_of_parts else not is_running(int(found[1]))):
             remove(path)
