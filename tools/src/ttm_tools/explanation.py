@@ -99,7 +99,7 @@ def told_of(task: Run, date: datetime.date) -> str:
     return f"{date:%Y-%m-%d}, {days}; departures {task.window[0]} to {task.window[1]}, {limits}"
 
 
-Cells = dict[str, int | None]  # a travel time for each scenario, seconds; None where there is none
+TimesByScenario = dict[str, int | None]  # a travel time for each scenario, seconds; None where there is none
 
 
 Pairs = Sequence[tuple[str, str]]  # origins and destinations
@@ -107,7 +107,7 @@ Pairs = Sequence[tuple[str, str]]  # origins and destinations
 
 def read_both(
     task: Run, stops: Stops, names: Sequence[str], pairs: Pairs, matrix: str | None, program: Pathlike | None
-) -> tuple[Timetable, dict[tuple[str, str], Cells]]:
+) -> tuple[Timetable, dict[tuple[str, str], TimesByScenario]]:
     """The timetable, and the cells of some pairs and scenarios: of a matrix, or as `ttm` computes them meanwhile."""
     if matrix is not None:
         cells = cells_of(open_matrix(matrix), names, task.shares[0], pairs)
@@ -148,10 +148,10 @@ def refuse(status: int, errors: IO[bytes]) -> None:
         raise EngineFault("\n".join(refusal_of(errors.read(), status)), status)
 
 
-def cells_of(matrix: Matrix, names: Sequence[str], share: int, pairs: Pairs) -> dict[tuple[str, str], Cells]:
+def cells_of(matrix: Matrix, names: Sequence[str], share: int, pairs: Pairs) -> dict[tuple[str, str], TimesByScenario]:
     """The cells of a matrix for some pairs and scenarios, which it has."""
     chosen = matrix.share(share if matrix.layout.names_share else None)
-    cells: dict[tuple[str, str], Cells] = {}
+    cells: dict[tuple[str, str], TimesByScenario] = {}
     for origin, destination in pairs:
         if destination not in matrix.places:
             raise BadInput(matrix.path, f"no stop {shown(destination)}")

@@ -7,7 +7,7 @@ import numpy as np
 import numpy.typing as npt
 
 from ..gtfs.fields import Floats
-from ..gtfs.lines import Points, pieces, shape_points, unique_rows
+from ..gtfs.lines import LinePoints, pieces, shape_points, unique_rows
 from ..gtfs.stops import Projection, Stops, has_file
 from ..matrices import BASE
 from ..plans.base import Base
@@ -49,7 +49,7 @@ class FeedLines:
         return in_degrees(found, self.projection)
 
     @cached_property
-    def shapes(self) -> Points | None:
+    def shapes(self) -> LinePoints | None:
         """The points of the feed's shapes; None where it has none, and lines go from stop to stop."""
         return shape_points(self.folder, self.projection) if self.has_shapes else None
 
@@ -84,7 +84,7 @@ class FeedLines:
         line = np.repeat(np.arange(len(courses)), [len(one) for one, _ in courses])
         placed = ~np.isnan(latitudes)
         east, north = self.projection.east(longitudes[placed]), self.projection.north(latitudes[placed])
-        return pieces(Points([], line[placed], np.arange(len(east), dtype=np.float64), east, north))
+        return pieces(LinePoints([], line[placed], np.arange(len(east), dtype=np.float64), east, north))
 
 
 def course_of(base: Base, stops: npt.NDArray[Any]) -> Course:

@@ -48,7 +48,7 @@ class Stated:
     depart: Narrow
 
 
-class Runs:
+class ConsecutiveRecords:
     """Records whose trips follow one another, each with its calls in their order, as most feeds have them."""
 
     def __init__(self) -> None:
@@ -142,7 +142,7 @@ class CallReader:
 
     def in_runs(self, some: Iterable[Mapping[str, Texts]]) -> tuple[CallNumbers, Columns] | None:
         """The calls, and the other columns, without the two that put calls in order; None where they are needed."""
-        runs, parts, others = Runs(), Parts(("stop", "arrive", "depart")), Others(self.others)
+        runs, parts, others = ConsecutiveRecords(), Parts(("stop", "arrive", "depart")), Others(self.others)
         for piece in some:
             stated = self.stated(piece)
             if not runs.take(stated):

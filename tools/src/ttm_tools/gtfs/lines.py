@@ -16,7 +16,7 @@ GRID = 0.01  # kilometres on which the ends of pieces of lines are laid
 
 
 @dataclass(frozen=True)
-class Points:
+class LinePoints:
     """Points of the lines on which vehicles run, in kilometres: of which line, and where on it."""
 
     lines: list[str]  # the lines' names, a trip's or a shape's
@@ -25,30 +25,30 @@ class Points:
     x: Floats
     y: Floats
 
-    def of_lines(self, chosen: set[str]) -> "Points":
+    def of_lines(self, chosen: set[str]) -> "LinePoints":
         """The points of some lines alone."""
         kept = np.array([name in chosen for name in self.lines], dtype=np.bool_)[self.line]
-        return Points(self.lines, self.line[kept], self.sequence[kept], self.x[kept], self.y[kept])
+        return LinePoints(self.lines, self.line[kept], self.sequence[kept], self.x[kept], self.y[kept])
 
 
-def lines_of(folder: str, stops: Stops, projection: Projection) -> Points:
+def lines_of(folder: str, stops: Stops, projection: Projection) -> LinePoints:
     """The points of the lines of shapes.txt, or of the trips from stop to stop where the folder has none."""
     return (
         shape_points(folder, projection) if has_file(folder, "shapes.txt") else stop_points(folder, stops, projection)
     )
 
 
-def shape_points(folder: str, projection: Projection) -> Points:
+def shape_points(folder: str, projection: Projection) -> LinePoints:
     path = in_folder(folder, "shapes.txt")
     names = ("shape_pt_sequence", "shape_pt_lat", "shape_pt_lon")
     table = columns(path, ("shape_id", *names))
     sequence, latitudes, longitudes = (numbers_of(table[name], path, name) for name in names)
     line = table["shape_id"]
     east, north = projection.east(longitudes), projection.north(latitudes)
-    return Points(line.categories.tolist(), line.codes, sequence, east, north)
+    return LinePoints(line.categories.tolist(), line.codes, sequence, east, north)
 
 
-def stop_points(folder: str, stops: Stops, projection: Projection) -> Points:
+def stop_points(folder: str, stops: Stops, projection: Projection) -> LinePoints:
     path = in_folder(folder, "stop_times.txt")
     table = columns(path, ("trip_id", "stop_sequence", "stop_id"))
     line, called = table["trip_id"], table["stop_id"]
@@ -57,10 +57,10 @@ def stop_points(folder: str, stops: Stops, projection: Projection) -> Points:
     kept = (chosen >= 0) & np.append(stops.placed, False)[chosen]
     chosen = chosen[kept]
     x, y = projection.east(stops.longitudes[chosen]), projection.north(stops.latitudes[chosen])
-    return Points(line.categories.tolist(), line.codes[kept], sequence[kept], x, y)
+    return LinePoints(line.categories.tolist(), line.codes[kept], sequence[kept], x, y)
 
 
-def pieces(points: Points) -> npt.NDArray[np.int32]:
+def pieces(points: LinePoints) -> npt.NDArray[np.int32]:
     """What lies between points that follow one another on a line, each once, on a grid, whichever way it is run: rows
     of x, y, x, y on the grid.
     """

@@ -11,7 +11,7 @@ from .base import read_base
 from .carrying_out import Finished, carried_out
 from .limits import refuse_limits, sentences_on_days
 from ..opening.kinds import near
-from .plan_file import Plan, read_plan
+from .plan_file import PlanFile, read_plan
 from .report import sentences, unused, write_lists
 from .scenario_files import write_scenarios
 from .writing import Written, write_all, written_of
@@ -57,7 +57,7 @@ def write_arguments(written: Written, folder: Path, out: str) -> str:
     return text
 
 
-def write_report(plan: Plan, finished: list[Finished], lines: list[str], folder: Path) -> None:
+def write_report(plan: PlanFile, finished: list[Finished], lines: list[str], folder: Path) -> None:
     """Writes what is reported as a page of Markdown."""
     names = ", ".join(scenario.name for scenario in finished)
     text = [f"# Scenarios of {as_text(Path(plan.path).name)}: {names}", ""]

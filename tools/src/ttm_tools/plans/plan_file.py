@@ -20,7 +20,7 @@ class PlannedScenario:
 
 
 @dataclass(frozen=True)
-class Plan:
+class PlanFile:
     """What a plan says."""
 
     path: str
@@ -28,7 +28,7 @@ class Plan:
     stops: list[Entry] = field(default_factory=list)  # new ones
 
 
-def read_plan(path: str) -> Plan:
+def read_plan(path: str) -> PlanFile:
     """Reads a plan; its actions are looked at when they are carried out."""
     _, whole = read_entry(path)
     whole.only(("scenario", "stop"))
@@ -42,7 +42,7 @@ def read_plan(path: str) -> Plan:
             message = f"is scenario {number + 1}; ttm takes {MOST_SCENARIOS} in addition to base and today"
             raise scenario.entry.fault(message, "name", scenario.name)
         seen.add(scenario.name)
-    return Plan(path, scenarios, stops)
+    return PlanFile(path, scenarios, stops)
 
 
 def planned(entry: Entry) -> PlannedScenario:

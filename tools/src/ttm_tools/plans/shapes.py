@@ -15,7 +15,7 @@ from .state import Trip
 
 NAME = "shapes.txt"
 COLUMNS = ("shape_id", "shape_pt_lat", "shape_pt_lon", "shape_pt_sequence")
-Points = list[tuple[float, float]]  # latitude and longitude
+Coordinates = list[tuple[float, float]]  # latitude and longitude
 
 
 @dataclass
@@ -23,8 +23,8 @@ class Shapes:
     """The shapes of a feed, and those that are made."""
 
     base: Base
-    old: dict[str, Points]
-    new: dict[str, Points] = field(default_factory=dict)
+    old: dict[str, Coordinates]
+    new: dict[str, Coordinates] = field(default_factory=dict)
     known: dict[tuple[str, str, tuple[int, ...]], str] = field(default_factory=dict)
 
     def of(self, trip: Trip, route: str) -> str:
@@ -43,12 +43,12 @@ class Shapes:
                 self.new[name] = points
         return self.known[key]
 
-    def places(self, stops: list[int]) -> Points:
+    def places(self, stops: list[int]) -> Coordinates:
         where = self.base.places
         found = [(float(where.latitudes[stop]), float(where.longitudes[stop])) for stop in stops]
         return [point for point in found if not math.isnan(point[0])]
 
-    def points_of(self, trip: Trip, old: Points) -> Points:
+    def points_of(self, trip: Trip, old: Coordinates) -> Coordinates:
         """The line of a trip: its source's as far as it has the source's stops, and straight ones beyond."""
         stops = trip.stop.tolist()
         before = self.base.stops_of(trip.source) if trip.source >= 0 else []
@@ -71,7 +71,7 @@ class Shapes:
         return table_of(NAME, list(dict.fromkeys((*columns, *(COLUMNS if rows else ())))), rows)
 
 
-def nearest(points: Points, place: tuple[float, float]) -> int:
+def nearest(points: Coordinates, place: tuple[float, float]) -> int:
     """The point that is nearest to a place."""
     narrow = math.cos(math.radians(place[0]))
     found = np.array(points)

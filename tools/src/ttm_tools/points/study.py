@@ -30,7 +30,7 @@ FEED, POINTS, WORDS, LABELS, FOOTPATHS = "feed", "points.csv", "words.txt", "lab
 SCENARIOS, NEW_STOPS = "scenarios", "new_stops.csv"  # of a plan, beside its feed
 HELPS, HELPS_AFTER = "--leave-out leaves out points without a stop in reach; or ", "take parts of the region"
 PLACE = ("stop_name", "stop_lat", "stop_lon")
-Walker = Callable[[Stops, int | None], Walks]  # of the first so many stops with all alone, where it is said
+WalkFinder = Callable[[Stops, int | None], Walks]  # of the first so many stops with all alone, where it is said
 Flags = npt.NDArray[np.bool_]
 
 
@@ -70,7 +70,7 @@ class PointStudy:
         return PointStudy(self.points.only(places), self.file[places])
 
 
-def make(options: PointsOptions, walker: Walker) -> list[str]:
+def make(options: PointsOptions, walker: WalkFinder) -> list[str]:
     """Writes the folder, and says what was done, a sentence a line."""
     is_free(Path(options.out))
     stops = read_stops(options.feed)

@@ -19,7 +19,7 @@ from .refusals import NotAvailable
 from .task import RegionalTask
 
 QUARTERS = pandas.timedelta_range(start="0min", end="60min", freq="15min")
-Cells = npt.NDArray[np.int64]  # columns and rows of a grid
+GridCells = npt.NDArray[np.int64]  # columns and rows of a grid
 
 
 def limits_of(isochrones: Iterable[Any]) -> list[datetime.timedelta]:
@@ -60,13 +60,13 @@ class StreetGrid:
         return unary_union(squares).buffer(self.side, join_style=2).buffer(-self.side, join_style=2)
 
 
-def cells_along(begin: Floats, end: Floats, side: float) -> Cells:
+def cells_along(begin: Floats, end: Floats, side: float) -> GridCells:
     """The squares of a grid in which pieces of streets lie, looked at every quarter of a square."""
     counts = np.maximum(1, np.ceil(np.linalg.norm(end - begin, axis=1) / (side / 4))).astype(np.int64)
     piece = np.repeat(np.arange(len(counts)), counts)
     along = (np.arange(len(piece)) - np.repeat(np.cumsum(counts) - counts, counts)) / counts[piece]
     points = np.concatenate([begin[piece] + (end - begin)[piece] * along[:, None], end])
-    cells: Cells = np.unique(np.floor(points / side).astype(np.int64), axis=0)
+    cells: GridCells = np.unique(np.floor(points / side).astype(np.int64), axis=0)
     return cells
 
 

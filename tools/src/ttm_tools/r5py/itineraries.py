@@ -11,7 +11,7 @@ from shapely.geometry import LineString
 from ..walks import points_of
 from ..walks.ways import Ways, degrees_of
 from .doors import doors_of, network_at
-from .journeys import Journeys
+from .journeys import JourneySearch
 from .legs import DrawnLegs, Row
 from .matrix import ends_of
 from .modes import TransportMode
@@ -23,7 +23,7 @@ COLUMNS = (
     "from_id to_id option segment transport_mode departure_time distance travel_time wait_time feed agency_id route_id "
     "start_stop_id end_stop_id geometry"
 ).split()
-Pairs = Sequence[tuple[int, int]]  # places among the origins and the destinations
+PlacePairs = Sequence[tuple[int, int]]  # places among the origins and the destinations
 
 
 def pairs_of(origins: FramePlaces, destinations: FramePlaces, all_to_all: bool) -> list[tuple[int, int]]:
@@ -38,11 +38,15 @@ def pairs_of(origins: FramePlaces, destinations: FramePlaces, all_to_all: bool) 
 
 
 def ridden(
-    network: TransportNetwork, task: RegionalTask, feed: Prepared, ends: tuple[FramePlaces, FramePlaces], pairs: Pairs
+    network: TransportNetwork,
+    task: RegionalTask,
+    feed: Prepared,
+    ends: tuple[FramePlaces, FramePlaces],
+    pairs: PlacePairs,
 ) -> Iterator[Row]:
     """The journeys of each pair, which take vehicles or walk."""
     doors = doors_of(network, task, feed, *ends)
-    found = Journeys(doors, network_at(network, task, doors), task)
+    found = JourneySearch(doors, network_at(network, task, doors), task)
     numbers = [dict(zip(places.placed.tolist(), own)) for places, own in zip(ends, doors.ends)]
     options = {(one, other): found.between(numbers[0][one], numbers[1][other]) for one, other in pairs}
     drawn = DrawnLegs(network, found)
@@ -55,7 +59,7 @@ def ridden(
 
 
 def walked(
-    network: TransportNetwork, task: RegionalTask, ends: tuple[FramePlaces, FramePlaces], pairs: Pairs
+    network: TransportNetwork, task: RegionalTask, ends: tuple[FramePlaces, FramePlaces], pairs: PlacePairs
 ) -> Iterator[Row]:
     """The walk of each pair, where there is one."""
     begins, others = (points_of(np.nan_to_num(places.latitudes), np.nan_to_num(places.longitudes)) for places in ends)

@@ -32,7 +32,7 @@ class Journey:
     legs: list[Leg]
 
 
-class Journeys:
+class JourneySearch:
     """The timetable and the walks of a folder of places, and the searches in it."""
 
     def __init__(self, doors: Doors, network: Network, task: RegionalTask) -> None:

@@ -12,7 +12,7 @@ from ..measures.journeys import Leg
 from ..records import rows
 from ..walks import distances, points_of
 from ..walks.ways import Ways, degrees_of
-from .journeys import BACK, Journey, Journeys
+from .journeys import BACK, Journey, JourneySearch
 from .modes import TransportMode, mode_of
 from .network import TransportNetwork
 from .task import NEAR
@@ -38,7 +38,7 @@ def routes_of(folder: str) -> LegRoutes:
 class DrawnLegs:
     """The rows of journeys: what each leg is called, how long its way is, and how it goes."""
 
-    def __init__(self, network: TransportNetwork, found: Journeys) -> None:
+    def __init__(self, network: TransportNetwork, found: JourneySearch) -> None:
         self.network, self.found = network, found
         stops, timetable = found.timetable.all_stops, found.timetable
         chosen = [stops.places[name] for name in timetable.stops]

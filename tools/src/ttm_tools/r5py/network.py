@@ -22,7 +22,7 @@ from .cache import kept, key_of, sum_of_source
 from .modes import VEHICLES, ElevationCostFunction, TransportMode, mode_of
 from .places import DEGREES
 from .refusals import NotAvailable
-from .task import NEAR, Times
+from .task import NEAR, DepartureTimes
 
 MOST_NETWORKS = 4  # that are kept at once: of different points, dates or longest walks
 TOLD = "told.txt"
@@ -124,7 +124,7 @@ class TransportNetwork:
         key = key_of("routes", self.feed.key, *routes)
         return Prepared(key, made_feed(key, [self.feed.folder], Clip(routes=routes), False, False))
 
-    def network_of(self, folder: Path, key: str, times: Times, walk: int) -> Network:
+    def network_of(self, folder: Path, key: str, times: DepartureTimes, walk: int) -> Network:
         """The network of a folder of points on a date; the ones that were asked last are kept."""
         name = (key, times.date, walk)
         with self.lock:

@@ -17,7 +17,7 @@ NEAR = 1600.0  # metres to a street that are walked as they are: R5's radius of 
 
 
 @dataclass(frozen=True)
-class Times:
+class DepartureTimes:
     """When journeys begin."""
 
     date: datetime.date
@@ -93,7 +93,7 @@ def refuse_unusual(**arguments: tuple[object, object]) -> None:
             raise NotAvailable(name, f"{value!r} isn't to be had", "leave it out")
 
 
-def times_of(departure: datetime.datetime | None, window: datetime.timedelta) -> Times:
+def times_of(departure: datetime.datetime | None, window: datetime.timedelta) -> DepartureTimes:
     """The departures, one at each minute of the window, whose end isn't one. Without a departure they begin now."""
     first = datetime.datetime.now().replace(second=0, microsecond=0) if departure is None else departure
     if not isinstance(first, datetime.datetime):
@@ -107,7 +107,7 @@ def times_of(departure: datetime.datetime | None, window: datetime.timedelta) ->
     minute, count = first.hour * 60 + first.minute, window // MINUTE
     if minute + count > 24 * 60:
         raise NotAvailable("departure_time_window", f"{window} goes past midnight", "ask for each day by itself")
-    return Times(first.date(), minute, count)
+    return DepartureTimes(first.date(), minute, count)
 
 
 def percentiles_of(given: Sequence[int]) -> list[int]:

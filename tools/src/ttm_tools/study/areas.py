@@ -8,18 +8,18 @@ from ..naming import file_names
 from ..points.shown import points_in
 from ..views import isochrones
 from ..views.isochrones import AreaGround, Walking
-from .results import Records, Whole
+from .results import Records, StudyMatrix
 from .sources import Sources
 from .stages import Stage
 
 AREAS = "isochrones"
 
 
-def areas_stages(whole: Whole, known: Records) -> list[Stage]:
+def areas_stages(whole: StudyMatrix, known: Records) -> list[Stage]:
     return [areas_stage(whole)] if whole.study.results.isochrones else []
 
 
-def ground_for(whole: Whole) -> tuple[AreaGround, Walking]:
+def ground_for(whole: StudyMatrix) -> tuple[AreaGround, Walking]:
     """Where the places of the matrix lie, and how one walks on from them."""
     study, (matrix, stops) = whole.study, whole.open()
     there = stops.of(matrix.stops)
@@ -30,12 +30,12 @@ def ground_for(whole: Whole) -> tuple[AreaGround, Walking]:
     return ground, walking
 
 
-def streets_of(whole: Whole) -> Sources:
+def streets_of(whole: StudyMatrix) -> Sources:
     """The streets along which one walks on."""
     return Sources(whole.study.at, [path for path in [whole.study.walks.streets] if path])
 
 
-def areas_stage(whole: Whole) -> Stage:
+def areas_stage(whole: StudyMatrix) -> Stage:
     """A file for each origin, with all scenarios and bands."""
     study, inputs = whole.study, whole.inputs
     settings = study.results

@@ -15,7 +15,7 @@ from ..views.nearest import Nearest
 from ..views.pictures import PictureOptions
 from .areas import ground_for, streets_of
 from .counted import COUNTED
-from .results import STOPS, Records, Whole
+from .results import STOPS, Records, StudyMatrix
 from .sources import Sources
 from .stages import Stage
 
@@ -38,7 +38,7 @@ class StudyMap:
         return self.kind == "difference"
 
 
-def maps_of(whole: Whole) -> list[StudyMap]:
+def maps_of(whole: StudyMatrix) -> list[StudyMap]:
     """All maps of a study."""
     base = whole.inputs.base
     drawn = [StudyMap(f"{MAPS}/access.png", "access", base)]
@@ -51,7 +51,7 @@ def maps_of(whole: Whole) -> list[StudyMap]:
     return drawn + maps_of_nearest(whole) + maps_of_areas(whole)
 
 
-def maps_of_nearest(whole: Whole) -> list[StudyMap]:
+def maps_of_nearest(whole: StudyMatrix) -> list[StudyMap]:
     """Maps of the time to the first count of the nearest, of each thing that is counted."""
     if not whole.study.results.nearest:
         return []
@@ -65,7 +65,7 @@ def maps_of_nearest(whole: Whole) -> list[StudyMap]:
     return drawn
 
 
-def maps_of_areas(whole: Whole) -> list[StudyMap]:
+def maps_of_areas(whole: StudyMatrix) -> list[StudyMap]:
     """Maps of the areas that are reached from each named place, in each scenario."""
     drawn, base = list[StudyMap](), whole.inputs.base
     ends = ["", *(f"_{name}" for name in whole.others.values())]
@@ -77,11 +77,11 @@ def maps_of_areas(whole: Whole) -> list[StudyMap]:
     return drawn
 
 
-def maps_stages(whole: Whole, known: Records) -> list[Stage]:
+def maps_stages(whole: StudyMatrix, known: Records) -> list[Stage]:
     return [maps_stage(whole)] if whole.study.results.maps else []
 
 
-def maps_stage(whole: Whole) -> Stage:
+def maps_stage(whole: StudyMatrix) -> Stage:
     drawn = maps_of(whole)
 
     def make() -> list[str]:
@@ -104,14 +104,14 @@ def maps_stage(whole: Whole) -> Stage:
     return Stage("maps", facts, [MAPS], make, refuse_changed=sources.refuse_changed)
 
 
-def draw(whole: Whole, drawn: StudyMap, folder: Path, walked: Callable[[], tuple[AreaGround, Walking]]) -> None:
+def draw(whole: StudyMatrix, drawn: StudyMap, folder: Path, walked: Callable[[], tuple[AreaGround, Walking]]) -> None:
     """Draws one map into a folder."""
     figure = areas_drawn(whole, drawn, walked()) if drawn.kind == "isochrones" else classes_drawn(whole, drawn)
     with output(str(folder / Path(drawn.file).name)) as file:
         figure.savefig(file, format="png", dpi="figure")
 
 
-def options_of(whole: Whole, drawn: StudyMap) -> PictureOptions:
+def options_of(whole: StudyMatrix, drawn: StudyMap) -> PictureOptions:
     """What of the matrix is drawn."""
     study, inputs = whole.study, whole.inputs
     what = "points" if "points" in inputs.records else "stops"
@@ -119,7 +119,7 @@ def options_of(whole: Whole, drawn: StudyMap) -> PictureOptions:
     return PictureOptions(drawn.scenario, inputs.base, study.share, study.within, breaks, whole.unit, what)
 
 
-def sheet_of(whole: Whole, drawn: StudyMap) -> Sheet:
+def sheet_of(whole: StudyMatrix, drawn: StudyMap) -> Sheet:
     """What stands around a map, with the lines that a scenario takes out or brings."""
     inputs = whole.inputs
     edits = [whole.at(inputs.edits[name]) for name in (inputs.base, drawn.scenario) if name in inputs.edits]
@@ -128,14 +128,14 @@ def sheet_of(whole: Whole, drawn: StudyMap) -> Sheet:
     return Sheet(None, whole.study.about.note, edits=own, planned=planned)
 
 
-def areas_drawn(whole: Whole, drawn: StudyMap, walked: tuple[AreaGround, Walking]) -> Any:
+def areas_drawn(whole: StudyMatrix, drawn: StudyMap, walked: tuple[AreaGround, Walking]) -> Any:
     """The areas that are reached from a place."""
     matrix, stops = whole.open()
     areas = Areas(drawn.origin or "", options_of(whole, drawn), *walked)
     return figure_of_isochrones(matrix, stops, whole.at(whole.inputs.feed), sheet_of(whole, drawn), areas)
 
 
-def classes_drawn(whole: Whole, drawn: StudyMap) -> Any:
+def classes_drawn(whole: StudyMatrix, drawn: StudyMap) -> Any:
     """A map of classes of stops or points."""
     matrix, stops = whole.open()
     sought = None

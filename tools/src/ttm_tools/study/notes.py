@@ -11,7 +11,7 @@ from .. import __version__
 from ..faults import BadInput
 from ..opening.paths import regular
 from ..opening.texts import read_json
-from .results import Whole
+from .results import StudyMatrix
 from .stages import Record, as_text, logged, sum_of_tools, write_settled
 from .ttm import Version, facts_of
 from .windows import inputs_of, matrix_of
@@ -33,7 +33,7 @@ def versions(ttm: Sequence[str], program: str) -> dict[str, Any]:
     return known
 
 
-def write_notes(whole: Whole, records: dict[str, Record], version: Version, parts: int) -> None:
+def write_notes(whole: StudyMatrix, records: dict[str, Record], version: Version, parts: int) -> None:
     """Writes what was done, unless that stands there already."""
     study, inputs = whole.study, whole.inputs
     all_records = {**inputs.records, **records}

@@ -8,7 +8,7 @@ from ..points.study import POINTS
 from ..views.page.make import PageSettings, page_of
 from .areas import streets_of
 from .counted import COUNTED, PEOPLE
-from .results import Records, Whole
+from .results import Records, StudyMatrix
 from .stages import Stage
 
 PAGE = "page.html"
@@ -16,11 +16,11 @@ LEAST, MOST = 1.0, 250.0  # minutes that a limit of the page may have
 SEED = 1  # of the draw of origins where there is no room for all
 
 
-def page_stages(whole: Whole, known: Records) -> list[Stage]:
+def page_stages(whole: StudyMatrix, known: Records) -> list[Stage]:
     return [page_stage(whole)] if whole.study.results.page else []
 
 
-def page_stage(whole: Whole) -> Stage:
+def page_stage(whole: StudyMatrix) -> Stage:
     study, inputs = whole.study, whole.inputs
 
     def make() -> list[str]:
@@ -41,7 +41,7 @@ def page_stage(whole: Whole) -> Stage:
     return Stage("page", {**whole.depends, **facts}, [PAGE], make, refuse_changed=sources.refuse_changed)
 
 
-def settings_of(whole: Whole) -> PageSettings:
+def settings_of(whole: StudyMatrix) -> PageSettings:
     """What the page is to show."""
     study, inputs = whole.study, whole.inputs
     counted = [whole.at(COUNTED)] if "counted" in inputs.records else []

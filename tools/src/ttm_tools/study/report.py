@@ -12,7 +12,7 @@ from .areas import AREAS
 from .document import Document
 from .maps import StudyMap, maps_of
 from .page import PAGE
-from .results import ACCESS_TABLE, EQUITY_TABLE, Records, Whole
+from .results import ACCESS_TABLE, EQUITY_TABLE, Records, StudyMatrix
 from .stages import Stage
 from .window_report import write_windows
 from .settings import Study
@@ -36,7 +36,7 @@ PROVED = (
 )
 
 
-def report_stages(whole: Whole, records: Records) -> list[Stage]:
+def report_stages(whole: StudyMatrix, records: Records) -> list[Stage]:
     """The report in both forms."""
 
     def make() -> list[str]:
@@ -53,7 +53,7 @@ def report_stages(whole: Whole, records: Records) -> list[Stage]:
     return [Stage("report", {**whole.depends, **facts, "sources": whole.inputs.sources}, [MARKDOWN, HTML], make)]
 
 
-def report_of(whole: Whole, records: Records) -> Document:
+def report_of(whole: StudyMatrix, records: Records) -> Document:
     study, inputs = whole.study, whole.inputs
     document = Document(study.title, folder=study.folder)
     for text in (study.about.question, study.about.note):
@@ -92,7 +92,7 @@ def day_shown(date: str) -> str:
     return TOLD.replace(".txt", f"_{date}.txt")
 
 
-def write_figures(document: Document, whole: Whole, records: Records) -> None:
+def write_figures(document: Document, whole: StudyMatrix, records: Records) -> None:
     """Access, winners and losers, equity and maps, as far as there are any."""
     study = whole.study
     if "access" in records:
@@ -132,7 +132,7 @@ def told_of(drawn: StudyMap) -> str:
     return from_there + (f", the nearest {shown(drawn.nearest)}" if drawn.nearest else "")
 
 
-def means(whole: Whole) -> Iterator[list[str]]:
+def means(whole: StudyMatrix) -> Iterator[list[str]]:
     """The mean access of each scenario, by what is counted and within which limit."""
     table = read_access(whole.at(ACCESS_TABLE))
     places = [table.scenario(name) for name in whole.scenarios]
@@ -165,7 +165,7 @@ def as_phrase(name: str) -> str:
     return name.replace("_", " ")
 
 
-def write_changes(document: Document, whole: Whole, path: str) -> None:
+def write_changes(document: Document, whole: StudyMatrix, path: str) -> None:
     """The origins that lose most, and those that gain most: the table has losers first, and then winners."""
     _, header = next(records_in(whole.at(path)))
     place = header.index("change")

@@ -7,7 +7,7 @@ from dataclasses import dataclass
 from typing import TYPE_CHECKING, Callable
 
 if TYPE_CHECKING:
-    from .results import Records, Whole
+    from .results import Records, StudyMatrix
     from .stages import Folder, Stage
 
 
@@ -19,9 +19,9 @@ class StudyResult:
     what: str
     function: str
 
-    def stages(self) -> "Callable[[Whole, Records], list[Stage]]":
+    def stages(self) -> "Callable[[StudyMatrix, Records], list[Stage]]":
         module, name = self.function.split(".")
-        function: "Callable[[Whole, Records], list[Stage]]" = getattr(
+        function: "Callable[[StudyMatrix, Records], list[Stage]]" = getattr(
             importlib.import_module(f".{module}", __package__), name
         )
         return function
@@ -68,7 +68,7 @@ RESULTS = (
 )
 
 
-def make_results(whole: "Whole", folder: "Folder", records: "Records") -> "Records":
+def make_results(whole: "StudyMatrix", folder: "Folder", records: "Records") -> "Records":
     """Makes all results behind the matrices, whose records are given; those of all are returned."""
     known = dict(records)
     for result in RESULTS:

@@ -35,7 +35,7 @@ LOSE = 10.0  # percent of the base's access, from which on somebody counts as a 
 
 
 @dataclass(frozen=True)
-class Whole:
+class StudyMatrix:
     """The matrix of a study, on the disk, and what made it."""
 
     study: Study
@@ -104,30 +104,30 @@ def names_of_scenarios(scenarios: Sequence[str], base: str) -> dict[str, str]:
     return file_names([name for name in scenarios if name != base], ("", PAIRS))
 
 
-def access_stages(whole: Whole, known: Records) -> list[Stage]:
+def access_stages(whole: StudyMatrix, known: Records) -> list[Stage]:
     return [access_stage(whole)] if whole.study.results.access else []
 
 
-def nearest_stages(whole: Whole, known: Records) -> list[Stage]:
+def nearest_stages(whole: StudyMatrix, known: Records) -> list[Stage]:
     return [nearest_stage(whole)] if whole.study.results.nearest else []
 
 
-def people_stages(whole: Whole, known: Records) -> list[Stage]:
+def people_stages(whole: StudyMatrix, known: Records) -> list[Stage]:
     """How access is spread over people, and how many are within bands."""
     return stages_of_people(whole, known.get("access"), PeopleTables("", whole.study.results.bands))
 
 
-def nearest_people_stages(whole: Whole, known: Records) -> list[Stage]:
+def nearest_people_stages(whole: StudyMatrix, known: Records) -> list[Stage]:
     """The same of the time to the nearest."""
     return stages_of_people(whole, known.get("nearest"), PeopleTables("_nearest", whole.study.results.nearest_bands))
 
 
-def compare_stages(whole: Whole, known: Records) -> list[Stage]:
+def compare_stages(whole: StudyMatrix, known: Records) -> list[Stage]:
     others = whole.others.items() if whole.study.results.compare else ()
     return [compare_stage(whole, scenario, name) for scenario, name in others]
 
 
-def access_stage(whole: Whole) -> Stage:
+def access_stage(whole: StudyMatrix) -> Stage:
     """The table of access: all scenarios, shares, opportunities and cutoffs."""
     study, settings, counted = whole.study, whole.study.results, whole.inputs.records.get("counted")
 
@@ -149,7 +149,7 @@ def access_stage(whole: Whole) -> Stage:
     return Stage("access", facts, [ACCESS_TABLE], make)
 
 
-def nearest_stage(whole: Whole) -> Stage:
+def nearest_stage(whole: StudyMatrix) -> Stage:
     """The table of times to the nearest: all scenarios, shares and opportunities."""
     settings, counted = whole.study.results, whole.inputs.records.get("counted")
 
@@ -183,7 +183,7 @@ class PeopleTables:
         return f"bands{self.end}"
 
 
-def stages_of_people(whole: Whole, table: Record | None, names: PeopleTables) -> list[Stage]:
+def stages_of_people(whole: StudyMatrix, table: Record | None, names: PeopleTables) -> list[Stage]:
     """The stages that count people by a table of access, or of the nearest."""
     people = whole.inputs.records.get("people")
     if table is None or people is None:
@@ -191,7 +191,7 @@ def stages_of_people(whole: Whole, table: Record | None, names: PeopleTables) ->
     return [equity_stage(whole, table, people, names.end), *bands_stages(whole, table, people, names)]
 
 
-def equity_stage(whole: Whole, access: Record, people: Record, end: str) -> Stage:
+def equity_stage(whole: StudyMatrix, access: Record, people: Record, end: str) -> Stage:
     """How access, or the time to the nearest, is spread over people."""
     (read,) = access.outputs
     csv, page = f"equity{end}.csv", f"equity{end}.md"
@@ -209,7 +209,7 @@ def equity_stage(whole: Whole, access: Record, people: Record, end: str) -> Stag
     return Stage(f"equity{end}", depends, [csv, page], make)
 
 
-def bands_stages(whole: Whole, access: Record, people: Record, names: PeopleTables) -> list[Stage]:
+def bands_stages(whole: StudyMatrix, access: Record, people: Record, names: PeopleTables) -> list[Stage]:
     """How many people are within bands of access, or of the time to the nearest; of each thing a picture, too."""
     if not names.bands:
         return []
@@ -230,7 +230,7 @@ def bands_stages(whole: Whole, access: Record, people: Record, names: PeopleTabl
     return [Stage(names.bands_name, depends, [csv, *pictures], make)]
 
 
-def draw_bands(whole: Whole, folder: str, table: AccessTable, people: Counts, limits: Sequence[float]) -> None:
+def draw_bands(whole: StudyMatrix, folder: str, table: AccessTable, people: Counts, limits: Sequence[float]) -> None:
     """Draws the bars of each thing that is counted."""
     with many_written_aside(whole.at(folder)) as aside:
         for name, path in bands_pictures(folder, table).items():
@@ -245,7 +245,7 @@ def bands_pictures(folder: str, table: AccessTable) -> dict[str, str]:
     return {name: f"{folder}/{file}.png" for name, file in file_names(names).items()}
 
 
-def compare_stage(whole: Whole, scenario: str, name: str) -> Stage:
+def compare_stage(whole: StudyMatrix, scenario: str, name: str) -> Stage:
     """Winners and losers of a scenario beside the base."""
     study, settings = whole.study, whole.study.results
     by_origin, by_pair = f"compare_{name}.csv", f"compare_{name}{PAIRS}.csv"

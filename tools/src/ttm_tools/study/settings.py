@@ -180,7 +180,7 @@ class PartSettings:
 
 
 @dataclass(frozen=True)
-class Question:
+class DayWindow:
     """A window of a day, which has a matrix of its own."""
 
     date: str  # YYYYMMDD
@@ -234,13 +234,13 @@ class Study:
         return self.about.title or self.path.stem
 
     @property
-    def questions(self) -> list[Question]:
+    def questions(self) -> list[DayWindow]:
         """The windows of all days, where several are named; the first one's matrix is that of maps and page."""
         run = self.run
         if not run.dates and not run.windows:
             return []
         windows = run.windows or (Window(f"{run.first}-{run.last}".replace(":", ""), run.first, run.last),)
-        return [Question(date, window) for date in run.dates or (run.date,) for window in windows]
+        return [DayWindow(date, window) for date in run.dates or (run.date,) for window in windows]
 
     @property
     def share(self) -> int:

@@ -4,7 +4,7 @@ from typing import Iterator, Sequence
 
 from ..records import records as records_in, shown
 from .document import Document
-from .results import Whole
+from .results import StudyMatrix
 from .stages import Record
 from .window_results import HEADS, PICTURES, kinds_drawn, path_of, pictures_of
 from .windows import WINDOWS
@@ -18,7 +18,7 @@ TOLD = {
 }
 
 
-def write_windows(document: Document, whole: Whole, records: dict[str, Record]) -> None:
+def write_windows(document: Document, whole: StudyMatrix, records: dict[str, Record]) -> None:
     """The windows with their matrices, access in each of them, and pictures."""
     questions = whole.study.questions
     if not questions:

@@ -21,10 +21,10 @@ from ..views.access import ACCESS, NEAREST, Measured, decimal, long_rows, measur
 from ..views.windows import WindowColumn, FigureLabels, figure_by_time, figure_of_heat, figure_of_maps
 from .counted import COUNTED, PEOPLE
 from .joining import MATRIX
-from .results import LOSE, POINTS, STOPS, Records, Whole
+from .results import LOSE, POINTS, STOPS, Records, StudyMatrix
 from .stages import Stage
 from .windows import WINDOWS, matrix_of
-from .settings import Question
+from .settings import DayWindow
 
 HEADS = ["date", "window", "from", "to"]
 EACH = "origins"  # whom the means count where no people are named: each origin once
@@ -48,14 +48,14 @@ class Of:
         return f"{WINDOWS}/{self.kind}.csv", f"{WINDOWS}/equity{end}.csv"
 
 
-def window_stages(whole: Whole, known: Records) -> list[Stage]:
+def window_stages(whole: StudyMatrix, known: Records) -> list[Stage]:
     """Tables and pictures, where several windows or days are named."""
     settings = whole.study.results
     kinds = [*([of_access(whole)] if settings.access else []), *([of_nearest(whole)] if settings.nearest else [])]
     return [tables_stage(whole, of) for of in kinds] if whole.study.questions else []
 
 
-def of_access(whole: Whole) -> Of:
+def of_access(whole: StudyMatrix) -> Of:
     settings, cutoffs = whole.study.results, whole.study.cutoffs
     decay = Decay(settings.decay, settings.decay_value)
 
@@ -65,7 +65,7 @@ def of_access(whole: Whole) -> Of:
     return Of("access", ACCESS, cutoffs, measure)
 
 
-def of_nearest(whole: Whole) -> Of:
+def of_nearest(whole: StudyMatrix) -> Of:
     limits = whole.study.results.nearest
 
     def measure(matrix: Matrix, scenario: str, share: Share, counts: Counts) -> Floats:
@@ -74,24 +74,24 @@ def of_nearest(whole: Whole) -> Of:
     return Of("nearest", NEAREST, limits, measure)
 
 
-def path_of(whole: Whole, question: Question) -> str:
+def path_of(whole: StudyMatrix, question: DayWindow) -> str:
     """The matrix of a window."""
     return MATRIX if question == whole.study.questions[0] else matrix_of(question)
 
 
-def head_of(question: Question) -> list[object]:
+def head_of(question: DayWindow) -> list[object]:
     """What stands in front of each line of a window."""
     return [question.day, question.window.name, question.window.first, question.window.last]
 
 
-def tables_stage(whole: Whole, of: Of) -> Stage:
+def tables_stage(whole: StudyMatrix, of: Of) -> Stage:
     """The table by origin, and that by people; of access the pictures, too."""
     study, records = whole.study, whole.inputs.records
     by_origin, by_people = of.files
     pictures = [PICTURES] if study.results.maps and of.heads == ACCESS else []
 
     def make() -> list[str]:
-        tables = dict[Question, AccessTable]()
+        tables = dict[DayWindow, AccessTable]()
         header = [*HEADS, "scenario", "id", "opportunity", "percentile", *of.heads]
         with output(whole.at(by_origin)) as file:
             write_rows(file, header, lines_of(whole, of, tables))
@@ -114,7 +114,7 @@ def tables_stage(whole: Whole, of: Of) -> Stage:
     return Stage(f"windows_{of.kind}", facts, [by_origin, by_people, *pictures], make)
 
 
-def lines_of(whole: Whole, of: Of, tables: dict[Question, AccessTable]) -> Iterator[list[object]]:
+def lines_of(whole: StudyMatrix, of: Of, tables: dict[DayWindow, AccessTable]) -> Iterator[list[object]]:
     """The lines of the table by origin, window by window; each window's numbers are kept for the table by people."""
     for question in whole.study.questions:
         path = path_of(whole, question)
@@ -141,14 +141,14 @@ def table_of(path: str, found: Sequence[Measured], counts: Counts, of: Of) -> Ac
     return AccessTable(path, [of.scenario for of in found], kinds, found[0].origins, numbers, of.heads == NEAREST)
 
 
-def people_of(whole: Whole, origins: Sequence[str]) -> Counts:
+def people_of(whole: StudyMatrix, origins: Sequence[str]) -> Counts:
     """Who lives at the origins; where no people are named, one at each."""
     if "people" in whole.inputs.records:
         return read_counts([whole.at(PEOPLE)], origins, "origin of the study")
     return Counts([EACH], np.ones((len(origins), 1)))
 
 
-def write_spread(out: BinaryIO, tables: dict[Question, AccessTable], whole: Whole) -> None:
+def write_spread(out: BinaryIO, tables: dict[DayWindow, AccessTable], whole: StudyMatrix) -> None:
     """How what is measured is spread over people, window by window."""
     lines, header = list[list[object]](), list[str]()
     for question, table in tables.items():
@@ -158,7 +158,7 @@ def write_spread(out: BinaryIO, tables: dict[Question, AccessTable], whole: Whol
     write_rows(out, [*HEADS, *header], lines)
 
 
-def kinds_drawn(whole: Whole) -> list[AccessKind]:
+def kinds_drawn(whole: StudyMatrix) -> list[AccessKind]:
     """What is drawn of each thing that is counted."""
     cutoffs = [decimal(cutoff) for cutoff in whole.study.cutoffs]
     share = next(iter(whole.whole().shares))
@@ -169,14 +169,14 @@ def kinds_drawn(whole: Whole) -> list[AccessKind]:
     ]
 
 
-def pictures_of(whole: Whole) -> dict[str, list[str]]:
+def pictures_of(whole: StudyMatrix) -> dict[str, list[str]]:
     """The pictures of each thing that is counted: by time, the heat map, and the maps."""
     names = columns_of(whole.at(COUNTED)) if "counted" in whole.inputs.records else [STOPS]
     called = file_names(names, [f"_{kind}" for kind in KINDS])
     return {name: [f"{PICTURES}/{file}_{kind}.png" for kind in KINDS] for name, file in called.items()}
 
 
-def draw_all(whole: Whole, tables: dict[Question, AccessTable]) -> None:
+def draw_all(whole: StudyMatrix, tables: dict[DayWindow, AccessTable]) -> None:
     """Draws the pictures of each thing that is counted, for the first group of people."""
     first = next(iter(tables.values()))
     people = people_of(whole, first.origins)
@@ -198,6 +198,6 @@ def draw_all(whole: Whole, tables: dict[Question, AccessTable]) -> None:
                     figure.savefig(file, format="png", dpi="figure")
 
 
-def column_of(question: Question, numbers: Floats) -> WindowColumn:
+def column_of(question: DayWindow, numbers: Floats) -> WindowColumn:
     window = question.window
     return WindowColumn(question.day, window.name, window.first, window.last, numbers)

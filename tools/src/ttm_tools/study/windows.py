@@ -15,18 +15,18 @@ from .running import refuse_failed
 from .sources import refuse_other_sums
 from .stages import Folder, Record, Stage, room
 from .ttm import Version
-from .settings import Question, Study
+from .settings import DayWindow, Study
 
 WINDOWS = "windows"  # their folder
 FORM = 1  # of how the parts are joined
 
 
-def matrix_of(question: Question) -> str:
+def matrix_of(question: DayWindow) -> str:
     """Where the matrix of a window lies that isn't the first."""
     return f"{WINDOWS}/{question.name}.omx"
 
 
-def inputs_of(inputs: Inputs, question: Question) -> Inputs:
+def inputs_of(inputs: Inputs, question: DayWindow) -> Inputs:
     """The same inputs for a window and its day."""
     window = (question.window.first, question.window.last)
     return replace(inputs, run=replace(inputs.run, date=question.date, window=window))
@@ -55,7 +55,7 @@ def make_windows(study: Study, inputs: Inputs, folder: Folder, machine: Machine)
     return records
 
 
-def window_stage(study: Study, inputs: Inputs, question: Question, machine: Machine, network: KeptNetwork) -> Stage:
+def window_stage(study: Study, inputs: Inputs, question: DayWindow, machine: Machine, network: KeptNetwork) -> Stage:
     """The matrix of a window, by as many parts of the origins as that of the first."""
     version, means = machine.version, machine.means
     task = inputs_of(inputs, question)

@@ -19,7 +19,7 @@ from .joining import CSV, MATRIX, join_parts
 from .notes import write_notes
 from .report import TOLD, day_shown
 from .result_list import make_results
-from .results import Whole, names_of_scenarios
+from .results import StudyMatrix, names_of_scenarios
 from .running import refuse_failed, run_parts
 from .sources import refuse_other_sums
 from .stages import RECORDS, Folder, Record, Stage, held, log, refuse_folder, room
@@ -67,7 +67,7 @@ def make_in(folder: Folder, study: Study, program: str, means: Means) -> None:
     sum_of_matrix = records["matrix"].outputs[MATRIX]
     sums = {name: was for record in windows.values() for name, was in record.outputs.items()}
     scenarios = open_matrix(inputs.at(MATRIX)).scenarios
-    whole = Whole(study, inputs, sum_of_matrix, scenarios, sums, version.lines)
+    whole = StudyMatrix(study, inputs, sum_of_matrix, scenarios, sums, version.lines)
     records = make_results(whole, folder, records)
     write_notes(whole, records, version, parts_noted(path))
     sweep(path, inside_parts=True)

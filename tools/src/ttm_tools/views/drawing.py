@@ -37,7 +37,7 @@ LETTERS: dict[str, Any] = {
     "path_effects": [withStroke(linewidth=2.5, foreground="white")],
 }
 Pieces = npt.NDArray[np.int32]
-Points = npt.NDArray[np.float64]  # kilometres east and north, NaN where a stop has no place
+MapPoints = npt.NDArray[np.float64]  # kilometres east and north, NaN where a stop has no place
 
 
 @dataclass(frozen=True)
@@ -111,7 +111,7 @@ def write_notes(figure: Figure, picture: Picture, note: str) -> None:
     figure.text(beside, low, notes, fontsize=8, color="#555555", va="bottom", parse_math=False)
 
 
-def limits_of(points: Points) -> tuple[float, float, float, float]:
+def limits_of(points: MapPoints) -> tuple[float, float, float, float]:
     """Where the map begins and ends, in kilometres (left, right, bottom, top): no strip, and with room below for the
     scale.
     """
@@ -162,7 +162,7 @@ def order_of_drawing(marks: Sequence[Mark]) -> list[int]:
     return sorted(range(len(marks)), key=lambda place: (marks[place].size, -place))
 
 
-def drawn(picture: Picture, points: Points) -> npt.NDArray[np.bool_]:
+def drawn(picture: Picture, points: MapPoints) -> npt.NDArray[np.bool_]:
     """Which stops are drawn as marks of their class: those with a place, but for the origin."""
     is_drawn: npt.NDArray[np.bool_] = ~np.isnan(points[:, 0])
     if picture.origin is not None:
@@ -183,7 +183,7 @@ def shaped(picture: Picture, cells: Cells) -> Picture:
     return replace(picture, marks=[replace(mark, shape="s", size=1.0) for mark in picture.marks])
 
 
-def draw_cells(axes: Any, picture: Picture, points: Points, cells: Cells) -> None:
+def draw_cells(axes: Any, picture: Picture, points: MapPoints, cells: Cells) -> None:
     """Cells in the colours of their classes, below the lines; where some lie over others, what changes is on top."""
     here = drawn(picture, points) & cells.are_there
     for above, place in enumerate(order_of_drawing(picture.marks)):
@@ -191,7 +191,7 @@ def draw_cells(axes: Any, picture: Picture, points: Points, cells: Cells) -> Non
         cells.draw(axes, chosen, points, colour_of(picture.marks[place]), 0.5 + above / 1000)
 
 
-def draw_stops(axes: Any, picture: Picture, points: Points) -> None:
+def draw_stops(axes: Any, picture: Picture, points: MapPoints) -> None:
     here = drawn(picture, points)
     faint = [place for place, mark in enumerate(picture.marks) if mark == NO_ORIGIN]
     size = mark_size(int((~np.isnan(points[:, 0]) & ~np.isin(picture.classes, faint)).sum()))
@@ -204,7 +204,7 @@ def draw_stops(axes: Any, picture: Picture, points: Points) -> None:
             axes.scatter(chosen[:, 0], chosen[:, 1], **how, **edge)
 
 
-def draw_names(axes: Any, picture: Picture, stops: Stops, points: Points) -> None:
+def draw_names(axes: Any, picture: Picture, stops: Stops, points: MapPoints) -> None:
     """A star and a name at the origin, and names at those stops that lose most, as far as the names don't cover one
     another.
     """
@@ -242,7 +242,7 @@ def draw_scale(axes: Any) -> None:
 
 
 def draw_key(
-    figure: Figure, corner: tuple[float, float], picture: Picture, points: Points, lines: Sequence[MapLines]
+    figure: Figure, corner: tuple[float, float], picture: Picture, points: MapPoints, lines: Sequence[MapLines]
 ) -> None:
     """The classes with how many stops each has; one without stops is left out."""
     counts = np.bincount(picture.classes[drawn(picture, points)], minlength=len(picture.marks)).tolist()

@@ -9,7 +9,7 @@ from typing import Iterator, Sequence
 import numpy as np
 import numpy.typing as npt
 
-from ..gtfs.lines import Points, Trips, pieces, read_trips, removed_trips
+from ..gtfs.lines import LinePoints, Trips, pieces, read_trips, removed_trips
 from ..matrices import TODAY
 from . import drawing
 
@@ -52,7 +52,7 @@ def changed_trips(removed: dict[str, set[str]], base: str | None) -> tuple[set[s
 
 
 def lines_of_edits(
-    points: Points, folder: str, shaped: bool, edits: Sequence[str], base: str | None
+    points: LinePoints, folder: str, shaped: bool, edits: Sequence[str], base: str | None
 ) -> list[drawing.MapLines]:
     """The lines of a feed, and over them those of the trips that scenario files take out and add."""
     lines = [drawing.running(pieces(points))]
@@ -66,7 +66,7 @@ def lines_of_edits(
     return lines
 
 
-def lines_of_plan(points: Points, folder: str, shaped: bool, planned: Planned) -> list[drawing.MapLines]:
+def lines_of_plan(points: LinePoints, folder: str, shaped: bool, planned: Planned) -> list[drawing.MapLines]:
     """The lines of two scenarios of a plan, without those that others add; and over them what changes from today to the
     scenario.
     """
@@ -78,7 +78,7 @@ def lines_of_plan(points: Points, folder: str, shaped: bool, planned: Planned) -
     return [drawing.running(running), *changes(gone, new, planned.loses)]
 
 
-def of_trips(points: Points, trips: Trips, chosen: set[str], shaped: bool) -> Points:
+def of_trips(points: LinePoints, trips: Trips, chosen: set[str], shaped: bool) -> LinePoints:
     return points.of_lines(trips.lines(chosen, shaped))
 
 

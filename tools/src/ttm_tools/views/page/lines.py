@@ -8,7 +8,7 @@ import numpy as np
 import numpy.typing as npt
 
 from ...faults import BadInput
-from ...gtfs.lines import GRID, Points, Trips, lines_of, pieces, read_trips, removed_trips
+from ...gtfs.lines import GRID, LinePoints, Trips, lines_of, pieces, read_trips, removed_trips
 from ...gtfs.stops import Projection, Stops, has_file
 from ...matrices import TODAY
 from ...records import shown
@@ -41,7 +41,7 @@ class Lines:
 class DrawnLines:
     """What lines are drawn of."""
 
-    points: Points
+    points: LinePoints
     trips: Trips
     shaped: bool  # whether the lines are those of shapes
     projection: Projection
