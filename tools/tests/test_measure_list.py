@@ -1,15 +1,19 @@
 """Measures and the columns of their tables are listed once: options and the page of measures have them all."""
 
+from dataclasses import fields
 from pathlib import Path
 from typing import Any
 
 import pytest
 
-from ttm_tools.measures.columns import header, markdown_table
+from ttm_tools.measures.columns import TableColumn, explained, header, markdown_table, names_of
+from ttm_tools.measures.comparison import KINDS
 from ttm_tools.measures.equity import Equity
 from ttm_tools.measures.measure_list import COMPETITIONS, DECAYS, FAIRNESS, Measure, markdown_table as measure_table
 from ttm_tools.measures.nearness import Nearness
 from ttm_tools.measures.service import Service
+from ttm_tools.measures.table_list import BY_ORIGIN, EXPLAINED, JOURNEYS
+from ttm_tools.views.itineraries import JourneyParts
 
 from helpers import Room
 
@@ -36,3 +40,16 @@ def test_the_page_has_all_columns(kind: type[Any]) -> None:
     table = markdown_table(kind)
     assert table in PAGE.read_text()
     assert all(f"`{name}`" in table for name in header(kind) if name != "people")
+
+
+@pytest.mark.parametrize("columns", EXPLAINED.values(), ids=EXPLAINED)
+def test_the_page_explains_the_columns_of_printed_tables(columns: tuple[TableColumn, ...]) -> None:
+    table = explained(columns)
+    assert table in PAGE.read_text()
+    assert all((f"`{column.name}`" in table) == bool(column.what) for column in columns)
+
+
+def test_columns_stand_in_the_order_in_which_lines_have_them() -> None:
+    assert names_of(BY_ORIGIN)[-len(KINDS) :] == [kind.replace(" ", "_") for kind in KINDS]
+    parts = [f"{part.name}_seconds" for part in fields(JourneyParts)]
+    assert [name for name in names_of(JOURNEYS) if name.endswith("_seconds")] == parts

@@ -107,13 +107,15 @@ def table_of(args: argparse.Namespace, run: "Run") -> int:
     from ..explanation import all_found
     from ..faults import BadInput
     from ..files import output
+    from ..measures.columns import names_of
+    from ..measures.table_list import JOURNEYS
     from ..records import rows, write_rows
-    from ..views.itineraries import HEADS, MORE, lines_of
+    from ..views.itineraries import lines_of
 
     pairs = list(dict.fromkeys((one, other) for _, (one, other) in rows(args.pairs, ["origin", "destination"])))
     if not pairs:
         raise BadInput(args.pairs, "no pairs")
     found = all_found(run, args.date, pairs, program=args.program, matrix=args.matrix)
     with output(args.out) as file:
-        write_rows(file, [*HEADS, *MORE], (line for question, of in found for line in lines_of(question, of)))
+        write_rows(file, names_of(JOURNEYS), (line for question, of in found for line in lines_of(question, of)))
     return 0

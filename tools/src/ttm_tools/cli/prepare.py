@@ -111,6 +111,8 @@ def check_feeds(args: argparse.Namespace) -> int:
     """Reports the faults of each feed."""
     from ..faults import as_line
     from ..files import output, scratch
+    from ..measures.columns import names_of
+    from ..measures.table_list import ERRORS
     from ..prepare import report
     from ..prepare.check import check
     from ..prepare.losses import sentences
@@ -127,5 +129,5 @@ def check_feeds(args: argparse.Namespace) -> int:
             print("\n".join(map(as_line, [f"{path}:"] * (len(args.feeds) > 1) + lines)))
     if args.faults:
         with output(args.faults) as file:
-            write_rows(file, report.FAULT_COLUMNS, rows)
+            write_rows(file, names_of(ERRORS), rows)
     return 1 if rows else 0

@@ -12,9 +12,10 @@ from ..faults import BadInput, some
 from ..gtfs.fields import Floats
 from ..matrices import BASE, TODAY
 from ..records import number_of, records, rows, shown
+from .columns import names_of
+from .table_list import ACCESS, NEAREST
 
-COLUMNS = ("id", "opportunity", "percentile", "cutoff", "accessibility")
-OF_TIMES = ("id", "opportunity", "percentile", "nearest", "seconds")
+COLUMNS, OF_TIMES = names_of(ACCESS), names_of(NEAREST)
 
 
 @dataclass(frozen=True)

@@ -14,6 +14,8 @@ from ..gtfs.columns import positions_of
 from ..gtfs.feeds import Feed, names_in, read_feed, write_feed
 from ..gtfs.fields import FILES
 from ..gtfs.service_days import on_days, runs_of_trips
+from ..measures.columns import names_of
+from ..measures.table_list import REPAIRS
 from ..records import write_rows
 from .check import check
 from .clip import Clip, clip, near
@@ -21,7 +23,7 @@ from .likely import of_days
 from .losses import counts_of, left, no_runs, refuse_day, refuse_losses
 from .merge import merge
 from .repair import repair
-from .report import CHANGE_COLUMNS, Repaired, fault_lines
+from .report import Repaired, fault_lines
 
 MOST_RUNS = 1_000_000
 PREPARED = "prepared.csv"
@@ -72,7 +74,7 @@ def make(options: PrepareOptions, room: Path) -> list[str]:
     with many_written_aside(options.out) as folder:
         write_feed(feed, folder)
         with open(folder / PREPARED, "wb") as file:
-            write_rows(file, CHANGE_COLUMNS, [change.row() for change in changes])
+            write_rows(file, names_of(REPAIRS), [change.row() for change in changes])
     return [*lines, *run_lines(feed, options.clip.days), counted(options.out, feed)]
 
 

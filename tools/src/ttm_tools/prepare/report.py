@@ -32,10 +32,6 @@ def escaped(text: str) -> str:
     return shown(text).encode("utf-8", "backslashreplace").decode("utf-8")
 
 
-CHANGE_COLUMNS = ["file", "record", "column", "value", "rule", "done"]
-FAULT_COLUMNS = ["file", "record", "column", "value", "fault", "allowed"]
-
-
 def fault_lines(faults: Sequence[Fault]) -> Iterator[str]:
     """Two lines for each check that failed: what `ttm` would print, and what stands there, what is allowed, how
     often.

@@ -13,6 +13,8 @@ from ..files import many_written_aside, output
 from ..matrices import Matrix, Share
 from ..measures.access import Decay, access, nearest
 from ..measures.access_table import AccessTable, AccessKind
+from ..measures.columns import names_of
+from ..measures.table_list import WINDOWS as WINDOW_COLUMNS
 from ..measures.opportunities import Counts, columns_of, read_counts
 from ..naming import file_names
 from ..records import shown, write_rows
@@ -26,7 +28,7 @@ from .stages import Stage
 from .windows import WINDOWS, matrix_of
 from .settings import DayWindow
 
-HEADS = ["date", "window", "from", "to"]
+HEADS = names_of(WINDOW_COLUMNS)
 EACH = "origins"  # whom the means count where no people are named: each origin once
 PICTURES, KINDS = f"{WINDOWS}/pictures", ("time", "heat", "maps")
 DECIMALS = 6

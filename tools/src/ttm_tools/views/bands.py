@@ -7,7 +7,9 @@ from ..faults import BadInput, some
 from ..gtfs.fields import Floats
 from ..measures.access_table import AccessTable, AccessKind
 from ..measures.bands import with_at_least, within_minutes
+from ..measures.columns import names_of
 from ..measures.opportunities import Counts
+from ..measures.table_list import BANDS, BANDS_OF_NEAREST
 from ..records import shown
 from .access import decimal
 from .equity import significant
@@ -50,8 +52,6 @@ def bands_of(
 
 def write_bands(out: BinaryIO, table: AccessTable, bands: Iterator[Band], form: str) -> None:
     """Writes a line for each."""
-    limit, kind = ("within_minutes", "nearest") if table.of_times else ("at_least", "cutoff")
-    header = ["opportunity", "percentile", kind, "group", "scenario", limit, "people", "percent"]
     rows = [
         [
             *astuple(band.kind),
@@ -63,7 +63,7 @@ def write_bands(out: BinaryIO, table: AccessTable, bands: Iterator[Band], form: 
         ]
         for band in bands
     ]
-    write_table(out, header, rows, form)
+    write_table(out, names_of(BANDS_OF_NEAREST if table.of_times else BANDS), rows, form)
 
 
 def labels_of(table: AccessTable, limits: Sequence[float], unit: str) -> list[str]:

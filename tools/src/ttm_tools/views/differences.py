@@ -9,6 +9,7 @@ import numpy.typing as npt
 from ..gtfs.stops import Stops
 from ..matrices import Pair, Sums
 from ..measures.comparison import KINDS, Changes, Comparison, order_of, order_of_origins, sides_of, sorted_origins
+from ..measures.table_list import compared
 from ..records import Numerals, Texts, field, fields_as_texts, joined, shown, texts_of, write_rows
 
 LINES_AT_ONCE = 200_000
@@ -39,8 +40,7 @@ def write_pairs(
     out: BinaryIO, pair: Pair, changes: Changes, stops: Stops | None, choice: OriginChoice = OriginChoice()
 ) -> None:
     """A line for each pair that differs, losers first."""
-    named = [b"origin", *([b"origin_name"] if stops else []), b"destination", *([b"destination_name"] if stops else [])]
-    out.write(b",".join([*named, b"what", b"before", b"after", b"change"]) + b"\n")
+    write_rows(out, compared(by_pair=True, has_names=stops is not None), [])
     origins, destinations = ends_as_texts(pair.origins, stops), ends_as_texts(pair.matrix.stops, stops)
     kinds = fields_as_texts(KINDS, after=b",")
     seconds, change = Numerals(b"%d,".__mod__, b","), Numerals(b"%d\n".__mod__, b"\n")
@@ -78,13 +78,12 @@ def write_origins(
     first, second = pair.access(place)
     change, counts = second - first, comparison.counts
     names = stops.of(pair.origins).names if stops is not None else None
-    header = ["origin", *(["origin_name"] if names else []), "access_before", "access_after", "change", "percent"]
     lines = []
     for row in chosen_origins(first, second, counts, choice):
         percent = round(100 * int(change[row]) / int(first[row]), 1) if first[row] > 0 else ""
         name = [names[row]] if names else []
         lines.append([pair.origins[row], *name, first[row], second[row], change[row], percent, *counts[row]])
-    write_rows(out, [*header, *[kind.replace(" ", "_") for kind in KINDS]], lines)
+    write_rows(out, compared(by_pair=False, has_names=names is not None), lines)
 
 
 def summary(pair: Pair, comparison: Comparison, limit: float, place: int | None, least: int = 1) -> list[str]:

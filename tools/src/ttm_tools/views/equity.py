@@ -8,15 +8,15 @@ import numpy as np
 from ..faults import BadInput, some
 from ..gtfs.fields import Floats
 from ..measures.access_table import AccessTable, AccessKind
-from ..measures.columns import header
+from ..measures.columns import header, names_of
 from ..measures.equity import TENTHS, Equity, changes_by_tenth, equity, lorenz
 from ..measures.nearness import Nearness, nearness
 from ..measures.opportunities import Counts
+from ..measures.table_list import OF_PEOPLE, OF_PEOPLE_NEAREST
 from ..records import shown
 from .tables import write_table
 from .texts import text_alone
 
-HEADS = ["opportunity", "percentile", "cutoff", "group", "scenario"]
 COLOURS = ("#000000", "#0072b2", "#d55e00", "#009e73", "#cc79a7", "#e69f00", "#56b4e9")  # after Okabe and Ito
 INCHES, HIGH = (10.0, 4.8), 0.72
 
@@ -81,9 +81,9 @@ def significant(number: float) -> str:
 def rows_of(lines: Iterable[tuple[AccessKind, str, str, Equity | Nearness]]) -> list[list[str]]:
     """The header, and a row for each kind, group and scenario."""
     found = list(lines)
-    names = [*HEADS, *header(Equity)]
+    names = [*names_of(OF_PEOPLE), *header(Equity)]
     if any(isinstance(of, Nearness) for *_, of in found):
-        names = [*HEADS[:2], "nearest", *HEADS[3:], *header(Nearness)]
+        names = [*names_of(OF_PEOPLE_NEAREST), *header(Nearness)]
     rows = [[*astuple(kind), group, scenario, *map(significant, astuple(of))] for kind, group, scenario, of in found]
     return [names, *rows]
 

@@ -7,13 +7,14 @@ from ..faults import BadInput
 from ..gtfs.fields import Floats
 from ..measures.access_table import AccessTable, AccessKind
 from ..measures.fairness import FairnessCase, Concentration, Poverty, Theil, theil_of_all
+from ..measures.columns import names_of
 from ..measures.measure_list import FAIRNESS
 from ..measures.opportunities import Counts
+from ..measures.table_list import OF_PEOPLE
 from ..records import shown
 from .equity import significant
 from .tables import write_table
 
-HEADS = ["opportunity", "percentile", "cutoff", "group", "scenario"]
 THEIL, ALL_GROUPS = "theil", "all groups"
 Found = Theil | Concentration | Poverty
 
@@ -54,4 +55,4 @@ def line_of(kind: AccessKind, group: str, scenario: str, found: Found) -> list[s
 
 def write_fairness(out: BinaryIO, lines: Iterator[list[str]], measure: str, form: str) -> None:
     """Writes the table."""
-    write_table(out, [*HEADS, *FAIRNESS[measure].columns], list(lines), form)
+    write_table(out, [*names_of(OF_PEOPLE), *FAIRNESS[measure].columns], list(lines), form)

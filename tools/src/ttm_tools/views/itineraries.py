@@ -4,11 +4,9 @@ from dataclasses import dataclass
 from typing import Iterator, Sequence
 
 from ..measures.journeys import Leg
+from ..measures.table_list import JOURNEYS
 from ..records import shown
 from .journeys import ExplainOptions, Found
-
-HEADS = ["scenario", "origin", "destination", "percentile", "seconds", "departure", "access_seconds", "wait_seconds"]
-MORE = ["ride_seconds", "change_seconds", "walk_seconds", "egress_seconds", "rides", "routes", "trips"]
 
 
 @dataclass
@@ -48,7 +46,7 @@ def lines_of(options: ExplainOptions, found: Sequence[Found]) -> Iterator[list[o
     for of in found:
         head: list[object] = [of.name, *stops, options.share]
         if of.cell is None or of.chosen is None:
-            yield [*head, *[""] * (len(HEADS) + len(MORE) - len(head))]
+            yield [*head, *[""] * (len(JOURNEYS) - len(head))]
             continue
         departure = options.departures[of.chosen]
         of_legs = parts_of(of.legs, departure)

@@ -6,16 +6,15 @@ from typing import Any, BinaryIO, Iterator, Sequence
 import numpy as np
 
 from ..gtfs.stops import in_folder
-from ..measures.columns import header
+from ..measures.columns import header, names_of
 from ..measures.service import Period, ServiceRuns, Service, departures_by_stop, headway_stops, service_of
+from ..measures.table_list import SERVICE, SERVICE_OF_STOPS
 from ..gtfs.fields import clock
 from ..records import rows, shown, write_rows
 from ..gtfs.fields import Whole
 from ..gtfs.timetable import Timetable
 from .equity import significant
 
-HEADS = ["scenario", "route", "route_name", "direction", "period"]
-OF_STOPS = ["scenario", "stop_id", "stop_name", "period", "departures", "departures_an_hour"]
 DIRECTION, ROUTE, ALL, STOP = "direction", "route", "all", "stop"
 
 
@@ -114,7 +113,7 @@ def text_of(number: float, is_time: bool = False, decimals: int = 4, **_: Any) -
 
 def write_lines(out: BinaryIO, lines: Iterator[ServiceLine], groups: Groups) -> None:
     """Writes the table by route."""
-    write_rows(out, [*HEADS, *header(Service)], (fields_of(line, groups) for line in lines))
+    write_rows(out, [*names_of(SERVICE), *header(Service)], (fields_of(line, groups) for line in lines))
 
 
 def fields_of(line: ServiceLine, groups: Groups) -> list[str]:
@@ -131,7 +130,7 @@ def fields_of(line: ServiceLine, groups: Groups) -> list[str]:
 
 def write_stops(out: BinaryIO, day: Day) -> None:
     """Writes the table by stop: each at which a vehicle leaves in some scenario."""
-    write_rows(out, OF_STOPS, stop_fields(day))
+    write_rows(out, names_of(SERVICE_OF_STOPS), stop_fields(day))
 
 
 def stop_fields(day: Day) -> Iterator[list[str]]:

@@ -1,0 +1,52 @@
+"""The tables that commands print in addition to those of `Equity`, `Nearness` and `Service`: the columns of each in
+their order, each one entry with what it is. Headers and the tables of docs/reference/measures.md come from them.
+"""
+
+from .columns import named, names_of
+
+CHANGE = named("change", what="after minus before")
+BY_PAIR = (
+    *named("origin", "origin_name", "destination", "destination_name"),
+    *named("what", what="cut off, slower, new or faster, by the travel time alone"),
+    *named("before", "after", what="seconds in base and scenario"),
+    *CHANGE,
+)
+BY_ORIGIN = (
+    *named("origin", "origin_name"),
+    *named("access_before", "access_after", what="in base and scenario"),
+    *CHANGE,
+    *named("percent", what="the same in percent of before"),
+    *named("cut_off", "slower", "new", "faster", what="number of such destinations"),
+)
+OF_PEOPLE = named("opportunity", "percentile", "cutoff", "group", "scenario")  # before the columns of a measure
+OF_PEOPLE_NEAREST = named("opportunity", "percentile", "nearest", "group", "scenario")  # of times to the nearest
+LIMIT = "the limit: opportunities, or minutes to the nearest"
+OF_BAND = named("people", "percent", what="those of the group within it")
+BANDS = (*OF_PEOPLE, *named("at_least", what=LIMIT), *OF_BAND)
+BANDS_OF_NEAREST = (*OF_PEOPLE_NEAREST, *named("within_minutes", what=LIMIT), *OF_BAND)
+ON_FOOT = "on foot, before, between and after rides"
+JOURNEYS = (
+    *named("scenario", "origin", "destination", "percentile"),
+    *named("seconds", "departure", what="the cell, and the first departure that takes so long"),
+    *named("access_seconds", what=ON_FOOT),
+    *named("wait_seconds", "ride_seconds", "change_seconds"),
+    *named("walk_seconds", "egress_seconds", what=ON_FOOT),
+    *named("rides", "routes", "trips"),
+)
+SERVICE = named("scenario", "route", "route_name", "direction", "period")  # before the columns of `Service`
+SERVICE_OF_STOPS = named("scenario", "stop_id", "stop_name", "period", "departures", "departures_an_hour")
+REPAIRS = named("file", "record", "column", "value", "rule", "done")
+ERRORS = named("file", "record", "column", "value", "fault", "allowed")
+ACCESS = named("id", "opportunity", "percentile", "cutoff", "accessibility")
+NEAREST = named("id", "opportunity", "percentile", "nearest", "seconds")
+WINDOWS = named("date", "window", "from", "to")  # before the columns of a study's tables by window
+EXPLAINED = {  # by their commands: a table of docs/reference/measures.md for each
+    "compare": (*BY_PAIR, *BY_ORIGIN),
+    "bands": (*BANDS[:-2], *BANDS_OF_NEAREST),
+    "explain": JOURNEYS,
+}
+
+
+def compared(by_pair: bool, has_names: bool) -> list[str]:
+    """The header of a table of `compare`; names of stops come from a feed."""
+    return [name for name in names_of(BY_PAIR if by_pair else BY_ORIGIN) if has_names or not name.endswith("_name")]
