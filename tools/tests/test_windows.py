@@ -200,12 +200,23 @@ def test_a_day_without_trips_is_refused(place: Place) -> None:  # noqa: F811
     assert status == 1 and "no trip runs on 2027-05-05" in errors
 
 
+DAYS_OF_MONTHS = "[" + ", ".join(f"2026-{month:02}-{day:02}" for month in (1, 2) for day in range(1, 29)) + "]"
+
+
 @pytest.mark.parametrize(
     "text, message",
     [
         (f'date = 2026-05-04\nfrom = "08:00"\n{WINDOWS}', "windows doesn't go with from"),
         (f"date = 2026-05-04\ndates = [2026-05-04]\n{WINDOWS}", "dates doesn't go with date"),
-        (f"dates = [2026-05-05, 2026-05-04]\n{WINDOWS}", "dates '[2026-05-05, 2026-05-04]' isn't that"),
+        (
+            f"dates = [2026-05-05, 2026-05-04]\n{WINDOWS}",
+            "dates '2026-05-04' isn't after the date before it (item 2 of 2); allowed: 1 to 31 dates between brackets",
+        ),
+        (
+            f'dates = ["2026-05-04", "2026-05-40"]\n{WINDOWS}',
+            "dates '2026-05-40' is no date (item 2 of 2); allowed: YYYY-MM-DD, or YYYYMMDD between quotes",
+        ),
+        (f"dates = {DAYS_OF_MONTHS}\n{WINDOWS}", "dates '2026-02-04' is one date too many (item 32 of 56); allowed: 1"),
         (f"dates = []\n{WINDOWS}", "allowed: 1 to 31 dates between brackets, ascending"),
         ('date = 2026-05-04\nwindows = [{ name = "a b", from = "08:00", to = "08:00" }]', "can't be a window's name"),
         ('date = 2026-05-04\nwindows = [{ name = "a", from = "08:01", to = "08:00" }]', "to '08:00' is before from"),
@@ -219,6 +230,16 @@ def test_windows_that_do_not_fit_are_told_with_their_line(bare: Place, text: str
     path = bare.lay_out(STUDY.replace(ONE, f"{text}\n"))
     out, said, status = bare.ran("study", path)
     assert (out, status) == ("", 1) and message in said and "nine.toml: line " in said and said.count("\n") == 1, said
+
+
+def test_a_date_that_does_not_fit_is_named_with_its_own_line(bare: Place) -> None:  # noqa: F811
+    days = 'dates = [ # "several", [one] a line\n  2026-05-04,\n\n  "4 May",\n  2026-05-06,\n]'
+    text = STUDY.replace(ONE, f"{days}\n{WINDOWS}\n")
+    line = text.split("\n").index('  "4 May",') + 1
+    message = (
+        f"nine.toml: line {line}: dates '4 May' is no date (item 2 of 3); allowed: YYYY-MM-DD, or YYYYMMDD between"
+    )
+    assert message in bare.ran("study", bare.lay_out(text))[1]
 
 
 def test_the_network_has_the_words_of_its_day_and_a_question_its_own() -> None:

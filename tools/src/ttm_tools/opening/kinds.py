@@ -14,13 +14,21 @@ CLOCK = re.compile(r"([0-9]{1,3}):([0-5][0-9])(?::([0-5][0-9]))?")
 LAST_TIME = 604_799  # 167:59:59, the last time that a feed can state
 
 
+class WrongItem(ValueError):
+    """What is wrong with one item of a list, and what is allowed there; the first item has the number 0."""
+
+    def __init__(self, number: int, what: str, allowed: str) -> None:
+        super().__init__(what)
+        self.number, self.what, self.allowed = number, what, allowed
+
+
 @dataclass(frozen=True)
 class Kind(Generic[Value]):
     """A kind of value."""
 
     allowed: str
     wrong: str  # what an error says of any other value
-    convert: Callable[[Any], Value]  # raises a ValueError for any other value
+    convert: Callable[[Any], Value]  # raises a ValueError for any other value, for an item of a list a `WrongItem`
     names: tuple[str, ...] = ()  # all that are allowed, of which an error shows the nearest
     is_shown: bool = True  # whether an error shows the value
     of_tables: bool = False  # whether it converts the tables of a list

@@ -7,7 +7,7 @@ from dataclasses import dataclass, field
 from typing import Any, Iterable, Iterator, Sequence
 
 from ..faults import BadInput
-from .kinds import NAME, TEXT, TEXTS, Kind, Value, as_written, near
+from .kinds import NAME, TEXT, TEXTS, Kind, Value, WrongItem, as_written, near
 from .texts import read_toml
 
 TOKENS = re.compile(
@@ -18,11 +18,14 @@ TOKENS = re.compile(
 
 @dataclass
 class LineNumbers:
-    """On which line a table begins, its keys stand, and the tables in it begin, those of a list one after another."""
+    """On which line a table begins, its keys and the items of its lists stand, and the tables in it begin, those of a
+    list one after another.
+    """
 
     line: int
     keys: dict[str, int] = field(default_factory=dict)
     tables: dict[str, list["LineNumbers"]] = field(default_factory=dict)
+    items: dict[str, list[int]] = field(default_factory=dict)  # of the lists
 
     def inner(self, key: str, number: int = 0) -> "LineNumbers":
         """A table in this one; one within a statement stands on the line of its key."""
@@ -44,6 +47,13 @@ class Entry:
         """What is wrong with a value, or with the whole table."""
         line = self.lines.line if key is None else self.lines.keys.get(key, self.lines.line)
         return BadInput(f"{self.path}: line {line}", what, column=key, value=value, allowed=allowed)
+
+    def fault_of_item(self, key: str, wrong: WrongItem) -> BadInput:
+        """What is wrong with an item of a list."""
+        items, lines = self.values[key], self.lines.items.get(key, [])
+        line = lines[wrong.number] if wrong.number < len(lines) else self.lines.keys.get(key, self.lines.line)
+        what, value = f"{wrong.what} (item {wrong.number + 1} of {len(items)})", as_written(items[wrong.number])
+        return BadInput(f"{self.path}: line {line}", what, column=key, value=value, allowed=wrong.allowed)
 
     def only(self, keys: Sequence[str]) -> None:
         """Refuses a key that isn't one of these."""
@@ -73,6 +83,8 @@ class Entry:
         value = self.get(key) if default is None else self.values.get(key, default)
         try:
             return kind.convert(self.inner(key) if kind.of_tables else value)
+        except WrongItem as fault:
+            raise self.fault_of_item(key, fault) from None
         except ValueError:
             what = f"{kind.wrong}{near(str(value), kind.names)}"
             shown, allowed = as_written(value) if kind.is_shown else None, None if kind.names else kind.allowed
@@ -124,6 +136,21 @@ def key_of(statement: str) -> str:
     return statement.split("=", 1)[0].split(".", 1)[0].strip().strip("\"'")
 
 
+def lines_of_items(line: int, statement: str) -> list[int]:
+    """The lines of the items of a list, which a statement that begins on a line gives to a key."""
+    lines, depth, is_awaited = list[int](), 0, False
+    for token in TOKENS.findall(statement.partition("=")[2]):
+        is_closed = token in ("]", "}")
+        for piece in [token] if depth != 1 or token[0] in "\"'" else re.split("(,)", token):
+            if is_awaited and piece.strip() and not is_closed:
+                lines.append(line)
+            is_awaited = piece == "," if piece.strip() else is_awaited
+            line += piece.count("\n")
+        depth += (token in ("[", "{")) - is_closed
+        is_awaited = is_awaited or (token == "[" and depth == 1)
+    return lines
+
+
 def lines_of(text: str) -> LineNumbers:
     """The lines of a file."""
     whole = LineNumbers(1)
@@ -131,6 +158,8 @@ def lines_of(text: str) -> LineNumbers:
     for line, statement in statements(text):
         if not statement.startswith("["):
             table.keys.setdefault(key_of(statement), line)
+            if statement.endswith("]"):
+                table.items.setdefault(key_of(statement), lines_of_items(line, statement))
             continue
         table = whole
         *outer, name = statement.strip("[] \t").replace(" ", "").split(".")

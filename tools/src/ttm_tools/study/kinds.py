@@ -7,12 +7,13 @@ from typing import Any, Sequence
 
 from ..dates import as_ttm_reads, day_of
 from ..opening import kinds
-from ..opening.kinds import Kind, is_number, taken_if
+from ..opening.kinds import Kind, WrongItem, is_number, taken_if
 from ..opening.toml_file import Entry
 
 CLOCK = re.compile(r"([01][0-9]|2[0-3]):[0-5][0-9]")
 WINDOW_NAME = re.compile(r"[\w-]{1,40}")
 MOST_DATES, MOST_WINDOWS = 31, 96
+SEVERAL_DATES = f"1 to {MOST_DATES} dates between brackets, ascending"
 
 
 @dataclass(frozen=True)
@@ -43,10 +44,20 @@ def day_in(value: Any) -> str:
 
 def days_in(value: Any) -> tuple[str, ...]:
     """Days, each after the one before it."""
-    days = tuple(map(day_in, value)) if isinstance(value, list) else ()
-    if not 1 <= len(days) <= MOST_DATES or any(one >= other for one, other in zip(days, days[1:])):
+    if not isinstance(value, list) or not value:
         raise ValueError(value)
-    return days
+    days = list[str]()
+    for number, item in enumerate(value):
+        try:
+            day = day_in(item)
+        except ValueError:
+            raise WrongItem(number, DATE.wrong, DATE.allowed) from None
+        if number == MOST_DATES:
+            raise WrongItem(number, "is one date too many", SEVERAL_DATES)
+        if days and day <= days[-1]:
+            raise WrongItem(number, "isn't after the date before it", SEVERAL_DATES)
+        days.append(day)
+    return tuple(days)
 
 
 def minute_in(value: Any) -> str:
@@ -89,7 +100,7 @@ FILES = Kind(
 )
 TEXTS = Kind("texts between brackets", "is no text and no list of texts", texts_or_none, is_shown=False)
 DATE = Kind("YYYY-MM-DD, or YYYYMMDD between quotes", "is no date", day_in)
-DATES = Kind(f"1 to {MOST_DATES} dates between brackets, ascending", "isn't that", days_in)
+DATES = Kind(SEVERAL_DATES, "isn't that", days_in)
 WINDOWS = Kind(
     f"1 to {MOST_WINDOWS} tables of name, from and to between brackets",
     "names too many windows",
