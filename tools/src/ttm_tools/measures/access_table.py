@@ -13,6 +13,7 @@ from ..gtfs.fields import Floats
 from ..matrices import BASE, TODAY
 from ..records import number_of, records, rows, shown
 from .columns import names_of
+from .opportunities import Counts
 from .table_list import ACCESS, NEAREST
 
 COLUMNS, OF_TIMES = names_of(ACCESS), names_of(NEAREST)
@@ -121,6 +122,19 @@ def sentences_on_lost(own: AccessTable, other: AccessTable) -> list[str]:
             count = f"{len(lost):,} of {len(one.origins):,} origins of {one.path}"
             sentences.append(f"{count} aren't in {another.path}, and are left out: {some(lost)}")
     return sentences
+
+
+def by_group(
+    table: AccessTable, kinds: Sequence[AccessKind], people: Counts
+) -> Iterator[tuple[AccessKind, str, Floats, Floats]]:
+    """Each kind and group, with the numbers by scenario and origin, and the people at each origin, who are some."""
+    for kind in kinds:
+        numbers = table.numbers[:, table.kinds.index(kind)]
+        for group in people.names:
+            weights = people.named(group)
+            if not weights.any():
+                raise BadInput(table.path, f"nobody of the group {shown(group)} lives at its origins")
+            yield kind, group, numbers, weights
 
 
 def is_of_times(path: str) -> bool:

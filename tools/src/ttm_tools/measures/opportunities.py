@@ -11,16 +11,8 @@ from ..gtfs.fields import Floats
 from ..records import number_of, places_of, records, refuse_alike, rows, shown
 
 IDENTIFIERS = ("stop_id", "id")  # the column that names a stop or a point: the first of these that is there
-NO_COUNTS = {
-    "stop_name",
-    "stop_lat",
-    "stop_lon",
-    "name",
-    "lat",
-    "lon",
-    "width",
-    "height",
-}  # columns that say where and what it is
+# columns that say where and what it is
+NO_COUNTS = {"stop_name", "stop_lat", "stop_lon", "name", "lat", "lon", "width", "height"}
 OWN_NAME = "opportunities"  # as every file of `ttm` calls its column
 
 

@@ -68,12 +68,7 @@ def refuse_changed(parts: Sequence[Part], threads: int) -> None:
 
 
 def join_parts(
-    parts: Sequence[Part],
-    with_csv: bool,
-    shown_as: Mapping[str, str],
-    shown: Sequence[str],
-    threads: int,
-    path: str,
+    parts: Sequence[Part], with_csv: bool, shown_as: Mapping[str, str], shown: Sequence[str], threads: int, path: str
 ) -> list[str]:
     """Writes the matrix of all parts, which are looked at once more, with the scenarios that are shown, and those
     columns alone that are to be shown, where there are any.

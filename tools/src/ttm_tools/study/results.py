@@ -2,7 +2,7 @@
 
 from dataclasses import dataclass, field
 from pathlib import Path
-from typing import Any, Sequence
+from typing import Any, Callable, Sequence
 
 import numpy as np
 
@@ -18,7 +18,7 @@ from ..naming import file_names
 from ..points.shown import shown_of
 from ..records import shown
 from ..views import bands, equity, tables
-from ..views.access import ACCESS, NEAREST, Form, decimal, measured, write_access
+from ..views.access import ACCESS, NEAREST, Form, Measured, decimal, measured, write_access
 from ..views.differences import summary, write_origins, write_pairs
 from .counted import COUNTED, PEOPLE
 from .inputs import Inputs
@@ -27,7 +27,6 @@ from .stages import Record, Stage
 from .settings import Study
 
 ACCESS_TABLE, EQUITY_TABLE, EQUITY_PAGE = "access.csv", "equity.csv", "equity.md"
-NEAREST_TABLE = "nearest.csv"
 Records = dict[str, Record]
 PAIRS = "_pairs"  # behind a scenario's name, the file of its pairs
 STOPS, POINTS = "stops", "points"  # what is counted where nothing else is named
@@ -104,12 +103,68 @@ def names_of_scenarios(scenarios: Sequence[str], base: str) -> dict[str, str]:
     return file_names([name for name in scenarios if name != base], ("", PAIRS))
 
 
+@dataclass(frozen=True)
+class Measurement:
+    """What is measured of each matrix of a study: access, or the time to the nearest."""
+
+    kind: str  # access or nearest
+    heads: tuple[str, str]
+    limits: Sequence[float]
+    options: list[Any]  # of the study's file, on which the numbers depend
+    measure: Callable[[Matrix, str, Share, Counts], Floats]
+
+    @property
+    def table(self) -> str:
+        return f"{self.kind}.csv"
+
+    def of(self, matrix: Matrix, counts: Counts) -> list[Measured]:
+        """The numbers of all scenarios."""
+
+        def measure(scenario: str, share: Share) -> Floats:
+            return self.measure(matrix, scenario, share, counts)
+
+        return [measured(matrix, scenario, matrix.shares, measure) for scenario in matrix.scenarios]
+
+
+def measurements_of(study: Study) -> list[Measurement]:
+    """What a study measures."""
+    settings, cutoffs, limits = study.results, study.cutoffs, study.results.nearest
+    decay = Decay(settings.decay, settings.decay_value)
+
+    def of_access(matrix: Matrix, scenario: str, share: Share, counts: Counts) -> Floats:
+        return access(matrix, scenario, share, counts.numbers, decay, cutoffs)
+
+    def of_nearest(matrix: Matrix, scenario: str, share: Share, counts: Counts) -> Floats:
+        return nearest(matrix, scenario, share, counts.numbers, limits)
+
+    options = [settings.decay, settings.decay_value]
+    kinds = [Measurement("access", ACCESS, cutoffs, [*options, list(cutoffs)], of_access)] if settings.access else []
+    return kinds + ([Measurement("nearest", NEAREST, limits, [list(limits)], of_nearest)] if limits else [])
+
+
 def access_stages(whole: StudyMatrix, known: Records) -> list[Stage]:
-    return [access_stage(whole)] if whole.study.results.access else []
+    return [table_stage(whole, of) for of in measurements_of(whole.study) if of.heads == ACCESS]
 
 
 def nearest_stages(whole: StudyMatrix, known: Records) -> list[Stage]:
-    return [nearest_stage(whole)] if whole.study.results.nearest else []
+    return [table_stage(whole, of) for of in measurements_of(whole.study) if of.heads == NEAREST]
+
+
+def table_stage(whole: StudyMatrix, of: Measurement) -> Stage:
+    """The table of what is measured: all scenarios, shares, opportunities and limits."""
+    counted = whole.inputs.records.get("counted")
+
+    def make() -> list[str]:
+        matrix, _ = whole.open()
+        counts = whole.counts(matrix)
+        found = of.of(matrix, counts)
+        with output(whole.at(of.table)) as file:
+            write_access(file, found, counts.names, of.limits, Form(of.heads))
+        return [f"{of.table}: {', '.join(map(shown, counts.names))}"]
+
+    options = [*of.options, whole.study.results.max_minutes]
+    facts = {"matrix": whole.sum, "words": options, "counted": counted.outputs if counted else None}
+    return Stage(of.kind, facts, [of.table], make)
 
 
 def people_stages(whole: StudyMatrix, known: Records) -> list[Stage]:
@@ -125,49 +180,6 @@ def nearest_people_stages(whole: StudyMatrix, known: Records) -> list[Stage]:
 def compare_stages(whole: StudyMatrix, known: Records) -> list[Stage]:
     others = whole.others.items() if whole.study.results.compare else ()
     return [compare_stage(whole, scenario, name) for scenario, name in others]
-
-
-def access_stage(whole: StudyMatrix) -> Stage:
-    """The table of access: all scenarios, shares, opportunities and cutoffs."""
-    study, settings, counted = whole.study, whole.study.results, whole.inputs.records.get("counted")
-
-    def make() -> list[str]:
-        matrix, _ = whole.open()
-        counts = whole.counts(matrix)
-        decay = Decay(settings.decay, settings.decay_value)
-
-        def measure(scenario: str, share: Share) -> Floats:
-            return access(matrix, scenario, share, counts.numbers, decay, study.cutoffs)
-
-        found = [measured(matrix, scenario, matrix.shares, measure) for scenario in matrix.scenarios]
-        with output(whole.at(ACCESS_TABLE)) as file:
-            write_access(file, found, counts.names, study.cutoffs, Form(ACCESS))
-        return [f"{ACCESS_TABLE}: {', '.join(map(shown, counts.names))}"]
-
-    options = [settings.decay, settings.decay_value, list(study.cutoffs), settings.max_minutes]
-    facts = {"matrix": whole.sum, "words": options, "counted": counted.outputs if counted else None}
-    return Stage("access", facts, [ACCESS_TABLE], make)
-
-
-def nearest_stage(whole: StudyMatrix) -> Stage:
-    """The table of times to the nearest: all scenarios, shares and opportunities."""
-    settings, counted = whole.study.results, whole.inputs.records.get("counted")
-
-    def make() -> list[str]:
-        matrix, _ = whole.open()
-        counts = whole.counts(matrix)
-
-        def measure(scenario: str, share: Share) -> Floats:
-            return nearest(matrix, scenario, share, counts.numbers, settings.nearest)
-
-        found = [measured(matrix, scenario, matrix.shares, measure) for scenario in matrix.scenarios]
-        with output(whole.at(NEAREST_TABLE)) as file:
-            write_access(file, found, counts.names, settings.nearest, Form(NEAREST))
-        return [f"{NEAREST_TABLE}: {', '.join(map(shown, counts.names))}"]
-
-    options = [list(settings.nearest), settings.max_minutes]
-    facts = {"matrix": whole.sum, "words": options, "counted": counted.outputs if counted else None}
-    return Stage("nearest", facts, [NEAREST_TABLE], make)
 
 
 @dataclass(frozen=True)

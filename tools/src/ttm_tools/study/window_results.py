@@ -2,16 +2,13 @@
 them by time of day.
 """
 
-from dataclasses import dataclass
 from pathlib import Path
-from typing import Any, BinaryIO, Callable, Iterator, Sequence
+from typing import Any, BinaryIO, Iterator, Sequence
 
 import numpy as np
 
 from ..gtfs.fields import Floats
 from ..files import many_written_aside, output
-from ..matrices import Matrix, Share
-from ..measures.access import Decay, access, nearest
 from ..measures.access_table import AccessTable, AccessKind
 from ..measures.columns import names_of
 from ..measures.table_list import WINDOWS as WINDOW_COLUMNS
@@ -19,11 +16,11 @@ from ..measures.opportunities import Counts, columns_of, read_counts
 from ..naming import file_names
 from ..records import shown, write_rows
 from ..views import equity
-from ..views.access import ACCESS, NEAREST, Measured, decimal, long_rows, measured
+from ..views.access import ACCESS, NEAREST, Measured, decimal, long_rows
 from ..views.windows import WindowColumn, FigureLabels, figure_by_time, figure_of_heat, figure_of_maps
 from .counted import COUNTED, PEOPLE
 from .joining import MATRIX
-from .results import LOSE, POINTS, STOPS, Records, StudyMatrix
+from .results import LOSE, POINTS, STOPS, Measurement, Records, StudyMatrix, measurements_of
 from .stages import Stage
 from .windows import WINDOWS, matrix_of
 from .settings import DayWindow
@@ -34,46 +31,15 @@ PICTURES, KINDS = f"{WINDOWS}/pictures", ("time", "heat", "maps")
 DECIMALS = 6
 
 
-@dataclass(frozen=True)
-class Of:
-    """What is measured of all windows."""
-
-    kind: str  # access or nearest
-    heads: tuple[str, str]
-    limits: Sequence[float]
-    measure: Callable[[Matrix, str, Share, Counts], Floats]
-
-    @property
-    def files(self) -> tuple[str, str]:
-        """The table by origin, and that by people."""
-        end = "" if self.heads == ACCESS else f"_{self.kind}"
-        return f"{WINDOWS}/{self.kind}.csv", f"{WINDOWS}/equity{end}.csv"
+def files_of(of: Measurement) -> tuple[str, str]:
+    """The table by origin, and that by people."""
+    end = "" if of.heads == ACCESS else f"_{of.kind}"
+    return f"{WINDOWS}/{of.kind}.csv", f"{WINDOWS}/equity{end}.csv"
 
 
 def window_stages(whole: StudyMatrix, known: Records) -> list[Stage]:
     """Tables and pictures, where several windows or days are named."""
-    settings = whole.study.results
-    kinds = [*([of_access(whole)] if settings.access else []), *([of_nearest(whole)] if settings.nearest else [])]
-    return [tables_stage(whole, of) for of in kinds] if whole.study.questions else []
-
-
-def of_access(whole: StudyMatrix) -> Of:
-    settings, cutoffs = whole.study.results, whole.study.cutoffs
-    decay = Decay(settings.decay, settings.decay_value)
-
-    def measure(matrix: Matrix, scenario: str, share: Share, counts: Counts) -> Floats:
-        return access(matrix, scenario, share, counts.numbers, decay, cutoffs)
-
-    return Of("access", ACCESS, cutoffs, measure)
-
-
-def of_nearest(whole: StudyMatrix) -> Of:
-    limits = whole.study.results.nearest
-
-    def measure(matrix: Matrix, scenario: str, share: Share, counts: Counts) -> Floats:
-        return nearest(matrix, scenario, share, counts.numbers, limits)
-
-    return Of("nearest", NEAREST, limits, measure)
+    return [tables_stage(whole, of) for of in measurements_of(whole.study)] if whole.study.questions else []
 
 
 def path_of(whole: StudyMatrix, question: DayWindow) -> str:
@@ -86,10 +52,10 @@ def head_of(question: DayWindow) -> list[object]:
     return [question.day, question.window.name, question.window.first, question.window.last]
 
 
-def tables_stage(whole: StudyMatrix, of: Of) -> Stage:
+def tables_stage(whole: StudyMatrix, of: Measurement) -> Stage:
     """The table by origin, and that by people; of access the pictures, too."""
     study, records = whole.study, whole.inputs.records
-    by_origin, by_people = of.files
+    by_origin, by_people = files_of(of)
     pictures = [PICTURES] if study.results.maps and of.heads == ACCESS else []
 
     def make() -> list[str]:
@@ -116,23 +82,19 @@ def tables_stage(whole: StudyMatrix, of: Of) -> Stage:
     return Stage(f"windows_{of.kind}", facts, [by_origin, by_people, *pictures], make)
 
 
-def lines_of(whole: StudyMatrix, of: Of, tables: dict[DayWindow, AccessTable]) -> Iterator[list[object]]:
+def lines_of(whole: StudyMatrix, of: Measurement, tables: dict[DayWindow, AccessTable]) -> Iterator[list[object]]:
     """The lines of the table by origin, window by window; each window's numbers are kept for the table by people."""
     for question in whole.study.questions:
         path = path_of(whole, question)
         matrix = whole.shown_in(path)
         counts = whole.counts(matrix)
-
-        def measure(scenario: str, share: Share) -> Floats:
-            return of.measure(matrix, scenario, share, counts)
-
-        found = [measured(matrix, scenario, matrix.shares, measure) for scenario in matrix.scenarios]
+        found = of.of(matrix, counts)
         tables[question] = table_of(path, found, counts, of)
         texts = [decimal(limit) for limit in of.limits]
         yield from ([*head_of(question), *line] for line in long_rows(found, counts.names, texts, True))
 
 
-def table_of(path: str, found: Sequence[Measured], counts: Counts, of: Of) -> AccessTable:
+def table_of(path: str, found: Sequence[Measured], counts: Counts, of: Measurement) -> AccessTable:
     """The same numbers as `read_access` gives them, with the decimals that a table has."""
     shares = ["" if share is None else str(share) for share in found[0].shares]
     kinds = [

@@ -5,7 +5,7 @@ from typing import Any, BinaryIO, Iterator, Sequence
 
 from ..faults import BadInput, some
 from ..gtfs.fields import Floats
-from ..measures.access_table import AccessTable, AccessKind
+from ..measures.access_table import AccessTable, AccessKind, by_group
 from ..measures.bands import with_at_least, within_minutes
 from ..measures.columns import names_of
 from ..measures.opportunities import Counts
@@ -38,16 +38,11 @@ def bands_of(
 ) -> Iterator[Band]:
     """Each kind, group, scenario and limit, in this order."""
     count = within_minutes if table.of_times else with_at_least
-    for kind in kinds:
-        numbers = table.numbers[:, table.kinds.index(kind)]
-        for group in people.names:
-            weights = people.named(group)
-            if not weights.any():
-                raise BadInput(table.path, f"nobody of the group {shown(group)} lives at its origins")
-            for place, scenario in enumerate(table.scenarios):
-                found: Floats = count(numbers[place], weights, limits)
-                for limit, inside in zip(limits, found.tolist()):
-                    yield Band(kind, group, scenario, limit, inside, 100 * inside / float(weights.sum()))
+    for kind, group, numbers, weights in by_group(table, kinds, people):
+        for place, scenario in enumerate(table.scenarios):
+            found: Floats = count(numbers[place], weights, limits)
+            for limit, inside in zip(limits, found.tolist()):
+                yield Band(kind, group, scenario, limit, inside, 100 * inside / float(weights.sum()))
 
 
 def write_bands(out: BinaryIO, table: AccessTable, bands: Iterator[Band], form: str) -> None:

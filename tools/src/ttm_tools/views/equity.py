@@ -7,7 +7,7 @@ import numpy as np
 
 from ..faults import BadInput, some
 from ..gtfs.fields import Floats
-from ..measures.access_table import AccessTable, AccessKind
+from ..measures.access_table import AccessTable, AccessKind, by_group
 from ..measures.columns import header, names_of
 from ..measures.equity import TENTHS, Equity, changes_by_tenth, equity, lorenz
 from ..measures.nearness import Nearness, nearness
@@ -63,14 +63,9 @@ def measured(
     measure: Callable[[Floats, Floats, Floats, float], Equity | Nearness] = equity
     if table.of_times:
         measure = nearness
-    for kind in options.kinds:
-        numbers = table.numbers[:, table.kinds.index(kind)]
-        for group in people.names:
-            weights = people.named(group)
-            if not weights.any():
-                raise BadInput(table.path, f"nobody of the group {shown(group)} lives at its origins")
-            for place, scenario in enumerate(table.scenarios):
-                yield kind, group, scenario, measure(numbers[base], numbers[place], weights, options.percent)
+    for kind, group, numbers, weights in by_group(table, options.kinds, people):
+        for place, scenario in enumerate(table.scenarios):
+            yield kind, group, scenario, measure(numbers[base], numbers[place], weights, options.percent)
 
 
 def significant(number: float) -> str:

@@ -5,13 +5,12 @@ from typing import BinaryIO, Iterator, Sequence
 
 from ..faults import BadInput
 from ..gtfs.fields import Floats
-from ..measures.access_table import AccessTable, AccessKind
+from ..measures.access_table import AccessTable, AccessKind, by_group
 from ..measures.fairness import FairnessCase, Concentration, Poverty, Theil, theil_of_all
 from ..measures.columns import names_of
 from ..measures.measure_list import FAIRNESS
 from ..measures.opportunities import Counts
 from ..measures.table_list import OF_PEOPLE
-from ..records import shown
 from .equity import significant
 from .tables import write_table
 
@@ -38,15 +37,12 @@ def lines_of(table: AccessTable, people: Counts, options: FairnessOptions) -> It
         raise BadInput(table.path, f"{options.measure} is measured of access, not of times to the nearest")
     measure = FAIRNESS[options.measure].compute()
     for kind in options.kinds:
-        numbers = table.numbers[:, table.kinds.index(kind)]
-        for group in people.names:
-            if not people.named(group).any():
-                raise BadInput(table.path, f"nobody of the group {shown(group)} lives at its origins")
+        for _, group, numbers, weights in by_group(table, [kind], people):
             for place, scenario in enumerate(table.scenarios):
-                yield line_of(kind, group, scenario, measure(options.case(numbers[place], people.named(group))))
+                yield line_of(kind, group, scenario, measure(options.case(numbers[place], weights)))
         if options.measure == THEIL and len(people.names) > 1:
-            for place, scenario in enumerate(table.scenarios):
-                yield line_of(kind, ALL_GROUPS, scenario, theil_of_all(numbers[place], people.numbers))
+            for scenario, own in zip(table.scenarios, table.numbers[:, table.kinds.index(kind)]):
+                yield line_of(kind, ALL_GROUPS, scenario, theil_of_all(own, people.numbers))
 
 
 def line_of(kind: AccessKind, group: str, scenario: str, found: Found) -> list[str]:
