@@ -12,9 +12,9 @@ from test_study import NO_MAPS, Place, place  # noqa: F401
 from ttm_tools.measures.comparison import KINDS
 from ttm_tools.study.document import Document
 from ttm_tools.study.report import as_phrase
-from ttm_tools.measures.columns import header as columns_of
+from ttm_tools.measures.columns import header as columns_of, names_of
 from ttm_tools.measures.equity import Equity
-from ttm_tools.views.equity import HEADS
+from ttm_tools.measures.table_list import OF_PEOPLE
 
 SPREAD = ["jobs_in_the_centre", 50, 30, "households_of_one", "evening_twice", *[1234567, "123456.7891"], "123456.7891"]
 SPREAD += ["12.3456", "0.1234", "12.3456", "123456.7891", "-12345.6789"]
@@ -32,7 +32,7 @@ def browser() -> Iterator[Browser]:
 def report(room: Room) -> Path:
     """A report with wide tables, a sum and a long line."""
     document = Document("Report")
-    header = [as_phrase(item) for item in (*HEADS, *columns_of(Equity))]
+    header = [as_phrase(item) for item in (*names_of(OF_PEOPLE), *columns_of(Equity))]
     document.table("Access by groups of people (equity.csv)", header, [[str(item) for item in SPREAD]] * 3)
     header = [
         as_phrase(name) for name in ("origin", "origin_name", "access_before", "access_after", "change", "percent")
