@@ -8,20 +8,15 @@ FOLDER gets what isn't there yet: the feed of `feedgen.py` (metro by default), t
 processor, and the peak memory of `ttm-tools points` and `ttm-tools walks`. It wants numpy, scipy and pyosmium.
 """
 import csv
-import os
 import shutil
 import subprocess
-import sys
 import tempfile
 import time
 from pathlib import Path
 
 import numpy as np
 
-from shared import HERE, parser_of
-
-TOOLS = Path(HERE).parent / "tools" / "ttm-tools"
-PYTHON = "/usr/bin/python3" if Path("/usr/bin/python3").exists() else sys.executable
+from shared import HERE, PYTHON, TOOLS, parser_of, wait_for
 
 
 def write_points(feed: Path, path: Path, count: int) -> None:
@@ -39,14 +34,11 @@ def write_points(feed: Path, path: Path, count: int) -> None:
 def timed(command: list[str]) -> str:
     """Runs a command of the tools, and says what it took and reported."""
     began = time.monotonic()
-    with subprocess.Popen([PYTHON, str(TOOLS), *command], stderr=subprocess.PIPE, text=True) as run:
+    with subprocess.Popen([PYTHON, TOOLS, *command], stderr=subprocess.PIPE, text=True) as run:
         assert run.stderr is not None
         errors = run.stderr.read().strip().replace("\n", "; ")
-        _, status, used = os.wait4(run.pid, 0)
-        run.returncode = os.waitstatus_to_exitcode(status)
-    busy = used.ru_utime + used.ru_stime
-    clock = f"{time.monotonic() - began:.1f} s, {busy:.1f} s of processor time, {used.ru_maxrss // 1000} MB"
-    return f"{command[0]}: {clock}, status {run.returncode}: {errors}"
+        ran = wait_for(run, began)
+    return f"{command[0]}: {ran}, status {ran.status}: {errors}"
 
 
 def main() -> None:

@@ -19,7 +19,8 @@ import tempfile
 from pathlib import Path
 from typing import Any
 
-from tool_times import PYTHON, TOOLS, timed
+from shared import PYTHON, TOOLS
+from tool_times import timed
 
 SIZE = (1280, 900)  # pixels
 SECONDS = 120  # after which a page that isn't shown is given up
@@ -98,7 +99,7 @@ def main() -> None:
     with tempfile.TemporaryDirectory(prefix="ttm page ") as folder:
         path = Path(args.keep) if args.keep else Path(folder) / "a page.html"
         if args.words:
-            print(f"made in {timed([PYTHON, str(TOOLS), 'page', *args.words, '--out', str(path)])}", flush=True)
+            print(f"made in {timed([PYTHON, TOOLS, 'page', *args.words, '--out', str(path)])}", flush=True)
         if not path.is_file():
             sys.exit("no page was made")
         print(f"{path.stat().st_size / 1e6:.2f} MB", flush=True)

@@ -11,14 +11,13 @@ OUT has the plan then, what was reported, and in OUT/feed what was written.
 """
 
 import csv
-import os
 import subprocess
 import sys
 import time
 from pathlib import Path
 
-TOOLS = Path(__file__).resolve().parent.parent / "tools" / "ttm-tools"
-PYTHON = "/usr/bin/python3" if Path("/usr/bin/python3").exists() else sys.executable
+from shared import PYTHON, TOOLS, wait_for
+
 SCENARIOS = 10
 LINE = """do = "add_line"
 route = "T{number}"
@@ -87,14 +86,11 @@ def main() -> None:
     out.mkdir(exist_ok=True)
     (out / "plan.toml").write_text(plan_of(feed, int(more[0]) if more else 20))
     begin = time.monotonic()
-    command = [PYTHON, str(TOOLS), "scenarios", str(feed), str(out / "plan.toml"), "--out", str(out / "feed")]
+    command = [PYTHON, TOOLS, "scenarios", str(feed), str(out / "plan.toml"), "--out", str(out / "feed")]
     with open(out / "told.txt", "w") as log, subprocess.Popen(command, stdout=log, stderr=log) as run:
-        _, status, used = os.wait4(run.pid, 0)
-        run.returncode = os.waitstatus_to_exitcode(status)
-    busy = used.ru_utime + used.ru_stime
-    took = f"{time.monotonic() - begin:.1f} s, {busy:.1f} s of processor time, {used.ru_maxrss // 1000} MB"
-    print(f"status {run.returncode}, {took}")
-    for path in sorted((out / "feed").rglob("*.*")) if run.returncode == 0 else []:
+        ran = wait_for(run, begin)
+    print(f"status {ran.status}, {ran}")
+    for path in sorted((out / "feed").rglob("*.*")) if ran.status == 0 else []:
         print(f"{path.relative_to(out / 'feed')}: {path.stat().st_size:,} bytes")
 
 

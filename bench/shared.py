@@ -10,6 +10,9 @@ from dataclasses import dataclass
 from typing import Any, Iterable, Sequence
 
 HERE = os.path.dirname(os.path.abspath(__file__))
+TOOLS = os.path.join(os.path.dirname(HERE), "tools", "ttm-tools")
+PYTHON = "/usr/bin/python3" if os.path.exists("/usr/bin/python3") else sys.executable  # that of Debian's packages
+PROGRAM = os.environ.get("TTM_PROGRAM", os.path.join(os.path.dirname(HERE), "crates", "ttm", "out", "ttm"))
 DATE = "20260504"  # a Monday on which all trips of the made feeds run
 
 
@@ -104,7 +107,17 @@ class Ran:
 
     status: int  # that of the exit; below 0 where a signal ended it
     seconds: float  # from start to end, by the clock
-    peak: int  # most memory held, in MB
+    busy: float  # seconds of processors
+    kilobytes: int  # most memory held
+
+    @property
+    def peak(self) -> int:
+        """The most memory held, in MB."""
+        return self.kilobytes // 1024
+
+    def __str__(self) -> str:
+        memory = f"{self.kilobytes // 1000} MB"
+        return f"{self.seconds:.1f} s, {self.busy:.1f} s of processor time, {memory}"
 
 
 def wait_for(program: subprocess.Popen[Any], began: float) -> Ran:
@@ -112,7 +125,7 @@ def wait_for(program: subprocess.Popen[Any], began: float) -> Ran:
     _, status, usage = os.wait4(program.pid, 0)
     seconds = time.monotonic() - began
     program.returncode = os.waitstatus_to_exitcode(status)
-    return Ran(program.returncode, seconds, usage.ru_maxrss // 1024)
+    return Ran(program.returncode, seconds, usage.ru_utime + usage.ru_stime, usage.ru_maxrss)
 
 
 def run_into(arguments: Sequence[str], path: str) -> Ran:

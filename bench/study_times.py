@@ -24,10 +24,8 @@ from dataclasses import asdict, dataclass
 from itertools import count
 from pathlib import Path
 
-HERE = Path(__file__).resolve().parent
-TOOLS = str(HERE.parent / "tools" / "ttm-tools")
-PROGRAM = os.environ.get("TTM_PROGRAM", str(HERE.parent / "crates" / "ttm" / "out" / "ttm"))
-PYTHON = "/usr/bin/python3"  # that of Debian's packages
+from shared import HERE, PROGRAM, PYTHON, TOOLS
+
 FEED = "calendar calendar_dates routes stop_times stops transfers trips".split()
 STUDY = """\
 title = "All of a {size}"
@@ -209,7 +207,7 @@ def tell(what: str, pieces: Pieces, folder: Path) -> None:
 
 def make_feed(size: str, folder: Path) -> None:
     if not (folder / "made").is_dir():
-        subprocess.run([PYTHON, str(HERE / "feedgen.py"), size, str(folder / "made")], check=True)
+        subprocess.run([PYTHON, f"{HERE}/feedgen.py", size, str(folder / "made")], check=True)
     (folder / "feed").mkdir(exist_ok=True)
     for name in FEED:
         if not (folder / "feed" / f"{name}.txt").exists():

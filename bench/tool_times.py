@@ -16,8 +16,8 @@ import tempfile
 import time
 from pathlib import Path
 
-TOOLS = Path(__file__).resolve().parent.parent / "tools" / "ttm-tools"
-PYTHON = "/usr/bin/python3" if Path("/usr/bin/python3").exists() else sys.executable
+from shared import PYTHON, TOOLS, wait_for
+
 SECONDS = 600  # after which a script is ended
 
 
@@ -30,16 +30,11 @@ def timed(command: list[str]) -> str:
                 if time.monotonic() - begin > SECONDS:
                     run.kill()
                 time.sleep(0.05)
-            _, status, used = os.wait4(run.pid, 0)
-            run.returncode = os.waitstatus_to_exitcode(status)
+            ran = wait_for(run, begin)
         except BaseException:
             run.kill()
             raise
-    status_stated = "" if run.returncode == 0 else f", status {run.returncode}"
-    busy = used.ru_utime + used.ru_stime
-    return (
-        f"{time.monotonic() - begin:.1f} s, {busy:.1f} s of processor time, {used.ru_maxrss // 1000} MB{status_stated}"
-    )
+    return str(ran) if ran.status == 0 else f"{ran}, status {ran.status}"
 
 
 def commands(feed: str, matrix: str, origin: str, share: list[str], counts: str) -> list[tuple[str, str, list[str]]]:
@@ -89,7 +84,7 @@ def main() -> None:
         counts = str(made_counts(matrix, Path(folder) / "counts.csv"))
         for name, out, arguments in commands(feed, matrix, first[1], ["--share", "50"] if several else [], counts):
             new, before = Path(folder) / out, Path(folder) / f"old_{out}"
-            print(f"{name} {out}: {timed([PYTHON, str(TOOLS), name, *arguments, '--out', str(new)])}", flush=True)
+            print(f"{name} {out}: {timed([PYTHON, TOOLS, name, *arguments, '--out', str(new)])}", flush=True)
             script = Path(old[0]) / f"{name}.py" if old else None
             if script is not None and script.is_file():
                 print(f"  before: {timed([PYTHON, str(script), *arguments, '--out', str(before)])}", flush=True)

@@ -8,16 +8,13 @@ clone), numpy, pandas, h5py, matplotlib and jinja2.
 """
 import csv
 import os
-import resource
 import subprocess
 import sys
 import time
 from pathlib import Path
 
-HERE = Path(__file__).resolve().parent
-TOOLS = str(HERE.parent / "tools" / "ttm-tools")
-PROGRAM = os.environ.get("TTM_PROGRAM", str(HERE.parent / "crates" / "ttm" / "out" / "ttm"))
-PYTHON = "/usr/bin/python3"  # that of Debian's packages
+from shared import PROGRAM, PYTHON, TOOLS, wait_for
+
 STUDY = """\
 title = "Times of day"
 [feed]
@@ -60,22 +57,15 @@ def main(arguments: list[str]) -> int:
     if len(arguments) not in (2, 3):
         print(__doc__, file=sys.stderr)
         return 2
-    feed, folder, metres = (
-        Path(arguments[0]).resolve(),
-        Path(arguments[1]),
-        arguments[2] if len(arguments) > 2 else "425",
-    )
+    feed, folder, metres = Path(arguments[0]).resolve(), Path(arguments[1]), [*arguments, "425"][2]
     folder.mkdir(parents=True, exist_ok=True)
     write_addresses(feed, folder / "addresses.csv")
     (folder / "windows.toml").write_text(STUDY.format(feed=feed, metres=metres), encoding="utf-8")
     begin = time.monotonic()
-    ran = subprocess.run(
-        [PYTHON, TOOLS, "study", str(folder / "windows.toml")], env={**os.environ, "TTM_PROGRAM": PROGRAM}
-    )
-    used = resource.getrusage(resource.RUSAGE_CHILDREN)
-    busy = used.ru_utime + used.ru_stime
-    print(f"{time.monotonic() - begin:.0f} s by the clock, {busy:.0f} s of processor time")
-    return ran.returncode
+    command = [PYTHON, TOOLS, "study", str(folder / "windows.toml")]
+    ran = wait_for(subprocess.Popen(command, env={**os.environ, "TTM_PROGRAM": PROGRAM}), begin)
+    print(f"{ran.seconds:.0f} s by the clock, {ran.busy:.0f} s of processor time")
+    return ran.status
 
 
 if __name__ == "__main__":
