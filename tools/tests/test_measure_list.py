@@ -6,13 +6,13 @@ from typing import Any
 
 import pytest
 
-from ttm_tools.measures.columns import TableColumn, explained, header, markdown_table, names_of
+from ttm_tools.column_list import BY_ORIGIN, EXPLAINED, JOURNEYS, TableColumn, explained, names_of
+from ttm_tools.measures.columns import header, markdown_table
 from ttm_tools.measures.comparison import KINDS
 from ttm_tools.measures.equity import Equity
 from ttm_tools.measures.measure_list import COMPETITIONS, DECAYS, FAIRNESS, Measure, markdown_table as measure_table
 from ttm_tools.measures.nearness import Nearness
 from ttm_tools.measures.service import Service
-from ttm_tools.measures.table_list import BY_ORIGIN, EXPLAINED, JOURNEYS
 from ttm_tools.views.itineraries import JourneyParts
 
 from helpers import Room

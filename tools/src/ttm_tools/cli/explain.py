@@ -104,11 +104,10 @@ def run(args: argparse.Namespace) -> int:
 
 def table_of(args: argparse.Namespace, run: "Run") -> int:
     """Writes the table of the journeys of many pairs."""
+    from ..column_list import JOURNEYS, names_of
     from ..explanation import all_found
     from ..faults import BadInput
     from ..files import output
-    from ..measures.columns import names_of
-    from ..measures.table_list import JOURNEYS
     from ..records import rows, write_rows
     from ..views.itineraries import lines_of
 

@@ -109,10 +109,9 @@ def run(args: argparse.Namespace) -> int:
 
 def check_feeds(args: argparse.Namespace) -> int:
     """Reports the faults of each feed."""
+    from ..column_list import ERRORS, names_of
     from ..faults import as_line
     from ..files import output, scratch
-    from ..measures.columns import names_of
-    from ..measures.table_list import ERRORS
     from ..prepare import report
     from ..prepare.check import check
     from ..prepare.losses import sentences

@@ -8,13 +8,12 @@ from typing import Iterator, Sequence
 
 import numpy as np
 
+from ..column_list import ACCESS, NEAREST, names_of
 from ..faults import BadInput, some
 from ..gtfs.fields import Floats
 from ..matrices import BASE, TODAY
 from ..records import number_of, records, rows, shown
-from .columns import names_of
 from .opportunities import Counts
-from .table_list import ACCESS, NEAREST
 
 COLUMNS, OF_TIMES = names_of(ACCESS), names_of(NEAREST)
 

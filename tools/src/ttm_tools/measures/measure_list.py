@@ -8,7 +8,7 @@ import importlib
 from dataclasses import dataclass
 from typing import Any, Callable, Iterable
 
-from .columns import table
+from ..column_list import table
 
 
 @dataclass(frozen=True)

@@ -7,6 +7,7 @@ from typing import Iterator, Sequence
 
 import numpy as np
 
+from ..column_list import REPAIRS, names_of
 from ..faults import BadInput
 from ..files import is_free, many_written_aside
 from ..gtfs import fields
@@ -14,8 +15,6 @@ from ..gtfs.columns import positions_of
 from ..gtfs.feeds import Feed, names_in, read_feed, write_feed
 from ..gtfs.fields import FILES
 from ..gtfs.service_days import on_days, runs_of_trips
-from ..measures.columns import names_of
-from ..measures.table_list import REPAIRS
 from ..records import write_rows
 from .check import check
 from .clip import Clip, clip, near

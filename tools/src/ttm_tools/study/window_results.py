@@ -7,11 +7,10 @@ from typing import Any, BinaryIO, Iterator, Sequence
 
 import numpy as np
 
+from ..column_list import WINDOWS as WINDOW_COLUMNS, names_of
 from ..gtfs.fields import Floats
 from ..files import many_written_aside, output
 from ..measures.access_table import AccessTable, AccessKind
-from ..measures.columns import names_of
-from ..measures.table_list import WINDOWS as WINDOW_COLUMNS
 from ..measures.opportunities import Counts, columns_of, read_counts
 from ..naming import file_names
 from ..records import shown, write_rows

@@ -3,13 +3,12 @@
 from dataclasses import astuple, dataclass
 from typing import Any, BinaryIO, Iterator, Sequence
 
+from ..column_list import BANDS, BANDS_OF_NEAREST, names_of
 from ..faults import BadInput, some
 from ..gtfs.fields import Floats
 from ..measures.access_table import AccessTable, AccessKind, by_group
 from ..measures.bands import with_at_least, within_minutes
-from ..measures.columns import names_of
 from ..measures.opportunities import Counts
-from ..measures.table_list import BANDS, BANDS_OF_NEAREST
 from ..records import shown
 from .access import decimal
 from .equity import significant

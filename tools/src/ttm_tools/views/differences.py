@@ -6,10 +6,10 @@ from typing import BinaryIO, Sequence
 import numpy as np
 import numpy.typing as npt
 
+from ..column_list import compared
 from ..gtfs.stops import Stops
 from ..matrices import Pair, Sums
 from ..measures.comparison import KINDS, Changes, Comparison, order_of, order_of_origins, sides_of, sorted_origins
-from ..measures.table_list import compared
 from ..records import Numerals, Texts, field, fields_as_texts, joined, shown, texts_of, write_rows
 
 LINES_AT_ONCE = 200_000

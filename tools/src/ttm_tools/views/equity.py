@@ -5,14 +5,14 @@ from typing import Any, BinaryIO, Callable, Iterable, Iterator, Sequence
 
 import numpy as np
 
+from ..column_list import OF_PEOPLE, OF_PEOPLE_NEAREST, names_of
 from ..faults import BadInput, some
 from ..gtfs.fields import Floats
 from ..measures.access_table import AccessTable, AccessKind, by_group
-from ..measures.columns import header, names_of
+from ..measures.columns import header
 from ..measures.equity import TENTHS, Equity, changes_by_tenth, equity, lorenz
 from ..measures.nearness import Nearness, nearness
 from ..measures.opportunities import Counts
-from ..measures.table_list import OF_PEOPLE, OF_PEOPLE_NEAREST
 from ..records import shown
 from .tables import write_table
 from .texts import text_alone

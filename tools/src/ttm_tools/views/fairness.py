@@ -3,14 +3,13 @@
 from dataclasses import astuple, dataclass
 from typing import BinaryIO, Iterator, Sequence
 
+from ..column_list import OF_PEOPLE, names_of
 from ..faults import BadInput
 from ..gtfs.fields import Floats
 from ..measures.access_table import AccessTable, AccessKind, by_group
 from ..measures.fairness import FairnessCase, Concentration, Poverty, Theil, theil_of_all
-from ..measures.columns import names_of
 from ..measures.measure_list import FAIRNESS
 from ..measures.opportunities import Counts
-from ..measures.table_list import OF_PEOPLE
 from .equity import significant
 from .tables import write_table
 

@@ -3,8 +3,8 @@
 from dataclasses import dataclass
 from typing import Iterator, Sequence
 
+from ..column_list import JOURNEYS
 from ..measures.journeys import Leg
-from ..measures.table_list import JOURNEYS
 from ..records import shown
 from .journeys import ExplainOptions, Found
 

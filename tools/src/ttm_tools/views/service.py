@@ -5,10 +5,10 @@ from typing import Any, BinaryIO, Iterator, Sequence
 
 import numpy as np
 
+from ..column_list import SERVICE, SERVICE_OF_STOPS, names_of
 from ..gtfs.stops import in_folder
-from ..measures.columns import header, names_of
+from ..measures.columns import header
 from ..measures.service import Period, ServiceRuns, Service, departures_by_stop, headway_stops, service_of
-from ..measures.table_list import SERVICE, SERVICE_OF_STOPS
 from ..gtfs.fields import clock
 from ..records import rows, shown, write_rows
 from ..gtfs.fields import Whole

@@ -2,7 +2,29 @@
 their order, each one entry with what it is. Headers and the tables of docs/reference/measures.md come from them.
 """
 
-from .columns import named, names_of
+import itertools
+from dataclasses import dataclass
+from typing import Iterable, Sequence
+
+
+@dataclass(frozen=True)
+class TableColumn:
+    """A column of a table whose lines no measure gives: what it is, with its unit, unless its name says so."""
+
+    name: str
+    what: str = ""
+    source: str = ""
+
+
+def named(*names: str, what: str = "") -> tuple[TableColumn, ...]:
+    """Columns that are explained together."""
+    return tuple(TableColumn(name, what) for name in names)
+
+
+def names_of(columns: Iterable[TableColumn]) -> list[str]:
+    """The header of a table of these columns."""
+    return [column.name for column in columns]
+
 
 CHANGE = named("change", what="after minus before")
 BY_PAIR = (
@@ -50,3 +72,19 @@ EXPLAINED = {  # by their commands: a table of docs/reference/measures.md for ea
 def compared(by_pair: bool, has_names: bool) -> list[str]:
     """The header of a table of `compare`; names of stops come from a feed."""
     return [name for name in names_of(BY_PAIR if by_pair else BY_ORIGIN) if has_names or not name.endswith("_name")]
+
+
+def explained(columns: Iterable[TableColumn]) -> str:
+    """The columns that are explained, as docs/reference/measures.md lists them: those of one explanation in one row."""
+    each_once = dict.fromkeys(own for own in columns if own.what)
+    grouped = itertools.groupby(each_once, lambda own: (own.what, own.source))
+    listed = [(what, source, names_of(some)) for (what, source), some in grouped]
+    rows = [[", ".join(f"`{name}`" for name in names), what, source] for what, source, names in listed]
+    with_source = any(source for _, source, _ in listed)
+    return table(["Column", "What it is", *(["Source"] if with_source else [])], rows)
+
+
+def table(heads: Sequence[str], rows: Iterable[Sequence[str]]) -> str:
+    """A table of Markdown."""
+    lines = ["".join(f"| {cell} " if cell else "| " for cell in row[: len(heads)]) + "|" for row in [heads, *rows]]
+    return "\n".join([lines[0], "|---" * len(heads) + "|", *lines[1:]])
