@@ -231,9 +231,9 @@ def test_a_source_that_changes_while_it_is_read_ends_the_stage(
 
 
 def noted(write: Callable[..., None], wanted: str, change: Callable[[], object]) -> Callable[..., None]:
-    def called(path: str, *arguments: Any) -> None:
+    def called(path: Path, *arguments: Any) -> None:
         write(path, *arguments)
-        if path == wanted:
+        if path.as_posix().endswith(f"/{wanted}"):
             change()
 
     return called
