@@ -36,7 +36,7 @@ def run(args: argparse.Namespace) -> int:
     if args.bands is None:
         raise WrongWords("--bands is needed, such as 1000,10000")
     needs("numpy", *(["matplotlib"] if args.picture else []))
-    from ..files import output
+    from ..files import output, write_picture
     from ..measures.access_table import read_access
     from ..measures.opportunities import read_counts
     from ..views.bands import bands_of, figure_of, write_bands
@@ -49,6 +49,5 @@ def run(args: argparse.Namespace) -> int:
     with output(args.out) as file:
         write_bands(file, table, bands_of(table, kinds, people, args.bands), args.form)
     if figure is not None:
-        with output(args.picture) as file:
-            figure.savefig(file, format="png", dpi="figure")
+        write_picture(args.picture, figure)
     return 0

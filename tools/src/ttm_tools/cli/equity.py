@@ -62,7 +62,7 @@ def run(args: argparse.Namespace) -> int:
     if args.measure and args.picture:
         raise WrongWords("--picture goes without --measure")
     needs("numpy", *(["matplotlib"] if args.picture else []))
-    from ..files import output
+    from ..files import output, write_picture
     from ..matrices.beside import labels_of
     from ..measures.access_table import beside, read_access, sentences_on_lost
     from ..measures.opportunities import read_counts
@@ -86,8 +86,7 @@ def run(args: argparse.Namespace) -> int:
     with output(args.out) as file:
         write_equity(file, measured(table, people, options), args.form)
     if figure is not None:
-        with output(args.picture) as file:
-            figure.savefig(file, format="png", dpi="figure")
+        write_picture(args.picture, figure)
     return 0
 
 

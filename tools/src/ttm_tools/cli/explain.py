@@ -83,7 +83,7 @@ def run(args: argparse.Namespace) -> int:
         raise WrongWords("--origin and --destination are needed, or --pairs alone, without --picture")
     needs("numpy", "pandas", *(["matplotlib"] if args.picture else []))
     from ..explanation import found_of
-    from ..files import output
+    from ..files import output, write_picture
     from ..views.departures import figure_of
     from ..views.journeys import text_of
 
@@ -97,8 +97,7 @@ def run(args: argparse.Namespace) -> int:
         for line in lines:
             file.write(line.encode("utf-8", "backslashreplace") + b"\n")
     if figure is not None:
-        with output(args.picture) as file:
-            figure.savefig(file, format="png", dpi="figure")
+        write_picture(args.picture, figure)
     return 0
 
 

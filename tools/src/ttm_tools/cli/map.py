@@ -105,7 +105,7 @@ def run(args: argparse.Namespace) -> int:
         raise WrongWords("--nearest goes with nearest or difference, needs --opportunities, and takes no --origin")
     shapes = ["shapely", *(["osmium", "scipy"] if args.streets else [])] if args.picture == "isochrones" else []
     needs("numpy", "pandas", "matplotlib", *shapes)
-    from ..files import output
+    from ..files import write_picture
     from ..points.shown import shown_of
     from ..views.lines import planned_of
     from ..views.maps import Sheet, figure_of, figure_of_isochrones, picture_of
@@ -127,8 +127,7 @@ def run(args: argparse.Namespace) -> int:
         sought = sought_of(args, matrix) if of_nearest else None
         picture = picture_of(args.picture, matrix, stops, args.origin, options, sought)
         figure = figure_of(picture, matrix, stops, args.feed, sheet, base if loses else None)
-    with output(args.out) as file:
-        figure.savefig(file, format="png", dpi="figure")
+    write_picture(args.out, figure)
     return 0
 
 

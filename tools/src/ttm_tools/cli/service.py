@@ -56,7 +56,7 @@ def run(args: argparse.Namespace) -> int:
     from ..faults import needs, say
 
     needs("numpy", "pandas", *(["matplotlib"] if args.picture else []))
-    from ..files import output
+    from ..files import output, write_picture
     from ..views.service import costs_stated, groups_of, lines_of, write_lines, write_stops
     from ..views.service_map import figure_of
     from ..views.service_page import write_page
@@ -75,8 +75,7 @@ def run(args: argparse.Namespace) -> int:
             own = groups_of(found.timetable, "direction", list(found.running))
             write_page(file, found, own, list(lines_of(found, own)), f"What runs on {args.date}")
     if figure is not None:
-        with output(args.picture) as file:
-            figure.savefig(file, format="png", dpi="figure")
+        write_picture(args.picture, figure)
     say(*costs_stated(found))
     return 0
 

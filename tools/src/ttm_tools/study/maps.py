@@ -5,7 +5,7 @@ from dataclasses import dataclass
 from pathlib import Path
 from typing import Any, Callable
 
-from ..files import many_written_aside, output
+from ..files import many_written_aside, write_picture
 from ..naming import file_names
 from ..views.lines import planned_of
 from ..measures.opportunities import columns_of
@@ -107,8 +107,7 @@ def maps_stage(whole: StudyMatrix) -> Stage:
 def draw(whole: StudyMatrix, drawn: StudyMap, folder: Path, walked: Callable[[], tuple[AreaGround, Walking]]) -> None:
     """Draws one map into a folder."""
     figure = areas_drawn(whole, drawn, walked()) if drawn.kind == "isochrones" else classes_drawn(whole, drawn)
-    with output(str(folder / Path(drawn.file).name)) as file:
-        figure.savefig(file, format="png", dpi="figure")
+    write_picture(str(folder / Path(drawn.file).name), figure)
 
 
 def options_of(whole: StudyMatrix, drawn: StudyMap) -> PictureOptions:

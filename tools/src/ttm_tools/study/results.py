@@ -8,7 +8,7 @@ import numpy as np
 
 from ..gtfs.fields import Floats
 from ..gtfs.stops import Stops
-from ..files import many_written_aside, output
+from ..files import many_written_aside, output, write_picture
 from ..matrices import Matrix, Share, capped, open_matrix, pair_of
 from ..measures.access import Decay, access, nearest
 from ..measures.access_table import AccessTable, AccessKind, read_access
@@ -66,14 +66,9 @@ class StudyMatrix:
         known = {"matrix": self.sum, "base": self.inputs.base, "stops": self.inputs.stops_sum}
         return {**known, "share": self.study.share, "within": self.study.within, "most": self.study.results.max_minutes}
 
-    def whole(self) -> Matrix:
-        """The matrix, up to the greatest travel time that the study names."""
-        return capped(open_matrix(self.at(MATRIX)), self.study.results.max_minutes)
-
-    def shown_in(self, path: str) -> Matrix:
-        """The matrix of another window, as far as it is shown."""
-        matrix = capped(open_matrix(self.at(path)), self.study.results.max_minutes)
-        return shown_of(matrix, self.at(self.inputs.feed), None)[0]
+    def whole(self, name: str = MATRIX) -> Matrix:
+        """The matrix, or that of another window, up to the greatest travel time that the study names."""
+        return capped(open_matrix(self.at(name)), self.study.results.max_minutes)
 
     def counts(self, matrix: Matrix) -> Counts:
         """What is counted at its stops: each as one where nothing is named."""
@@ -91,9 +86,9 @@ class StudyMatrix:
         within = None if of_times else decimal(self.study.within / 60)
         return next((kind for kind in own if kind.cutoff == within), own[0 if of_times else -1])
 
-    def open(self) -> tuple[Matrix, Stops]:
-        """The matrix, with names and places of what it shows."""
-        matrix, stops = shown_of(self.whole(), self.at(self.inputs.feed), None)
+    def open(self, name: str = MATRIX) -> tuple[Matrix, Stops]:
+        """The matrix, or that of another window, with names and places of what it shows."""
+        matrix, stops = shown_of(self.whole(name), self.at(self.inputs.feed), None)
         assert stops is not None  # a feed was named
         return matrix, stops
 
@@ -247,8 +242,7 @@ def draw_bands(whole: StudyMatrix, folder: str, table: AccessTable, people: Coun
     with many_written_aside(whole.at(folder)) as aside:
         for name, path in bands_pictures(folder, table).items():
             figure = bands.figure_of(table, [whole.kind_drawn(table.kinds, name, table.of_times)], people, limits)
-            with output(str(aside / Path(path).name)) as file:
-                figure.savefig(file, format="png", dpi="figure")
+            write_picture(str(aside / Path(path).name), figure)
 
 
 def bands_pictures(folder: str, table: AccessTable) -> dict[str, str]:

@@ -9,7 +9,7 @@ import numpy as np
 
 from ..column_list import WINDOWS as WINDOW_COLUMNS, names_of
 from ..gtfs.fields import Floats
-from ..files import many_written_aside, output
+from ..files import many_written_aside, output, write_picture
 from ..measures.access_table import AccessTable, AccessKind
 from ..measures.opportunities import Counts, columns_of, read_counts
 from ..naming import file_names
@@ -85,7 +85,7 @@ def lines_of(whole: StudyMatrix, of: Measurement, tables: dict[DayWindow, Access
     """The lines of the table by origin, window by window; each window's numbers are kept for the table by people."""
     for question in whole.study.questions:
         path = path_of(whole, question)
-        matrix = whole.shown_in(path)
+        matrix, _ = whole.open(path)
         counts = whole.counts(matrix)
         found = of.of(matrix, counts)
         tables[question] = table_of(path, found, counts, of)
@@ -157,8 +157,7 @@ def draw_all(whole: StudyMatrix, tables: dict[DayWindow, AccessTable]) -> None:
                 figure_of_maps(columns, base, stops.of(first.origins), labels),
             ]
             for path, figure in zip(paths, figures):
-                with output(str(folder / Path(path).name)) as file:
-                    figure.savefig(file, format="png", dpi="figure")
+                write_picture(str(folder / Path(path).name), figure)
 
 
 def column_of(question: DayWindow, numbers: Floats) -> WindowColumn:

@@ -83,7 +83,6 @@ def figure_of(table: AccessTable, kinds: Sequence[AccessKind], people: Counts, l
         there = some([kind.label for kind in kinds])
         raise BadInput(table.path, f"a picture shows one of {there}: name it by --opportunity, --percentile, --cutoff")
     from matplotlib import colormaps
-    from matplotlib.backends.backend_agg import FigureCanvasAgg
     from matplotlib.figure import Figure
 
     found = list(bands_of(table, kinds, people, limits))
@@ -91,7 +90,6 @@ def figure_of(table: AccessTable, kinds: Sequence[AccessKind], people: Counts, l
     labels = labels_of(table, limits, shown(kinds[0].opportunity))
     high = AROUND + BAR * (len(rows) + len(people.names))
     figure = Figure(figsize=(INCHES, high), dpi=135, facecolor="white")
-    FigureCanvasAgg(figure)
     title = f"People by band: {table.label_of(kinds[0])}"
     figure.text(0.02, 1 - 0.15 / high, title, fontsize=13, fontweight="bold", va="top", parse_math=False)
     axes = figure.add_axes((0.24, 0.55 / high, 0.72, 1 - (AROUND - 0.2) / high))

@@ -19,11 +19,9 @@ def figure_of(options: ExplainOptions, found: Sequence[Found]) -> Any:
     """The picture of some scenarios: a mark for each departure, a dashed line at the cell, a ring at the departure
     whose journey is reported, and crosses above for departures after which nobody gets there.
     """
-    from matplotlib.backends.backend_agg import FigureCanvasAgg
     from matplotlib.figure import Figure
 
     figure = Figure(figsize=INCHES, dpi=135, facecolor="white")
-    FigureCanvasAgg(figure)
     title = f"Duration by departure: from {options.stop(options.origin)} to {options.stop(options.destination)}"
     figure.text(0.02, 0.97, title, fontsize=13, fontweight="bold", va="top", parse_math=False)
     axes = figure.add_axes((0.07, 0.12, 0.9, 0.76))

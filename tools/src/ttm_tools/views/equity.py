@@ -100,13 +100,11 @@ def figure_of(table: AccessTable, people: Counts, options: EquityOptions) -> Any
         raise BadInput(table.path, f"a picture shows one of {there}: name it by {names}")
     if len(people.names) > 1:
         raise BadInput(table.path, f"a picture shows one group of {', '.join(people.names)}: name it by --column")
-    from matplotlib.backends.backend_agg import FigureCanvasAgg
     from matplotlib.figure import Figure
 
     kind, weights = options.kinds[0], people.numbers[:, 0]
     numbers, base = table.numbers[:, table.kinds.index(kind)], table.scenario(options.base)
     figure = Figure(figsize=INCHES, dpi=135, facecolor="white")
-    FigureCanvasAgg(figure)
     title = f"How access is spread: {kind.label}; people: {shown(people.names[0])}"
     figure.text(0.02, 0.96, title, fontsize=13, fontweight="bold", va="top", parse_math=False)
     draw_lorenz(figure.add_axes((0.07, 0.13, 0.4, HIGH)), table.scenarios, numbers, weights)

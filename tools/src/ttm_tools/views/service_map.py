@@ -24,7 +24,6 @@ def widths_of(rates: Any) -> Any:
 @text_alone
 def figure_of(day: Day, scenario: str, period: Period) -> Any:
     """The figure of one scenario and one period."""
-    from matplotlib.backends.backend_agg import FigureCanvasAgg
     from matplotlib.collections import LineCollection
     from matplotlib.figure import Figure
     from matplotlib.lines import Line2D
@@ -40,7 +39,6 @@ def figure_of(day: Day, scenario: str, period: Period) -> Any:
     classes = widths_of(counts[kept] / ((period.end - period.start) / 3600))
     order = np.argsort(classes, kind="stable")
     figure = Figure(figsize=(INCHES, INCHES), dpi=135, facecolor="white")
-    FigureCanvasAgg(figure)
     axes = figure.add_axes((MARGIN, MARGIN, 1 - 2 * MARGIN, 0.88))
     widths = np.array(WIDTHS)[classes[order]]
     axes.add_collection(LineCollection(segments[order], linewidths=widths, colors=COLOUR, capstyle="round"))

@@ -57,11 +57,9 @@ def levels(numbers: Floats, people: Floats) -> tuple[float, float]:
 
 def figure_with(title: str, height: float) -> Any:
     """An empty figure below its title."""
-    from matplotlib.backends.backend_agg import FigureCanvasAgg
     from matplotlib.figure import Figure
 
     figure = Figure(figsize=(WIDE, height), dpi=135, facecolor="white")
-    FigureCanvasAgg(figure)  # becomes figure.canvas
     figure.text(0.02, 1 - 0.15 / height, title, fontsize=13, fontweight="bold", va="top", parse_math=False)
     return figure
 
