@@ -33,11 +33,11 @@ def verify(folder: Path, seed: int | None, workers: int) -> None:
     program = found_program()
     with held(folder):
         study = Folder(folder.resolve())
+        sweep(study.path, inside_parts=False)
+        with as_one_line(folder / NOTES, "isn't as a study writes it"):
+            files = {name: was for stage in notes["stages"].values() for name, was in stage["files"].items()}
+            sources = {f"{notes.get('sources_in', '..')}/{name}": was for name, was in notes["sources"].items()}
         with study.shown_in_faults():
-            sweep(study.path, inside_parts=False)
-            with as_one_line(folder / NOTES, "isn't as a study writes it"):
-                files = {name: was for stage in notes["stages"].values() for name, was in stage["files"].items()}
-                sources = {f"{notes.get('sources_in', '..')}/{name}": was for name, was in notes["sources"].items()}
             refuse_changed(study, files)
             say(f"sums: {len(files)} files are as {NOTES} says", *unstated(study, files))
             refuse_changed_sources(study, sources)
