@@ -52,7 +52,11 @@ def commands(feed: str, matrix: str, origin: str, share: list[str], counts: str)
         ("access", "nearest.csv", ["--opportunities", counts, "--nearest", "1,1000", *share, matrix]),
         ("map", "difference.png", ["difference", "--feed", feed, *share, matrix]),
         ("map", "times.png", ["times", "--feed", feed, "--origin", origin, *share, matrix]),
-        ("map", "nearest.png", ["nearest", "--feed", feed, "--opportunities", counts, *share, matrix]),
+        (
+            "map",
+            "nearest.png",
+            ["nearest", "--feed", feed, "--opportunities", counts, "--column", "kind0", *share, matrix],
+        ),
         ("map", "areas.png", ["isochrones", "--feed", feed, "--origin", origin, *share, matrix]),
         ("isochrones", "areas.geojson", ["--feed", feed, "--origin", origin, *share, matrix]),
         ("gis", "stops.geojson", ["--feed", feed, "--opportunities", counts, "--nearest", "1", *share, matrix]),
