@@ -31,7 +31,7 @@ def run(args: argparse.Namespace) -> int:
 
     index = next((place / INDEX for place in places() if (place / INDEX).is_file()), None)
     if index is None:
-        raise Lacking("the documentation isn't installed: packaging/build.sh writes it where Sphinx and MyST are")
+        raise Lacking("the documentation isn't installed: packaging/build.sh writes it, with Sphinx and MyST")
     print(index)
     if not args.path:
         webbrowser.open(index.as_uri())
