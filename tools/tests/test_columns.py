@@ -62,5 +62,5 @@ def test_origins_without_a_column_are_points(town: Town) -> None:
 
 def test_a_matrix_without_columns_is_no_open_matrix_file(town: Town) -> None:
     town.matrix(ALONE)
-    message = "has no columns, as a run whose --destinations are a header alone: there is nothing to write"
+    message = "has no columns, as after a run whose --destinations has only a header: there is nothing to write"
     town.refused(f"{town.file}: {message}", "omx", "--out", town.path("made.omx"), town.file)

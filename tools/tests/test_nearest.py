@@ -80,7 +80,7 @@ def test_bars_are_stacked_to_all_people(small: Town, monkeypatch: pytest.MonkeyP
         people_of(small, "bands", name, "--bands", bands, "--picture", small.path("b.png"), "--out", small.path("o"))
     for result, labels, widths in (
         (figures[0], ["11 jobs or more", "10 to 11", "less than 10"], [75, 0, 25, 0, 75, 25]),
-        (figures[1], ["up to 29 min", "29 to 30 min", "more than 30 min, or not at all"], [25, 75, 0, 25, 0, 75]),
+        (figures[1], ["up to 29 min", "29 to 30 min", "more than 30 min, or not reached"], [25, 75, 0, 25, 0, 75]),
     ):
         (axes,) = result.axes
         assert [text.get_text() for text in axes.get_legend().get_texts()] == labels
@@ -110,7 +110,7 @@ def test_a_map_of_the_nearest_needs_to_know_of_what(small: Town) -> None:
     for arguments in (["nearest"], ["times", "--origin", "A", "--nearest", "1", "--opportunities", "x"]):
         assert small.ran("map", *arguments, *common)[2] == 2
     both = small.write("both.csv", "stop_id,schools,jobs", [["C", 1, 1]])
-    message = f"{both}: it has the columns schools, jobs: name one by --column"
+    message = f"{both}: it has the columns schools, jobs: choose one with --column"
     small.refused(message, "map", "nearest", "--opportunities", both, *common)
 
 

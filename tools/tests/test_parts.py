@@ -80,7 +80,7 @@ def test_other_headers_and_scenarios_are_refused(room: Room) -> None:
 
 
 def test_origins_that_are_interleaved_are_refused(room: Room) -> None:
-    message = "origins.csv: the parts aren't stretches of the study's origins in their order"
+    message = "origins.csv: the parts aren't consecutive origins of the study"
     refused(parts(room, ORIGINS[::2], ORIGINS[1::2]), message)
 
 
@@ -121,7 +121,7 @@ def test_parts_with_other_shares_are_refused(room: Room) -> None:
     (some,) = parts(room, ORIGINS[:3], shares=2)
     other = room.path("other.csv")
     Path(other).write_bytes(matrix_of(SCENARIOS, ORIGINS[3:], 3).encode())
-    refused([some, other], f"{other}: its shares aren't those of {some}")
+    refused([some, other], f"{other}: its percentiles aren't those of {some}")
 
 
 def test_parts_are_whole_in_order_and_about_equal() -> None:
@@ -134,7 +134,7 @@ def test_parts_are_whole_in_order_and_about_equal() -> None:
 
 def test_a_fault_leaves_no_part_behind(room: Room) -> None:
     room.write("some.csv", "stop_id", [["A"], ["B"], ["A"]])
-    message = f"{room.path('some.csv')}: record 4: A is there twice"
+    message = f"{room.path('some.csv')}: record 4: A occurs twice"
     room.refused(message, "split", "--origins", room.path("some.csv"), "--parts", "2", "--out", room.path("parts"))
     assert room.ran("split", "--feed", str(room.folder), "--parts", "0")[2] == 2
 

@@ -62,7 +62,7 @@ def test_rules_name_the_feed(room: Room) -> None:
     out, errors, status = room.ran(
         "prepare", "--repair", "--out", room.path("out"), room.path("bus"), room.path("tram")
     )
-    assert status == 0 and errors.startswith("same: tram/routes.txt: 1 times record left out\n")
+    assert status == 0 and errors.startswith("same: tram/routes.txt: 1 record removed\n")
     result = (room.folder / "out" / "prepared.csv").read_text().splitlines()[1:]
     assert result == ["tram/routes.txt,3,route_id,Q,same,record left out"]
 

@@ -239,10 +239,10 @@ def damage_feed(room: Room) -> str:
 def test_a_feed_with_errors_is_mended_with_a_warning(room: Room, cache: None, program: str) -> None:
     given = write_streets(room), damage_feed(room)
     for _ in range(2):  # the second time it is in the cache
-        with pytest.warns(UserWarning, match="time: stop_times.txt: 2 times mended"):
+        with pytest.warns(UserWarning, match="time: stop_times.txt: 2 fields repaired"):
             with r5py.TransportNetwork(*given, program=program) as network:
                 assert minutes(from_home(network)) == [41]
-    with pytest.raises(BadInput, match="2 faults, first stop_times.txt: record 3: bad time"):
+    with pytest.raises(BadInput, match="2 errors, the first: stop_times.txt: record 3: bad time"):
         r5py.TransportNetwork(*given, repair=False)
 
 

@@ -397,18 +397,18 @@ def test_the_examples_of_the_page_for_analysts(room: Room, actions: list[str], f
 FAULTS = [
     (
         'do = "remove_rout"\nroute = "R"',
-        "line 4: do 'remove_rout' is no action; the nearest is 'remove_route'; allowed: "
+        "line 4: do 'remove_rout' is not an action; the nearest is 'remove_route'; allowed: "
         "remove_route, remove_trip, remove_stop, shift_route, shift_trip, add_line, headway, speed, extend, cut",
     ),
     ('do = "remove_route"\nroutes = "R"', "line 5: routes isn't known; the nearest is 'route'; allowed: do, route"),
     (
         'do = "remove_route"\n\nroute = "13"',
-        "line 6: route '13' is no route of the feed or of the scenario; the nearest is 'R', which bears this name",
+        "line 6: route '13' is not a route of the feed or of the scenario; the nearest is 'R', which has this name",
     ),
-    ('do = "remove_trip"\ntrip = "R11"', "line 5: trip 'R11' is no trip of the feed; the nearest is 'R1'"),
+    ('do = "remove_trip"\ntrip = "R11"', "line 5: trip 'R11' is not a trip of the feed; the nearest is 'R1'"),
     (
         'do = "remove_stop"\nstop = "Delta"',
-        "line 5: stop 'Delta' is no stop of the feed or of the plan; the nearest is 'D', which bears this name",
+        "line 5: stop 'Delta' is not a stop of the feed or of the plan; the nearest is 'D', which has this name",
     ),
     (
         'do = "shift_trip"\ntrip = "R1"\nseconds = -30000',
@@ -422,11 +422,11 @@ FAULTS = [
     ('do = "speed"\nroute = "R"\nfactor = 1.0', "line 6: factor changes no time"),
     (
         'do = "speed"\nroute = "R"\nfactor = "1"',
-        "line 6: factor '1' isn't one; allowed: a number from 0 to 100, of at most six decimals",
+        "line 6: factor '1' is invalid; allowed: a number from 0 to 100, with at most six decimals",
     ),
     (
         'do = "speed"\nroute = "Q"\nfrom_stop = "B"\nfactor = 2',
-        "line 6: from_stop no trip of the route calls there and at to_stop afterwards",
+        "line 6: from_stop no trip of the route calls there and later at to_stop",
     ),
     (
         'do = "headway"\nroute = "R"\nevery = 600\nfrom = "9:00"\nto = "08:00"',
@@ -438,32 +438,32 @@ FAULTS = [
     ),
     (
         'do = "headway"\nroute = "R"\nevery = 600\ntimes = 2\nfrom = "08:00"\nto = "09:00"',
-        "line 7: times is there together with every; allowed: one of every, times",
+        "line 7: times is given together with every; allowed: one of every, times",
     ),
     (
         'do = "headway"\nroute = "R"\nevery = 600\nfrom = "9:60"\nto = "10:00"',
-        "line 7: from '9:60' is no time; allowed: HH:MM or HH:MM:SS, from 00:00 to 167:59:59",
+        "line 7: from '9:60' is not a time; allowed: HH:MM or HH:MM:SS, from 00:00 to 167:59:59",
     ),
     (
         'do = "extend"\nroute = "R"\nafter = "C"\nstops = ["B"]\nseconds = [1]',
-        "line 6: after 'C' is no stop at which trips of the route end",
+        "line 6: after 'C' is not a stop at which trips of the route end",
     ),
     (
         'do = "extend"\nroute = "R"\nafter = "D"\nstops = ["B"]\nseconds = [1, 2]',
-        "line 8: seconds '[1, 2]' isn't that; allowed: 1 whole numbers between brackets, 0 to 86,400",
+        "line 8: seconds '[1, 2]' is invalid; allowed: 1 whole numbers between brackets, 0 to 86,400",
     ),
     ('do = "cut"\nroute = "Q"\nafter = "C"', "line 6: after 'C' leaves all trips of the route as they are"),
     (
         'do = "cut"\nroute = "Q"\nafter = "D"\nbefore = "D"',
-        "line 7: before is there together with after; allowed: one of after, before",
+        "line 7: before is given together with after; allowed: one of after, before",
     ),
     (
         'do = "add_line"\nroute = "Q"\nstops = ["A", "B"]',
-        "line 5: route 'Q' is a route already",
+        "line 5: route 'Q' is already a route",
     ),
     (
         'do = "add_line"\nroute = "R@new"\nstops = ["A", "B"]',
-        "line 5: route 'R@new' can't be a new route's name; behind an @ stands a scenario",
+        "line 5: route 'R@new' can't be the name of a new route: a scenario's name follows an @",
     ),
     ('name = "x"', "line 3: do needed"),
 ]
@@ -482,13 +482,16 @@ def test_plans_that_are_none(small: Room) -> None:
     )
     allowed = "at most 100 bytes, no dot or space in front, none of / \\ @ # , and quotes; base and today are taken"
     for text, printed in (
-        ("[[scenario]\n", ": is no TOML file: Expected ']]' at the end of an array declaration (at line 1, column 11)"),
+        (
+            "[[scenario]\n",
+            ": is not a TOML file: Expected ']]' at the end of an array declaration (at line 1, column 11)",
+        ),
         ("# nothing\n", ": line 1: scenario needed"),
         ("[[szenario]]\n", ": line 1: szenario isn't known; the nearest is 'scenario'; allowed: scenario, stop"),
         ('[[scenario]]\nname = "x"\n', ": line 1: action needed"),
         (one.format("today"), f": line 2: name 'today' can't be a scenario's name; allowed: {allowed}"),
         (one.format("a/b"), f": line 2: name 'a/b' can't be a scenario's name; allowed: {allowed}"),
-        (2 * one.format("x"), ": line 7: name 'x' is there twice"),
+        (2 * one.format("x"), ": line 7: name 'x' occurs twice"),
         (
             "".join(one.format(f"s{number}") for number in range(15)),
             ": line 72: name 's14' is scenario 15; ttm takes 14 in addition to base and today",
@@ -501,7 +504,9 @@ def test_plans_that_are_none(small: Room) -> None:
     arguments = ["scenarios", small.path("feed"), str(plan), "--out", small.path("out")]
     small.refused(f"{plan}: no scenario y", *arguments, "--only", "y")
     Path(small.path("feed/stop_times.txt")).write_text("trip_id,stop_id,stop_sequence\nR1,X,1\n")
-    printed = "2 faults, first stop_times.txt: record 2: unknown stop (ttm-tools prepare tells and mends them)"
+    printed = (
+        "2 errors, the first: stop_times.txt: record 2: unknown stop (ttm-tools prepare reports and repairs errors)"
+    )
     small.refused(f"{small.path('feed')}: {printed}", *arguments)
 
 
@@ -509,7 +514,7 @@ def test_lines_are_counted_past_comments_and_long_texts(small: Room) -> None:
     text = '# [[scenario]]\n[[scenario]]\nname = """\\\n  new"""\n[[ scenario.action ]]\n'
     text += '"do" = "cut" # [\nroute = [\n "R",\n]\nafter = "X"\n'
     Path(small.path("plan.toml")).write_text(text)
-    message = f"{small.path('plan.toml')}: line 10: after 'X' is no stop of the feed or of the plan"
+    message = f"{small.path('plan.toml')}: line 10: after 'X' is not a stop of the feed or of the plan"
     small.refused(message, "scenarios", small.path("feed"), small.path("plan.toml"), "--out", small.path("out"))
 
 
@@ -545,14 +550,16 @@ def test_walks_that_bring_old_stops_nearer_are_told(small: Room) -> None:
     made(small, f'{line}\ndepartures = [{{ first = "8:00", last = "8:00", every = 60 }}]', before=NEW_STOP)
     message = f"{small.path('out/footpaths.csv')}: {{}} footpaths; {{}}\n"
     assert small.ran("walks", "--limit", "3000", small.path("out"))[1] == message.format(
-        20, "0 stops have no coordinates"
+        20, "0 stops without coordinates"
     )
     table = [["A", "N", 290], ["N", "B", 300], ["A", "B", 590], ["B", "A", 600]]
     small.write("walks.csv", "from_stop_id,to_stop_id,seconds", table)
     arguments = ["walks", "--table", small.path("walks.csv"), small.path("out")]
-    assert small.ran(*arguments)[1] == message.format(4, "0 seconds with decimals were rounded up")
+    assert small.ran(*arguments)[1] == message.format(4, "0 times with decimals rounded up")
     small.write("walks.csv", "from_stop_id,to_stop_id,seconds", [*table[:2], ["A", "B", 591], ["B", "A", 600]])
-    nearer = "walks to new stops bring 1 pairs of old stops nearer, so today isn't as it was: A and B, "
+    nearer = (
+        "walks to new stops bring 1 pairs of old stops nearer to each other, so today differs from the feed: A and B, "
+    )
     assert small.ran(*arguments)[1].splitlines()[1] == f"{nearer}590 seconds apart by way of them, and 591 without"
     small.write("walks.csv", "from_stop_id,to_stop_id,seconds", [*table[:2], ["B", "A", 600]])
     assert small.ran(*arguments)[1].endswith("590 seconds apart by way of them, and out of reach without\n")
@@ -567,7 +574,10 @@ def with_new_stop(small: Room) -> Room:
     return small
 
 
-NEARER = "walks to new stops bring 1 pairs of old stops nearer, so today isn't as it was: A and B, 590 seconds apart"
+NEARER = (
+    "walks to new stops bring 1 pair of old stops nearer to each other, so today differs from the feed: "
+    "A and B, 590 seconds apart"
+)
 
 
 def test_walks_that_bring_old_stops_nearer_are_told_in_python(with_new_stop: Room, program: str) -> None:
@@ -614,14 +624,14 @@ def test_limits_of_ttm_are_told_before_anything_is_written(small: Room, monkeypa
         (
             "scenario_files.MOST_RECORDS",
             4,
-            ": line 2: name 'late' takes a scenario file of 5 records, and ttm 4: fewer trips, or whole routes",
+            ": line 2: name 'late' takes a scenario file of 5 records, and ttm 4: change fewer trips, or whole routes",
         ),
         ("base.MOST_STOPS", 4, ": line 17: id makes 5 stops and stations, and ttm takes 4"),
     ):
         (small.folder / "plan.toml").write_text(TWO + NEW_STOP * name.endswith("STOPS"))
         with monkeypatch.context() as patch:
             patch.setattr(f"ttm_tools.plans.{name}", most)
-            small.refused(plan + printed.format("fewer scenarios, or actions on fewer trips"), *arguments)
+            small.refused(plan + printed.format("use fewer scenarios, or change fewer trips"), *arguments)
 
 
 def test_what_a_day_of_all_scenarios_has_is_told(small: Room, monkeypatch: pytest.MonkeyPatch) -> None:
@@ -632,7 +642,7 @@ def test_what_a_day_of_all_scenarios_has_is_told(small: Room, monkeypatch: pytes
     for most, printed in (
         (60, what),
         (20, f"{what}; {more.format('16 runs with 52')}"),
-        (19, f"{what}, and ttm takes 1,000,000 and 19: fewer scenarios, or actions on fewer trips"),
+        (19, f"{what}, and ttm takes 1,000,000 and 19: use fewer scenarios, or change fewer trips"),
     ):
         with monkeypatch.context() as patch:
             patch.setattr("ttm_tools.plans.limits.MOST_STOP_TIMES", most)

@@ -19,7 +19,7 @@ from ttm_tools.files import Interrupted
 from ttm_tools.study.cutting import Part
 from ttm_tools.study.running import Pool, run_parts, tell_ending
 
-WAITED_FOR = "interrupted: the parts that run are waited for and kept; Ctrl-C again ends them"
+WAITED_FOR = "interrupted: waiting for the running parts, which will be kept; Ctrl-C again stops them"
 
 
 def test_an_interruption_says_that_the_same_command_goes_on(place: Place) -> None:  # noqa: F811
@@ -30,7 +30,7 @@ def test_an_interruption_says_that_the_same_command_goes_on(place: Place) -> Non
     wait_until(lambda: (place.folder / "nine" / "inputs").exists() or ran.poll() is not None)
     ran.send_signal(signal.SIGINT)
     errors = ran.communicate()[1].decode().splitlines()
-    assert "what is done is kept: the same command goes on with what is missing" in errors and ran.returncode == 130
+    assert "finished parts are kept: the same command resumes the study" in errors and ran.returncode == 130
 
 
 def waiting(folder: Path) -> str:
@@ -109,7 +109,7 @@ def test_ctrl_c_in_a_terminal_reaches_no_part(place: Place, program: str) -> Non
     printed = lines_until(ran, "interrupted: 1 parts that run are waited for and kept; Ctrl-C again ends them")
     (place.folder / "go").touch()
     printed += lines_until(ran)
-    assert "what is done is kept: the same command goes on with what is missing" in printed and ran.returncode == 130
+    assert "finished parts are kept: the same command resumes the study" in printed and ran.returncode == 130
     assert [path.parent.name for path in place.folder.glob("nine/parts/*/key")] == ["0001"]
 
 
@@ -151,10 +151,10 @@ def test_the_parts_that_run_on_hosts_at_ctrl_c_are_kept(place: Place, program: s
     (place.folder / "go").touch()
     printed += lines_until(ran)
     assert WAITED_FOR in printed
-    assert "what is done is kept: the same command goes on with what is missing" in printed and ran.returncode == 130
+    assert "finished parts are kept: the same command resumes the study" in printed and ran.returncode == 130
     assert kept(place) == ["0001", "0002"]
     _, said, status = place.ran("study", place.path("nine.toml"))
-    assert status == 0 and "parts: 2 of 4 are there already" in said.splitlines()
+    assert status == 0 and "parts: 2 of 4 already done" in said.splitlines()
 
 
 def test_a_second_ctrl_c_ends_the_parts_on_hosts(place: Place, program: str) -> None:  # noqa: F811
@@ -163,7 +163,7 @@ def test_a_second_ctrl_c_ends_the_parts_on_hosts(place: Place, program: str) -> 
     printed = lines_until(ran, WAITED_FOR)
     os.killpg(ran.pid, signal.SIGINT)
     printed += lines_until(ran)
-    assert "what is done is kept: the same command goes on with what is missing" in printed and ran.returncode == 130
+    assert "finished parts are kept: the same command resumes the study" in printed and ran.returncode == 130
     assert kept(place) == []
     wait_until(lambda: not list(place.folder.glob("nine/parts/*/.part.*")))
 

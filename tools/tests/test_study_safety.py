@@ -63,7 +63,7 @@ def test_a_folder_with_files_of_a_person_is_refused(bare: Place, name: str) -> N
     choices: list[list[str]] = [[], ["--out", bare.path("nine")]]
     for arguments in choices:
         _, said, status = bare.ran("study", path, *arguments)
-        line = f"{bare.path('nine')}: isn't empty, and no study's folder: name a new one by --out"
+        line = f"{bare.path('nine')}: isn't empty, and isn't the folder of a study: name a new one with --out"
         assert (said, status) == (f"ttm-tools study: {line}\n", 1)
         assert contents(bare.folder) == before
 
@@ -80,7 +80,7 @@ def test_what_a_study_did_not_write_is_never_replaced(place: Place) -> None:
     place.say(STUDY.replace("csv = true", "maps = true").replace('["cut.csv"]', '["cut.csv", "more.csv"]'))
     for name in ("inputs/scenarios/mine.csv", "compare_more.csv", "maps/mine.png"):
         _, said, status = place.ran("study", path)
-        line = f"{name}: isn't this study's, which would replace it: move it elsewhere"
+        line = f"{name}: doesn't belong to this study, which would replace it: move it elsewhere"
         assert (said.splitlines()[-1], status) == (f"ttm-tools study: {line}", 1)
         assert all((folder / item).read_text() == "mine" for item in mine)
         (folder / name).unlink()
@@ -281,7 +281,7 @@ def test_verification_tells_files_beside_the_stated_ones_and_sources_that_are_go
     _, said, status = place.ran("study", "--verify", place.path("nine"), "--seed", "7")
     lines = said.splitlines()
     assert status == 0 and "maps/mine.png: is there, and study.json doesn't state it" in lines
-    assert any(line.endswith(" files aren't there any more: ../people.csv") for line in lines)
+    assert any(line.endswith(" files no longer exist: ../people.csv") for line in lines)
 
 
 def test_a_broken_log_is_read_as_far_as_it_is_whole(place: Place) -> None:

@@ -75,8 +75,13 @@ def test_people_at_points_that_are_left_out_are_told(place: Place) -> None:  # n
 @pytest.mark.parametrize(
     "name, header, rows, message",
     [
-        ("people.csv", "id,residents", [["s0", 3]], "people.csv: record 2: s0 is no point at which journeys begin"),
-        ("jobs.csv", "id,jobs", [["S0", 3]], "jobs.csv: record 2: S0 is no point of the study"),
+        (
+            "people.csv",
+            "id,residents",
+            [["s0", 3]],
+            "people.csv: record 2: no point at which journeys begin is called s0",
+        ),
+        ("jobs.csv", "id,jobs", [["S0", 3]], "jobs.csv: record 2: no point of the study is called S0"),
         ("jobs.csv", "id,shops", [["h0", 3]], "nine.toml: [opportunities] names a column jobs"),
     ],
 )
@@ -112,7 +117,7 @@ def test_a_plan_of_one_scenario_neither_warns_nor_runs_base(place: Place) -> Non
     assert place.ran("study", planned(place))[2] == 0
     report = report_of(place)
     assert "Warnings: none." in report
-    assert "the rows of tram are those of base, as its file takes nothing out" in report
+    assert "the rows of tram are those of base, as its file removes nothing" in report
     assert open_matrix(place.path("nine/matrix.omx")).scenarios == ["today", "tram"]
     errors = place.ran("study", "--verify", place.path("nine"))
     assert errors[2] == 0, errors
@@ -146,7 +151,7 @@ def test_walks_longer_than_ttm_takes_are_refused_and_shorter_ones_told(place: Pl
 def test_a_date_without_trips_is_refused(place: Place) -> None:  # noqa: F811
     path = place.lay_out(STUDY.replace("2026-05-04", "2027-05-04"))
     _, errors, status = place.ran("study", path)
-    assert status == 1 and "no trip runs on 2027-05-04, but from 2026-05-04 to 2026-05-31" in errors
+    assert status == 1 and "no trip runs on 2027-05-04, only from 2026-05-04 to 2026-05-31" in errors
     assert (
         place.ran(
             "study",

@@ -91,8 +91,8 @@ class Conversation:
         if status >= 0:
             return EngineFault("\n".join(refusal_of(text, status)), status)
         name = signal.Signals(-status).name
-        last = refusal_of(text, status)[0] if text else "it said nothing"
-        return EngineFault(f"ttm: ended by {name}, its last line: {last.removeprefix('ttm: ')}", 128 - status)
+        last = refusal_of(text, status)[0] if text else "nothing"
+        return EngineFault(f"ttm: ended by {name}, last line: {last.removeprefix('ttm: ')}", 128 - status)
 
     def end(self, seconds: float) -> int:
         """Ends the process, after some seconds by force, and gives its exit status."""

@@ -94,7 +94,7 @@ def scenarios_of(files: Sequence[Pathlike]) -> dict[str, Pathlike | None]:
 
 def told_of(task: Run, date: datetime.date) -> str:
     """What was asked for."""
-    days = f"days before {task.back} and after {task.ahead}"
+    days = f"service days: {task.back} before and {task.ahead} after"
     limits = f"at most {task.trips} rides, walks up to {task.walk} seconds"
     return f"{date:%Y-%m-%d}, {days}; departures {task.window[0]} to {task.window[1]}, {limits}"
 
@@ -180,5 +180,5 @@ def tell_difference(found: Found, seconds: int | None, origin: str, destination:
         one, other = ("none" if value is None else f"{value} seconds" for value in (seconds, found.cell))
         ends = f"from {shown(origin)} to {shown(destination)}, {shown(found.name)}"
         raise BadInput(
-            "the travel times differ", f"{ends}: ttm has {one}, and this search, which isn't proved, {other}"
+            "the travel times differ", f"{ends}: ttm has {one}, and this search, which isn't proved, has {other}"
         )

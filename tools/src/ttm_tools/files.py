@@ -231,7 +231,7 @@ def scratch(what: str) -> Iterator[Path]:
 def is_free(out: Path) -> None:
     """Refuses a folder that isn't empty, in which files of two runs would lie side by side."""
     if out.exists() and (not out.is_dir() or any(out.iterdir())):
-        raise BadInput(out, "is there already, and isn't empty")
+        raise BadInput(out, "already exists, and isn't empty")
 
 
 @contextlib.contextmanager

@@ -67,7 +67,7 @@ class Processes:
             return held.ask(arguments)
         except EngineFault:
             if self.closed:
-                raise WrongWords("the network was closed while it was asked") from None
+                raise WrongWords("the network was closed during a question") from None
             raise
         finally:
             self.free.put(held)
@@ -111,7 +111,7 @@ class Network:
         program: Pathlike | None = None,
     ) -> None:
         if workers < 1:
-            raise WrongWords(f"workers={workers}: at least one process keeps the network")
+            raise WrongWords(f"workers={workers}: at least one process is needed")
         named, self.rounded = program_at(program), Rounded()
         self.folder = Path(tempfile.mkdtemp(prefix=f"ttm-tools-network.{os.getpid()}."))
         try:
@@ -169,7 +169,7 @@ class Network:
         except OSError:  # the folder goes with the network
             if self.closing.alive:
                 raise
-            raise WrongWords("the network was closed while it was asked") from None
+            raise WrongWords("the network was closed during a question") from None
 
     def close(self) -> None:
         """Ends the processes; what is asked afterwards is refused."""

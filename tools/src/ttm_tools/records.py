@@ -185,7 +185,7 @@ class Rounded:
         number = number_of(text.strip())
         if not 0 <= number < 1 << 32:
             allowed = "a number from 0 to 4294967295"
-            raise BadInput(path, "is no such number", record=record, column=column, value=text, allowed=allowed)
+            raise BadInput(path, "is invalid", record=record, column=column, value=text, allowed=allowed)
         rounded = math.ceil(number) if up else math.floor(number + 0.5)
         self.count += rounded != number
         return rounded

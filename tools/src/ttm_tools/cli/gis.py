@@ -42,7 +42,7 @@ def describe(parser: argparse.ArgumentParser) -> None:
 
 
 def run(args: argparse.Namespace) -> int:
-    from ..faults import WrongWords, needs, say
+    from ..faults import WrongWords, needs, quantity, say
 
     kind = gis_kind(args.out)
     if bool(args.opportunities) != bool(args.nearest):
@@ -67,5 +67,5 @@ def run(args: argparse.Namespace) -> int:
         with output(args.out) as file:
             write_geojson(file, features)
     lost = len(matrix.stops_and_origins()) - len(features.stops.identifiers)
-    say(f"{args.out}: {len(features.stops.identifiers)} stops; {lost} have no coordinates")
+    say(f"{args.out}: {quantity(len(features.stops.identifiers), 'stop')}; {lost:,} without coordinates")
     return 0

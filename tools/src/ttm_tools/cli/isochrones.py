@@ -54,7 +54,7 @@ def describe(parser: argparse.ArgumentParser) -> None:
 
 
 def run(args: argparse.Namespace) -> int:
-    from ..faults import WrongWords, needs, say
+    from ..faults import WrongWords, needs, quantity, say
 
     kind = gis_kind(args.out)
     streets = ["osmium", "scipy"] if args.streets else []
@@ -83,5 +83,5 @@ def run(args: argparse.Namespace) -> int:
         with output(args.out) as file:
             areas.write_geojson(file, found, args.origin)
     lost = int((~ground.placed).sum())
-    say(f"{args.out}: {len(found)} areas; {lost} stops have no coordinates")
+    say(f"{args.out}: {quantity(len(found), 'area')}; {quantity(lost, 'stop')} without coordinates")
     return 0

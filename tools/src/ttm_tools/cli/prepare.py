@@ -14,8 +14,8 @@ Writes a folder that ttm reads, from published feeds: zip files or folders, with
 that fails it prints ttm's line, then the value, what is allowed, and how often it fails. A field that fails several
 checks is reported once; references to a missing file are not checked. Warnings follow: the days on which trips run,
 misspelt columns, stops without coordinates or at 0 and 0, trips of a single stop, speeds over 300 km/h, stations used
-as stops, transfers that aren't used. For a feed with errors, the days are those that --repair would leave, together with
-what it would remove. The exit status is 1 if there is an error.
+as stops, transfers that aren't used. For a feed with errors, the days are those that --repair would leave, with what
+it would remove. The exit status is 1 if there is an error.
 
 --out writes the feed; a feed with errors is refused. --repair repairs it first, by the rules below; prepared.csv in the
 folder has a line for each repaired record. Then it prints how many records each file has left, and on which days trips
@@ -48,7 +48,9 @@ def describe(parser: argparse.ArgumentParser) -> None:
     parser.add_argument("--check", action="store_true", help=only)
     add_text(parser, "--faults", "FILE", "with --check, a line for each single error, as CSV", without="none")
     add_text(parser, "--out", "FOLDER", "the folder to write; it must be new or empty", without="--check is needed")
-    parser.add_argument("--repair", action="store_true", help="repair errors (without it, they are reported and nothing is written)")
+    parser.add_argument(
+        "--repair", action="store_true", help="repair errors (without it, they are reported and nothing is written)"
+    )
     what = "write the feed even if a repair removes much of a file, or if no trip runs (without it, an error)"
     parser.add_argument("--allow-loss", action="store_true", help=what)
     what = "merge feeds of several time zones, and treat their times as those of one (without it, an error)"
@@ -59,9 +61,7 @@ def describe(parser: argparse.ArgumentParser) -> None:
     add_several(parser, "--routes", "ROUTE_ID", "a route to keep", without="all")
     what = "an agency whose routes to keep; may be given more than once (without it, all)"
     parser.add_argument("--agency", action="append", default=[], metavar="AGENCY_ID", help=what)
-    what = (
-        "YYYYMMDD or YYYY-MM-DD: keep services that run from --back days before it to --ahead after it (without it, all)"
-    )
+    what = "YYYYMMDD or YYYY-MM-DD: keep services that run --back days before it to --ahead after (without it, all)"
     parser.add_argument("--date", type=day, metavar="DATE", help=what)
     add_number(parser, "--back", "days before the date, as for ttm", Range("days", 0, 6), default=1)
     add_number(parser, "--ahead", "days after the date, as for ttm", Range("days", 0, 6), default=1)
@@ -123,7 +123,7 @@ def check_feeds(args: argparse.Namespace) -> int:
             feed = read_feed(path, room)
             faults = check(feed)
             rows.extend(report.fault_rows(faults))
-            lines = [*(report.fault_lines(faults) if faults else ["no faults"]), *sentences(feed, bool(faults))]
+            lines = [*(report.fault_lines(faults) if faults else ["no errors"]), *sentences(feed, bool(faults))]
             print("\n".join(map(as_line, [f"{path}:"] * (len(args.feeds) > 1) + lines)))
     if args.faults:
         with output(args.faults) as file:

@@ -38,7 +38,7 @@ def describe(parser: argparse.ArgumentParser) -> None:
 
 
 def run(args: argparse.Namespace) -> int:
-    from ..faults import WrongWords, needs, say
+    from ..faults import WrongWords, needs, quantity, say
 
     if args.table and args.streets:
         raise WrongWords("--table and --streets are two sources of walks: choose one")
@@ -53,12 +53,12 @@ def run(args: argparse.Namespace) -> int:
     out = args.out or os.path.join(args.folder, "footpaths.csv")
     if args.table:
         rows = read_walks(args.table, stops, rounded)
-        sentence = f"{rounded.count} seconds with decimals were rounded up"
+        sentence = f"{quantity(rounded.count, 'time')} with decimals rounded up"
     else:
         pace = Pace(args.limit, args.speed, args.detour)
         found = walks_of(stops, pace, args.streets, args.near)
         rows, sentence = found.rows(), walks_summary(found, "stops", args.near)
     with output(out) as file:
         write_rows(file, ["from_stop_id", "to_stop_id", "seconds"], rows)
-    say(f"{out}: {len(rows)} footpaths; {sentence}", *sentences_on_nearer(args.folder, out))
+    say(f"{out}: {quantity(len(rows), 'footpath')}; {sentence}", *sentences_on_nearer(args.folder, out))
     return 0

@@ -60,7 +60,7 @@ def frame_of(exploration: Exploration) -> page.Frame:
         standing.scenarios,
         list(options.shares),
         [sources.meaning(share, arguments) for share in options.shares],
-        [("Feed", name), ("Date", options.date.isoformat()), ("Made by", "ttm-tools explore")],
+        [("Feed", name), ("Date", options.date.isoformat()), ("Written by", "ttm-tools explore")],
         [],
         MINUTES,
         leaflet=options.leaflet,

@@ -133,7 +133,7 @@ class Exploration:
     def change(self, actions: list[Values], walk: int) -> dict[str, Any]:
         """Begins another network, which answers from the moment on at which it can."""
         if self.options.generated and walk > self.options.most_walk:
-            raise WrongWords(f"walk is {walk}; walks were made up to {self.options.most_walk} seconds")
+            raise WrongWords(f"walk is {walk}; walks were computed up to {self.options.most_walk} seconds")
         with self.changing:
             version = self.standing.version + 1
             standing = self.begun(version, self.planned(actions, walk))
@@ -200,7 +200,7 @@ def stops_of(folder: str, points: str | None) -> Stops:
 def ground_of(stops: Stops) -> Ground:
     """All stops at which vehicles may call, each of which is an origin and a destination."""
     if not stops.placed.any():
-        raise BadInput(stops.path, "none of the stops has a place, so there is nothing to show")
+        raise BadInput(stops.path, "none of the stops has coordinates, so there is nothing to show")
     names = [name for name, kind in zip(stops.identifiers, stops.kinds.tolist()) if kind == 0]
     places = places_of(stops, names).in_order()
     return Ground(places, places.identifiers, places.identifiers, places.identifiers)

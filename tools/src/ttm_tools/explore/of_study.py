@@ -13,10 +13,10 @@ def options_of_study(path: str, options: ExploreOptions) -> ExploreOptions:
     study = read_study(path)
     run, walks = study.run, study.walks
     if not study.feed.ready or study.points.are_any:
-        message = "its feed has to be prepared first: explore the folder of a feed, as the study's own folder has it"
+        message = "prepare its feed first: explore the folder of a feed, such as the one in the study's folder"
         raise BadInput(path, message, column="ready", allowed="true, and no [points]")
     if walks.table is None and not walks.none:
-        message = "its walks have to be made first: ttm-tools walks, then table of [walks]"
+        message = "compute its walks first: run ttm-tools walks, then set table of [walks]"
         raise BadInput(path, message, column="walks", allowed="table, or none = true")
     table, plan = (None if path is None else study.at(path) for path in (walks.table, study.scenarios.plan))
     return replace(

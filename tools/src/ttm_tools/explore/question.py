@@ -67,6 +67,6 @@ def question_of(args: Mapping[str, str], places: int) -> Question:
     """A question about one of so many places, or about any point."""
     tab = args.get("tab", "")
     if not TAB.fullmatch(tab):
-        raise WrongWords("tab is no name of a tab")
+        raise WrongWords("tab is not the name of a tab")
     origin, trips = origin_of(args, places), whole(args, "trips", 1, 8)
     return Question(origin, window_of(args), trips, tab, whole(args, "turn", 0, 1 << 53))

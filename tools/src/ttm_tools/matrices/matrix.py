@@ -104,7 +104,7 @@ class Matrix(ABC):
         """The travel times of one origin, which the scenario has."""
         names = self.origins(scenario, share)
         if origin not in names:
-            raise BadInput(self.path, f"{shown(origin)} is no origin of the scenario {shown(scenario)}")
+            raise BadInput(self.path, f"the scenario {shown(scenario)} has no origin {shown(origin)}")
         place = names.index(origin)
         row: Seconds = self.rows(scenario, share, place, place + 1)[0]
         return row
@@ -113,11 +113,11 @@ class Matrix(ABC):
         """The share that is asked for, which needs to be named only where there are several."""
         percentiles = ", ".join(map(str, self.shares))
         if percent is not None and not self.layout.names_share:
-            raise BadInput(self.path, "it names no share; leave --share out")
+            raise BadInput(self.path, "it has no percentiles: leave out --share")
         if percent is not None and percent not in self.shares:
-            raise BadInput(self.path, f"no line of the share {percent}; it has {percentiles}")
+            raise BadInput(self.path, f"no rows for the percentile {percent}; it has {percentiles}")
         if percent is None and self.layout.names_share and len(self.shares) > 1:
-            raise BadInput(self.path, f"it has lines of the shares {percentiles}: name one by --share")
+            raise BadInput(self.path, f"it has rows for the percentiles {percentiles}: choose one with --share")
         return self.shares[0] if percent is None else percent
 
     def limit(self, seconds: int | None) -> tuple[int, int | None]:
@@ -129,7 +129,7 @@ class Matrix(ABC):
             return 0, seconds
         seconds_stated = ", ".join(map(str, limits))
         if seconds is None and len(limits) > 1:
-            raise BadInput(self.path, f"it has access within {seconds_stated} seconds: name one by --within")
+            raise BadInput(self.path, f"it has access within {seconds_stated} seconds: choose one with --within")
         if seconds is not None and seconds not in limits:
             raise BadInput(self.path, f"no access within {seconds} seconds, but within {seconds_stated}")
         place = 0 if seconds is None else limits.index(seconds)
@@ -160,7 +160,7 @@ class Matrix(ABC):
         others = [name for name in (self.scenarios if base == BASE else self.compared) if name != base]
         if len(others) > 1:
             names = f"{shown(others[0])} and {shown(others[1])}"
-            raise BadInput(self.path, f"it has the scenarios {names} besides {shown(base)}: name one by --scenario")
+            raise BadInput(self.path, f"it has the scenarios {names} besides {shown(base)}: choose one with --scenario")
         if not others:
             raise BadInput(
                 self.path, f"no scenario other than {shown(base)}; it has {', '.join(map(shown, self.scenarios))}"

@@ -88,14 +88,14 @@ def numbers_of(path: str, names: Sequence[str], places: dict[str, int], kind: st
     numbers, seen = np.zeros((len(places), len(names))), set[str]()
     for number, (stop, *fields) in rows(path, [identifier_of(path), *names]):
         if stop not in places:
-            raise BadInput(path, f"{shown(stop)} is no {kind}", record=number)
+            raise BadInput(path, f"no {kind} is called {shown(stop)}", record=number)
         if stop in seen:
-            raise BadInput(path, f"{shown(stop)} is there twice", record=number)
+            raise BadInput(path, f"{shown(stop)} occurs twice", record=number)
         seen.add(stop)
         for column, text in enumerate(fields):
             value = number_of(text.strip())
             if not value >= 0:
                 allowed = "a number from 0 on"
-                raise BadInput(path, "is none", record=number, column=names[column], value=text, allowed=allowed)
+                raise BadInput(path, "is invalid", record=number, column=names[column], value=text, allowed=allowed)
             numbers[places[stop], column] = value
     return numbers

@@ -26,10 +26,10 @@ def regular(path: str | Path) -> os.stat_result:
     except OSError as fault:
         raise BadInput(path, fault.strerror) from None
     except ValueError:
-        raise BadInput(repr(path), "is no path") from None
+        raise BadInput(repr(path), "is not a path") from None
     for is_kind, name in KINDS:
         if is_kind(found.st_mode):
-            raise BadInput(path, f"is no file but {name}")
+            raise BadInput(path, f"is not a file but {name}")
     note_input(found)
     return found
 
@@ -38,7 +38,7 @@ def sized(path: str | Path, most: int, what: str) -> int:
     """The bytes of a file that is read as a whole."""
     size = regular(path).st_size
     if size > most:
-        raise BadInput(path, f"has {size:,} bytes, and {what} at most {most:,}")
+        raise BadInput(path, f"has {size:,} bytes; {what} has at most {most:,}")
     return size
 
 

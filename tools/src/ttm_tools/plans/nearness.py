@@ -3,6 +3,7 @@
 import os
 from typing import Iterator
 
+from ..faults import quantity
 from ..gtfs.nearest import reached_from
 from ..gtfs.stops import read_stops
 from ..records import rows, shown
@@ -29,8 +30,10 @@ def sentences_on_nearer(folder: str, footpaths: str, walk: int = 0) -> Iterator[
     if found:
         a, b, seconds, before = found[0]
         ends = f"{shown(stops.identifiers[a])} and {shown(stops.identifiers[b])}"
-        times = f"{seconds} seconds apart by way of them, and {'out of reach' if before is None else before} without"
-        pairs = f"{len(found):,} pairs of old stops nearer, so today isn't as it was"
+        times = (
+            f"{seconds} seconds apart by way of them, and {'out of reach' if before is None else before} without them"
+        )
+        pairs = f"{quantity(len(found), 'pair')} of old stops nearer to each other, so today differs from the feed"
         yield f"walks to new stops bring {pairs}: {ends}, {times}"
 
 

@@ -37,7 +37,7 @@ def read_plan(path: str) -> Plan:
     seen = set[str]()
     for number, scenario in enumerate(scenarios):
         if scenario.name in seen:
-            raise scenario.entry.fault("is there twice", "name", scenario.name)
+            raise scenario.entry.fault("occurs twice", "name", scenario.name)
         if number >= MOST_SCENARIOS:
             message = f"is scenario {number + 1}; ttm takes {MOST_SCENARIOS} in addition to base and today"
             raise scenario.entry.fault(message, "name", scenario.name)

@@ -74,14 +74,14 @@ def areas_beside(points: str) -> dict[str, Area]:
     if not path.is_file():
         return {}
     found, areas = read_json(path, "GeoJSON"), dict[str, Area]()
-    with as_one_line(path, "is no file of areas that ttm-tools points wrote"):
+    with as_one_line(path, "is not a file of areas from ttm-tools points"):
         for feature in found["features"]:
             geometry = feature["geometry"]
             parts = geometry["coordinates"] if geometry["type"] == KINDS[1] else [geometry["coordinates"]]
             areas[str(feature["properties"]["id"])] = [[ring_of(ring) for ring in polygon] for polygon in parts]
     for identifier, area in areas.items():
         if not all(is_ring(ring) for polygon in area for ring in polygon):
-            raise BadInput(path, f"the area of {shown(identifier)} has a ring that is none")
+            raise BadInput(path, f"the area of {shown(identifier)} has an invalid ring")
     return areas
 
 

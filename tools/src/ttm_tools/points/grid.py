@@ -124,24 +124,24 @@ def whole(grid: Grid) -> Grid:
     """The same grid, if it has some cells and not too many."""
     refuse_cells(len(grid.squares))
     if not len(grid.squares):
-        raise BadInput(PATH, f"no cell of {1000 * grid.side:g} metres is within a walk of a stop: take smaller ones")
+        raise BadInput(PATH, f"no cell of {1000 * grid.side:g} metres is within a walk of a stop: use smaller cells")
     return grid
 
 
 def refuse_tried(count: float) -> None:
     if count > MOST_TRIED:
-        raise BadInput(PATH, f"{count:,.0f} cells are too many to look at: take larger ones, or a smaller area")
+        raise BadInput(PATH, f"{count:,.0f} cells are too many: use larger cells, or a smaller area")
 
 
 def refuse_cells(count: int) -> None:
     if count > MOST_CELLS:
-        raise BadInput(PATH, f"more than {MOST_CELLS:,} cells, which ttm doesn't take: take larger ones")
+        raise BadInput(PATH, f"more than {MOST_CELLS:,} cells, which is more than ttm takes: use larger cells")
 
 
 def areas_of(path: str) -> Any:
     """The shapes of a file in degrees."""
     if Path(path).suffix.lower() not in AREAS:
-        raise BadInput(path, f"areas are taken from {', '.join(AREAS)}")
+        raise BadInput(path, f"areas are read from {', '.join(AREAS)}")
     frame = read_frame(path)
     if frame.crs is None:
         raise BadInput(path, "it names no coordinate reference system")
@@ -166,7 +166,7 @@ def filled(grid: Grid, paths: Sequence[str]) -> tuple[Points, list[str]]:
 def sentences_on_outside(path: str, names: Sequence[str], lost: Floats, totals: Floats) -> list[str]:
     """How much of each column lies in no cell."""
     return [
-        f"{path}: {plain(round(outside, 3))} of {plain(round(total, 3))} {shown(name)} lie outside of all cells"
+        f"{path}: {plain(round(outside, 3))} of {plain(round(total, 3))} {shown(name)} are outside all cells"
         for name, outside, total in zip(names, lost.tolist(), totals.tolist())
         if outside > 1e-6 * max(total, 1)
     ]
@@ -237,7 +237,7 @@ def numbers_of(path: str, frame: Any, names: Sequence[str]) -> Floats:
         record, column = bad[0].tolist()
         value = text_of(frame[names[column]].iat[record])
         allowed = "a number from 0 on"
-        raise BadInput(path, "is none", record=record + 1, column=names[column], value=value, allowed=allowed)
+        raise BadInput(path, "is invalid", record=record + 1, column=names[column], value=value, allowed=allowed)
     return numbers
 
 

@@ -149,10 +149,10 @@ def in_area(x: fields.Floats, y: fields.Floats, path: str) -> Mask:
         try:
             polygon = shape(geometry)
             west, south, east, north = polygon.bounds
-        except Exception as fault:  # whatever shapely says of a polygon that is none
-            raise BadInput(path, f"a polygon that is none: {fault}") from None
+        except Exception as fault:  # whatever shapely says of an invalid polygon
+            raise BadInput(path, f"an invalid polygon: {fault}") from None
         if not (-180 <= west and east <= 180 and -90 <= south and north <= 90):
-            raise BadInput(path, "coordinates that are no degrees", allowed="longitude and latitude, WGS 84")
+            raise BadInput(path, "coordinates that are not degrees", allowed="longitude and latitude, WGS 84")
         near = np.flatnonzero((x >= west) & (x <= east) & (y >= south) & (y <= north))
         ready = prep(polygon)
         inside[near] |= np.array([ready.intersects(Point(x[place], y[place])) for place in near], dtype=np.bool_)
@@ -161,7 +161,7 @@ def in_area(x: fields.Floats, y: fields.Floats, path: str) -> Mask:
 
 def polygons_of(path: str) -> list[dict[str, Any]]:
     read = read_json(path, "GeoJSON")
-    with as_one_line(path, "is no GeoJSON"):
+    with as_one_line(path, "is not GeoJSON"):
         polygons = list(geometries(read))
     if not polygons:
         raise BadInput(path, "no polygon in it", allowed="a GeoJSON Polygon or MultiPolygon, or features of these")

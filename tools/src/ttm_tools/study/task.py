@@ -47,11 +47,11 @@ def task_known() -> dict[str, Any]:
 def one_part(folder: Path, number: int) -> None:
     """Computes a part where a study's folder says so; what goes wrong is noted beside it."""
     if not folder.is_dir():
-        raise BadInput(folder, "is no folder of a study")
+        raise BadInput(folder, "is not the folder of a study")
     with contextlib.chdir(folder):
         known = task_known()
         if not known:
-            raise BadInput(folder, f"is no folder of a study with parts to compute: no {TASK}")
+            raise BadInput(folder, f"is not the folder of a study with parts to compute: no {TASK}")
         run = Run(**known["run"])
         window = known.get("window", FIRST)
         parts = parts_for(origins_in(str(run.files["origins"])), known["parts"], known["key"], window)
@@ -72,7 +72,9 @@ def computed(run: Run, part: Part, known: dict[str, Any]) -> str | None:
     """Runs a part with the version of `ttm` that the study has; gives the line that says why there is no matrix."""
     own = version_of(program_at(None))
     if own != known["version"]:
-        return f"{program_at(None)} is {own[0]}, and the study's ttm is another one, or proved with another toolchain"
+        return (
+            f"{program_at(None)} is {own[0]}, and the study's ttm is another one, or was proved with another toolchain"
+        )
     running = Running(run, part.matrix)
     try:
         message = running.end()

@@ -57,16 +57,16 @@ def running(pieces: Pieces) -> MapLines:
 
 
 def taken_out(pieces: Pieces) -> MapLines:
-    return MapLines(pieces, "trips that are taken out", "#222222", 2.0)
+    return MapLines(pieces, "removed trips", "#222222", 2.0)
 
 
 def changed(pieces: Pieces) -> MapLines:
     """Where trips give way to others."""
-    return MapLines(pieces, "trips that are changed", "#882255", 1.6)
+    return MapLines(pieces, "changed trips", "#882255", 1.6)
 
 
 def added(pieces: Pieces) -> MapLines:
-    return MapLines(pieces, "trips that are added", "#117733", 2.4, (0, (4, 1.5)))
+    return MapLines(pieces, "added trips", "#117733", 2.4, (0, (4, 1.5)))
 
 
 @text_alone

@@ -66,7 +66,7 @@ def picture_of_nearest(matrix: Matrix, options: PictureOptions, what: Nearest) -
     seconds = what.seconds(matrix, scenario, share)
     marks, classes = classes_of_minutes(seconds, options.breaks or MINUTES)
     there, drawn = ~np.isnan(seconds), matrix.stops_and_origins()
-    subtitle = f"From {there.sum():,} of {len(there):,} {options.what} so many are reached"
+    subtitle = f"From {there.sum():,} of {len(there):,} {options.what} this number is reached"
     if there.any():
         subtitle += f", from half of these within {math.ceil(float(np.median(seconds[there])) / 60)} minutes"
     classes = of_origins(drawn, matrix.origins(scenario, share), classes, len(marks))

@@ -77,7 +77,7 @@ class PictureOptions:
 
 
 NOT_REACHED = Mark("not reached", "#9a9a9a", "x", 0.7)
-NO_ORIGIN = Mark("no origin of the matrix", "#c4c4c4", "o", 0.07, "none")
+NO_ORIGIN = Mark("not an origin of the matrix", "#c4c4c4", "o", 0.07, "none")
 
 
 def shades(count: int, name: str = "plasma", first: float = 0.0, last: float = 0.98) -> list[Shade]:
@@ -88,7 +88,7 @@ def shades(count: int, name: str = "plasma", first: float = 0.0, last: float = 0
 def source_of(scenario: str, share: Share, matrix: Matrix) -> str:
     sentences = [
         f"Scenario {scenario}",
-        *([] if share is None else [f"travel times that {share} of 100 departures keep to"]),
+        *([] if share is None else [f"travel times that {share} % of departures achieve"]),
     ]
     return "; ".join([*sentences, *(text for text in (matrix.greatest_stated, matrix.heading) if text)]) + "."
 
@@ -241,7 +241,7 @@ def picture_of_access_difference(matrix: Matrix, stops: Stops, options: PictureO
     worst = [pair.origins[row] for row in order[percent[order] <= -breaks[0]].tolist()]
     if worst:
         most, lost = -percent[order[0]], int(first[order[0]] - second[order[0]])
-        subtitle += f"; the most: {most:.0f} % ({lost:,} {options.unit}) at {stops.name_of(worst[0])}"
+        subtitle += f"; the greatest loss: {most:.0f} % ({lost:,} {options.unit}) at {stops.name_of(worst[0])}"
     title = f"Access from each {options.what[:-1]}: {options.unit}{within_stated(limit)}, {beside(pair)}"
     key, source = f"Change of access:\n{options.unit}{within_stated(limit)}", source_of(
         beside(pair), pair.share, matrix

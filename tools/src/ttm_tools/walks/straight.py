@@ -236,6 +236,6 @@ def read_walks(path: str, stops: Stops, rounded: Rounded) -> list[tuple[str, str
     for number, (a, b, seconds) in rows(path, ["from_stop_id", "to_stop_id", "seconds"]):
         for column, stop in (("from_stop_id", a), ("to_stop_id", b)):
             if stop not in stops.places:
-                raise BadInput(path, f"is no stop of {stops.path}", record=number, column=column, value=shown(stop))
+                raise BadInput(path, f"is not a stop of {stops.path}", record=number, column=column, value=shown(stop))
         found.append((a, b, rounded.whole(seconds, path, number, "seconds", up=True)))
     return found

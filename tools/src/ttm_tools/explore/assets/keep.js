@@ -73,7 +73,7 @@ const keep = {
     const origin = point.isChosen() ? point.originOf(state.place) : state.place;
     const answer = await answerOf("study", {}, { first, last, trips, origin });
     const { command } = await answer.json();
-    fill("kept", "Saved. This computes all of it: ", made("code", command));
+    fill("kept", "Saved. To compute all of it, run: ", made("code", command));
   },
 };
 

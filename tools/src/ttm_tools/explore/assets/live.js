@@ -25,7 +25,7 @@ async function answerOf(name, words, body) {
     throw new Error("The server has ended: start ttm-tools explore again.");
   }
   if (!response.ok) {
-    const told = await response.json().catch(() => ({ fault: `the server answers ${response.status}` }));
+    const told = await response.json().catch(() => ({ fault: `the server answered with status ${response.status}` }));
     throw new Error(told.fault);
   }
   return response;

@@ -38,7 +38,7 @@ def oftener(state: State, entry: Entry, trips: Sequence[Trip], start: int, end: 
                 added += 1
                 state.add(in_range(entry, copy_of(state, trip, added, extra, trip.service)))
     ends = " to ".join(stop_shown(state, int(trips[0].stop[place])) for place in (0, -1))
-    return [f"route {trips[0].route}, {ends}: {added:,} departures added between {len(inside):,}"] if inside else []
+    return [f"route {trips[0].route}, {ends}: {added:,} departures added to {len(inside):,}"] if inside else []
 
 
 def services_beside(state: State, services: set[str]) -> dict[str, set[str]]:

@@ -56,9 +56,9 @@ def trips_named(state: State, entry: Entry) -> list[Trip]:
             continue
         place = state.base.numbers.get(name, -1)
         if place < 0:
-            raise entry.fault(f"is no trip of the feed{near(name, state.base.trips)}", "trip", name)
+            raise entry.fault(f"is not a trip of the feed{near(name, state.base.trips)}", "trip", name)
         if not state.kept[place]:
-            message = "has no trip any more" if state.base.lengths[place] else "never runs: it has no calls at stops"
+            message = "is already removed" if state.base.lengths[place] else "never runs: it has no calls at stops"
             raise entry.fault(f"{message}, so nothing changes", "trip", name)
         trips.append(state.trip(place))
     return trips
@@ -79,7 +79,7 @@ def remove_stop(state: State, entry: Entry) -> list[str]:
     trips = chosen(state, entry) if entry.has("route") else trips_calling(state, stops)
     trips = [trip for trip in trips if np.isin(trip.stop, stops).any()]
     if not trips:
-        message = "is no stop at which these trips call, so nothing changes"
+        message = "is not a stop at which these trips call, so nothing changes"
         raise entry.fault(message, "stop", ", ".join(stop_shown(state, stop) for stop in stops))
     for trip in trips:
         rest = kept_calls(trip, ~np.isin(trip.stop, stops))
@@ -92,7 +92,7 @@ def remove_stop(state: State, entry: Entry) -> list[str]:
 
 
 def sentences_on_lost(lost: int) -> list[str]:
-    return [f"{lost:,} trips taken out that were left with a single call"] if lost else []
+    return [f"trips removed because they had a single call left: {lost:,}"] if lost else []
 
 
 def trips_calling(state: State, stops: list[int]) -> list[Trip]:

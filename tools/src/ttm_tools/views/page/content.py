@@ -105,7 +105,7 @@ def ground_of(matrix: Matrix, stops: Stops, options: PageOptions) -> Ground:
         [name for name in places.identifiers if name in among] for among in (matrix.places, set(origins))
     )
     if np.isnan(places.latitudes).all():
-        raise BadInput(stops.path, f"none of the {options.what} has a place, so there is nothing to show")
+        raise BadInput(stops.path, f"none of the {options.what} has coordinates, so there is nothing to show")
     wanted = set(starts if options.origins is None else options.origins)
     rows = [name for name in starts if name in wanted]
     room = options.most_cells // max(1, len(columns) * len(options.scenarios) * len(options.shares))

@@ -151,17 +151,19 @@ def rows_stated(content: Content, options: PageOptions) -> list[str]:
     """What is reported where the page hasn't the travel times from all origins, or can't draw all places."""
     ground, sentences = content.ground, []
     if len(ground.rows) < len(ground.origins):
-        how = "named" if options.origins is not None else f"drawn with the seed {options.seed}"
+        how = "named" if options.origins is not None else f"chosen at random with the seed {options.seed}"
         sentences.append(
             f"The page has the travel times from {len(ground.rows):,} of {len(ground.origins):,} origins, which were "
             f"{how}, and access from all."
         )
     if content.hidden:
         names = ", ".join(content.hidden)
-        sentences.append(f"{names}: part of them is at stops that aren't shown; access counts all, the slider nothing.")
+        sentences.append(
+            f"{names}: part of them is at stops that aren't shown; access counts all of them, the slider none."
+        )
     lost = sum(1 for latitude in ground.places.latitudes if math.isnan(latitude))
     if lost:
-        sentences.append(f"{lost:,} places have no coordinates: they are found by name, and aren't on the map.")
+        sentences.append(f"{lost:,} places have no coordinates: you can find them by name, but they aren't on the map.")
     return sentences
 
 

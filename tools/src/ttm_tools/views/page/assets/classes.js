@@ -11,7 +11,7 @@ const LOST = { 3: ["#f9c6ac", "#d55d4c", "#a21328"], 4: ["#f9c6ac", "#e37e64", "
 const GAINED = { 3: ["#b8d8e9", "#4291c2", "#1b5a9c"], 4: ["#b8d8e9", "#65a9cf", "#3480b9", "#1b5a9c"] };
 
 const NOT_REACHED = { label: "not reached", colour: "#8a8a8a", shape: "thin", size: 0.8 };
-const NO_ORIGIN = { label: "no origin of the matrix", colour: "#c4c4c4", shape: "dot", size: 0.5 };
+const NO_ORIGIN = { label: "not an origin of the matrix", colour: "#c4c4c4", shape: "dot", size: 0.5 };
 const UNKNOWN = { label: "places", colour: "#7d8a99", shape: "circle", size: 0.8 };
 
 /** A colour of a scale, at a part of its length. */
