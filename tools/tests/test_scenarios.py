@@ -105,7 +105,7 @@ def test_routes_and_trips_are_taken_out_and_shifted(small: Room) -> None:
 def test_trips_no_longer_call_at_a_stop(small: Room) -> None:
     feed, printed = made(small, 'do = "remove_stop"\nstop = ["A", "B"]')
     assert feed["R1"] == R1[2:] and feed["S1"] == ["D 08:10:00", "C 08:19:00 08:19:30"] and "Q1" not in feed
-    assert printed[1] == "  1 trips taken out that were left with a single call"
+    assert printed[1] == "  1 trip removed because only one call was left"
     (small.folder / "out").rename(small.folder / "before")
     feed, _ = made(small, 'do = "remove_stop"\nstop = "A"\nroute = "Q"\n', 'do = "remove_stop"\nstop = "C"')
     assert "Q1" not in feed and feed["R1"] == [R1[0], R1[1], R1[3]]
@@ -151,9 +151,9 @@ def test_departures_are_added_between_those_that_are_there(small: Room) -> None:
         ["A 08:40:00", "B 08:45:00 08:45:30", "C 08:51:00 08:51:30", "D 09:01:00"],
     ]
     assert {"R1", "R2", "R3", "S1", "Q1"} <= feed.keys()
-    assert [line for line in message if "added between" in line] == [
-        "  route R, A to D: 2 departures added between 2",
-        "  route R, D to A: 0 departures added between 1",
+    assert [line for line in message if "added to" in line] == [
+        "  route R, A to D: 2 departures added to 2",
+        "  route R, D to A: 0 departures added to 1",
     ]
     services = {row["trip_id"]: row["service_id"] for row in rows(small, "out/trips.txt")}
     assert [service for name, service in services.items() if "#" in name] == ["M", "M"]
@@ -172,8 +172,8 @@ def test_copies_of_a_typical_trip_run_every_so_often(small: Room) -> None:
     assert sorted(feed) == ["Q1", "R1#1", "R1#2", "R1#3", "R1#4", "S1#1", "S1#2", "S1#3", "S1#4"]
     assert feed["R1#2"] == ["A 08:20:00", "B 08:25:00 08:25:30", "C 08:31:00 08:31:30", "D 08:40:00"]
     assert message[1:3] == [
-        "  route R, A to D: 3 departures give way to 4, copies of trip R1 (4 calls, 00:20:00)",
-        "  route R, D to A: 1 departures give way to 4, copies of trip S1 (4 calls, 00:20:00)",
+        "  route R, A to D: 3 departures replaced by 4, copies of trip R1 (4 calls, 00:20:00)",
+        "  route R, D to A: 1 departure replaced by 4, copies of trip S1 (4 calls, 00:20:00)",
     ]
     services = {row["trip_id"]: row["service_id"] for row in rows(small, "out/trips.txt")}
     assert services["R1#4"] == "M"  # whose days are those of W too
@@ -193,7 +193,7 @@ def test_departures_by_headways_give_way_too(small: Room) -> None:
     assert feed["Q1#2"] == ["A 08:15:00", "D 08:45:00"] and "Q1" in feed
     found = [[row["trip_id"], row["start_time"], row["end_time"]] for row in rows(small, "out/frequencies.txt")]
     assert found == [["Q1", "07:40:00", "07:50:01"], ["Q1", "08:30:00", "08:50:01"]]
-    assert "3 departures give way to 2, copies of trip Q1" in message[1]
+    assert "3 departures replaced by 2, copies of trip Q1" in message[1]
 
 
 def test_run_times_by_a_factor_add_up_without_drift(small: Room) -> None:
@@ -267,7 +267,7 @@ def test_the_agency_of_a_new_line_is_told(small: Room) -> None:
     small.write("feed/routes.txt", "route_id,agency_id,route_type", [["R", "City", 3], ["Q", "Other", 3]])
     line = 'do = "add_line"\nroute = "N"\nstops = ["A", "B"]\nseconds = [60]\ndays = "daily"\n'
     line += 'departures = [{ first = "08:00", last = "08:00", every = 60 }]'
-    assert "  route N: of the agency City" in made(small, line)[1]
+    assert "  route N: agency City" in made(small, line)[1]
 
 
 def test_an_action_that_is_none_is_told_with_all_that_there_are(small: Room) -> None:
@@ -637,7 +637,7 @@ def test_limits_of_ttm_are_told_before_anything_is_written(small: Room, monkeypa
 def test_what_a_day_of_all_scenarios_has_is_told(small: Room, monkeypatch: pytest.MonkeyPatch) -> None:
     """On Monday run all five trips and another one of Q, with 20 calls, on Tuesday and Wednesday all but R3."""
     (small.folder / "plan.toml").write_text(TWO)
-    what = "all scenarios together: on a day at most 6 runs with 20 stop times (2026-05-04)"
+    what = "all scenarios together: at most 6 runs with 20 stop times on a day (2026-05-04)"
     more = "with a day before and one after {}: --back 0 --ahead 0, since ttm takes 1,000,000 and 20"
     for most, printed in (
         (60, what),

@@ -276,9 +276,7 @@ def test_a_part_that_fails_is_named_and_the_others_go_on(
 def test_verification_computes_rows_again_and_tells_what_was_changed(place: Place) -> None:
     make_study(read_study(place.lay_out(NO_MAPS)), place.folder / "nine", Means(2))
     folder = place.path("nine")
-    message = (
-        "sums: 21 files are as study.json says\nrows: those of 1 of 9 origins, drawn by --seed 7, have the same bytes\n"
-    )
+    message = "checksums: 21 files are as study.json says\nrows: those of 1 of 9 origins, chosen with --seed 7, have the same bytes\n"
     assert place.ran("study", "--verify", folder, "--seed", "7") == ("", message, 0)
     (place.folder / "nine/access.csv").write_text("spoilt\n")
     message = "ttm-tools study: access.csv: has another sum than study.json says: it was changed\n"

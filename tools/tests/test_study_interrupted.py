@@ -173,4 +173,4 @@ def test_parts_that_go_on_are_told_where_there_is_no_terminal(
 ) -> None:
     monkeypatch.setattr("ttm_tools.study.running.SECONDS_BETWEEN_LINES", -1.0)
     pool = Pool(Run("feed", "20260504", ("08:00", "08:00")), [], 1, 1)
-    assert pool.over() == [] and capsys.readouterr().err == "parts: 0 go on, 0 wait\n"
+    assert pool.over() == [] and capsys.readouterr().err == "parts: 0 running, 0 waiting\n"

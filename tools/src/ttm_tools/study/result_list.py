@@ -31,7 +31,7 @@ RESULTS = (
     StudyResult("`access.csv`", "access in the long form", "results.access_stages"),
     StudyResult(
         "`equity.csv`, `equity.md`, `bands.csv`, `bands/`",
-        "how it is spread over people; people by band, with stacked bars",
+        "its distribution among people; people by band, with stacked bars",
         "results.people_stages",
     ),
     StudyResult("`nearest.csv`", "the time to the nearest", "results.nearest_stages"),

@@ -1,5 +1,5 @@
-"""Pictures of access by time of day: its mean over people, and over the tenth that has the least; a heat map of the places
-by window; and a map for each window.
+"""Pictures of access by time of day: its mean over people, and over the tenth that has the least; a heat map of the
+places by window; and a map for each window.
 """
 
 import itertools

@@ -5,6 +5,7 @@ from typing import Sequence
 
 import numpy as np
 
+from ...faults import quantity
 from ...gtfs.fields import clock
 from ..base import Headway
 from ..choice import chosen, directions_of, pattern_of, stop_shown
@@ -52,7 +53,7 @@ def thinned(state: State, entry: Entry, trips: Sequence[Trip], times: range, end
         state.add(in_range(entry, copy_of(state, typical, number, time, service)))
     ends = " to ".join(stop_shown(state, int(typical.stop[place])) for place in (0, -1))
     count = sum(departures_in(trip, times.start, end) for trip in inside)
-    sentence = f"route {typical.route}, {ends}: {count:,} departures replaced by {len(times):,}"
+    sentence = f"route {typical.route}, {ends}: {quantity(count, 'departure')} replaced by {len(times):,}"
     return [f"{sentence}, copies of trip {typical.label} ({len(typical.stop)} calls, {clock(typical.seconds)})"]
 
 

@@ -5,6 +5,7 @@ from dataclasses import replace
 import numpy as np
 
 from ..choice import chosen, routes_of, stops_named, stop_shown
+from ...faults import quantity
 from ...opening.kinds import LAST_TIME, near, whole
 from ...opening.toml_file import Entry
 from ..state import State, Trip, in_range
@@ -92,7 +93,7 @@ def remove_stop(state: State, entry: Entry) -> list[str]:
 
 
 def sentences_on_lost(lost: int) -> list[str]:
-    return [f"trips removed because they had a single call left: {lost:,}"] if lost else []
+    return [f"{quantity(lost, 'trip')} removed because only one call was left"] if lost else []
 
 
 def trips_calling(state: State, stops: list[int]) -> list[Trip]:
