@@ -276,10 +276,11 @@ def test_a_part_that_fails_is_named_and_the_others_go_on(
 def test_verification_computes_rows_again_and_tells_what_was_changed(place: Place) -> None:
     make_study(read_study(place.lay_out(NO_MAPS)), place.folder / "nine", Means(2))
     folder = place.path("nine")
-    message = "checksums: 21 files are as study.json says\nrows: those of 1 of 9 origins, chosen with --seed 7, have the same bytes\n"
+    rows = "rows: those of 1 of 9 origins, chosen with --seed 7, have the same bytes\n"
+    message = f"checksums: 21 files are as study.json says\n{rows}"
     assert place.ran("study", "--verify", folder, "--seed", "7") == ("", message, 0)
     (place.folder / "nine/access.csv").write_text("spoilt\n")
-    message = "ttm-tools study: access.csv: has another sum than study.json says: it was changed\n"
+    message = "ttm-tools study: access.csv: has another checksum than study.json says: it was changed\n"
     assert place.ran("study", "--verify", folder) == ("", message, 1)
 
 
@@ -408,7 +409,7 @@ def test_how_many_parts_are_done_is_told_with_the_time_that_is_left(
     clock = iter([0.0, 61.0, 122.0, 183.0])
     monkeypatch.setattr("ttm_tools.study.running.time", SimpleNamespace(monotonic=lambda: next(clock)))
     assert list(shown(iter([None] * 3), 3)) == [None] * 3
-    printed = ["parts: 1 of 3, about 0:02:02 more", "parts: 2 of 3, about 0:01:01 more"]
+    printed = ["parts: 1 of 3, about 0:02:02 left", "parts: 2 of 3, about 0:01:01 left"]
     assert capsys.readouterr().err.splitlines() == printed
 
 

@@ -256,7 +256,7 @@ def test_the_sums_that_are_stated_are_those_that_were_read(place: Place, monkeyp
     assert notes["sources"]["jobs.csv"] == was and "Nine stops" in notes["study_file"]
     assert was in (place.folder / "nine/report.md").read_text()
     _, said, status = place.ran("study", "--verify", place.path("nine"))
-    line = "../jobs.csv: has another sum than study.json says: it was changed since the study read it"
+    line = "../jobs.csv: has another checksum than study.json says: it was changed since the study read it"
     assert (said.splitlines()[-1], status) == (f"ttm-tools study: {line}", 1)
 
 
