@@ -261,7 +261,8 @@ def test_where_there_is_no_room_for_all_rows_are_drawn_or_named(
     monkeypatch.setattr(make, "MOST_CELLS", 8)
     out = town.path("few.html")
     errors = town.ran("page", "--feed", town.feed, "--out", out, "--seed", "3", town.file)[1]
-    line = "The page has the travel times from 1 of 2 origins, which were chosen at random with the seed 3, and access from all."
+    how = "which were chosen at random with the seed 3, and access from all."
+    line = f"The page has the travel times from 1 of 2 origins, {how}"
     assert errors.splitlines()[1] == line
     browser.open(Path(out), "view=times&from=A")
     assert line in browser.text("meaning-part")

@@ -167,10 +167,10 @@ def test_the_older_names_give_the_same_and_warn(network: r5py.TransportNetwork) 
 
 
 REFUSED: list[tuple[str, Any, str]] = [
-    ("transport_modes", [r5py.TransportMode.CAR], "TransportMode.CAR isn't to be had"),
+    ("transport_modes", [r5py.TransportMode.CAR], "TransportMode.CAR isn't supported"),
     ("transport_modes", [r5py.TransportMode.TRANSIT, r5py.TransportMode.BICYCLE], "TransportMode.BICYCLE"),
     ("access_modes", [r5py.TransportMode.BICYCLE], "TransportMode.BICYCLE"),
-    ("egress_modes", [r5py.TransportMode.TRANSIT], r"one walks to and from stops: \[TransportMode.WALK\]"),
+    ("egress_modes", [r5py.TransportMode.TRANSIT], r"walk to and from stops: \[TransportMode.WALK\]"),
     ("max_bicycle_traffic_stress", 2, "leave it out"),
     ("max_time_driving", 30 * MINUTE, "leave it out"),
     ("speed_cycling", 15.0, "leave it out"),
@@ -292,7 +292,7 @@ def test_more_places_than_ttm_takes_are_named(network: r5py.TransportNetwork, mo
         r5py.NotAvailable, match="^destinations: 3 locations of the feed and 2 points are more than the 4"
     ):
         from_home(network)
-    with pytest.raises(r5py.NotAvailable, match="^point_grid_resolution: 3 locations .*; ask for a larger one$"):
+    with pytest.raises(r5py.NotAvailable, match="^point_grid_resolution: 3 locations .*; use a larger one$"):
         r5py.Isochrones(network, degrees((0.0, 0.0)), departure=SEVEN_45, **QUARTER)
 
 

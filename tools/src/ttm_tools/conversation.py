@@ -1,7 +1,7 @@
 """A process of `ttm --ask`: it keeps a network, reads questions from its standard input, and answers each of them.
 
 A question is a block of words, one on each line, ended by an empty line. An answer is a line `answer STATUS LENGTH`
-and so many bytes: the matrix where the status is 0, else the line that a run would print.
+and as many bytes: the matrix where the status is 0, else the line that a run would print.
 """
 
 import os

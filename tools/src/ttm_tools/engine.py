@@ -71,7 +71,7 @@ def refusal_of(errors: bytes, status: int) -> list[str]:
 
 @dataclass(frozen=True)
 class Run:
-    """What is asked of `ttm`; docs/reference/options.md says what each argument means."""
+    """The arguments of a run of `ttm`; docs/reference/options.md says what each one means."""
 
     feed: Pathlike  # the folder of an unpacked feed
     date: str | datetime.date  # as a text YYYYMMDD or YYYY-MM-DD
@@ -120,7 +120,7 @@ def program_at(path: Pathlike | None) -> str:
 
 
 def run(task: Run, out: Pathlike, program: Pathlike | None = None) -> None:
-    """Runs `ttm`; the matrix gets its name when it is whole, and a fault leaves none. The report is asked for, as it
+    """Runs `ttm`; the matrix gets its name when it is complete, and an error leaves none. The run has `--report`, as it
     explains a refusal. A warning says where walks to a plan's new stops bring old stops nearer.
     """
     with output(str(out)) as file:

@@ -1,4 +1,4 @@
-"""The journey behind a cell, and the travel time of `ttm` beside it: they are the same, or it is reported."""
+"""The journey behind a cell, compared with the travel time of `ttm`: if they differ, an error says so."""
 
 import contextlib
 import datetime
@@ -31,8 +31,8 @@ def found_of(
     program: Pathlike | None = None,
     matrix: str | None = None,
 ) -> tuple[ExplainOptions, list[Found]]:
-    """What is found for the base and each scenario. The travel times beside are those of a matrix, or of a run of the
-    program.
+    """What is found for the base and each scenario. The travel times for comparison are those of a matrix, or of a run
+    of the program.
     """
     (found,) = all_found(task, date, [(origin, destination)], program=program, matrix=matrix)
     return found
@@ -93,7 +93,7 @@ def scenarios_of(files: Sequence[Pathlike]) -> dict[str, Pathlike | None]:
 
 
 def told_of(task: Run, date: datetime.date) -> str:
-    """What was asked for."""
+    """The date, days, departures and limits of a search."""
     days = f"service days: {task.back} before and {task.ahead} after"
     limits = f"at most {task.trips} rides, walks up to {task.walk} seconds"
     return f"{date:%Y-%m-%d}, {days}; departures {task.window[0]} to {task.window[1]}, {limits}"

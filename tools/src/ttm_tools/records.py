@@ -113,7 +113,7 @@ def fields_as_texts(values: Iterable[object], before: bytes = b"", after: bytes 
 
 
 def joined(pieces: Sequence[bytes | Texts], count: int) -> bytes:
-    """The text of so many lines: of each piece in turn the one text that all lines have, or the line's own."""
+    """The text of some lines: of each piece in turn the one text that all lines have, or the line's own."""
     texts = np.empty((count, len(pieces)), dtype=object)
     for place, piece in enumerate(pieces):
         texts[:, place] = piece

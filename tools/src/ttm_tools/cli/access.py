@@ -49,7 +49,9 @@ def describe(parser: argparse.ArgumentParser) -> None:
     what = "a file with what each stop has; may be given more than once (needed)"
     parser.add_argument("--opportunities", metavar="FILE", action="append", required=True, help=what)
     add_several(parser, "--column", "NAME", "a column to count", without="all")
-    what = "how weights fall with travel time: at the cutoff, in a line around it, with it as half-life, or in a sigmoid"
+    what = (
+        "how weights fall with travel time: at the cutoff, in a line around it, with it as half-life, or in a sigmoid"
+    )
     parser.add_argument("--decay", choices=[*DECAYS], default="step", help=f"{what} (default step)")
     what = "the limits, between commas; decimals are rounded to whole seconds"
     add_cutoffs(parser, what, (0, 10000), "30")
@@ -148,5 +150,5 @@ def demand_of(args: argparse.Namespace, matrix: "Matrix") -> dict[str, float]:
     known, columns = matrix.stops_and_origins(), [args.demand_column] if args.demand_column else []
     found = read_counts([args.demand], known, "stop of the matrix", columns)
     if len(found.names) > 1:
-        raise BadInput(args.demand, f"it has the columns {some(found.names)}: name one with --demand-column")
+        raise BadInput(args.demand, f"it has the columns {some(found.names)}: choose one with --demand-column")
     return dict(zip(known, found.numbers[:, 0].tolist()))

@@ -53,7 +53,9 @@ def describe(parser: argparse.ArgumentParser) -> None:
     what = "a matrix that has the travel time, instead of a run of ttm"
     add_text(parser, "--matrix", "FILE", what, without="ttm runs")
     what = "the program ttm"
-    add_text(parser, "--program", "PATH", what, without="TTM_PROGRAM, else the one on the PATH, else the one built here")
+    add_text(
+        parser, "--program", "PATH", what, without="TTM_PROGRAM, else the one on the PATH, else the one built here"
+    )
     what = "a picture of the durations by departure, as PNG; needs matplotlib"
     add_text(parser, "--picture", "FILE", what, without="none is drawn")
     add_out(parser, "the file of the text")
@@ -63,7 +65,7 @@ def describe(parser: argparse.ArgumentParser) -> None:
 
 
 def run_of(args: argparse.Namespace) -> "Run":
-    """The run of `ttm` that these arguments ask for."""
+    """The run of `ttm` with these arguments."""
     from ..engine import Run
     from ..faults import WrongWords
 

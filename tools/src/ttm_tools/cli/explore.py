@@ -30,9 +30,7 @@ network starts, there are two networks."""
 
 
 def describe(parser: argparse.ArgumentParser) -> None:
-    meaning = (
-        "the folder of an unpacked feed that ttm accepts; or a study's file, for its feed, day, window and plan"
-    )
+    meaning = "the folder of an unpacked feed that ttm accepts; or a study's file, for its feed, day, window and plan"
     parser.add_argument("feed", metavar="FEED", help=meaning)
     meaning = (
         "the day of the departures, YYYYMMDD or YYYY-MM-DD, of the years 1 to 9999 (without it, that of the study)"
@@ -41,7 +39,9 @@ def describe(parser: argparse.ArgumentParser) -> None:
     for name, meaning, at in (("--from", "first", "07:30"), ("--to", "last", "08:29")):
         help = f"the {meaning} departure at the start, one each minute, 00:00 to 23:59 (default {at})"
         parser.add_argument(name, dest=meaning, metavar="HH:MM", type=clock, default=at, help=help)
-    add_number(parser, "--trips", "the maximum number of vehicles of a journey at the start", Range("", 1, 8), default=4)
+    add_number(
+        parser, "--trips", "the maximum number of vehicles of a journey at the start", Range("", 1, 8), default=4
+    )
     add_number(parser, "--walk", "the longest walk at the start", Range("seconds", 0, 7200), default=600)
     add_number(parser, "--back", "service days before the date that count", Range("days", 0, 6), default=1)
     add_number(parser, "--ahead", "service days after the date that count", Range("days", 0, 6), default=1)
@@ -61,12 +61,14 @@ def describe(parser: argparse.ArgumentParser) -> None:
     meaning = "print the address alone (without it, a browser opens it)"
     parser.add_argument("--no-browser", action="store_true", help=meaning)
     meaning = "the program ttm"
-    add_text(parser, "--program", "PATH", meaning, without="TTM_PROGRAM, else the one on the PATH, else the one built here")
+    add_text(
+        parser, "--program", "PATH", meaning, without="TTM_PROGRAM, else the one on the PATH, else the one built here"
+    )
     add_text(parser, "--leaflet", "FOLDER", "the folder of Leaflet", default="/usr/share/javascript/leaflet")
 
 
 def options_of(args: argparse.Namespace) -> "ExploreOptions":
-    """What these arguments ask for."""
+    """The options of these arguments."""
     from datetime import date
 
     from ..explore.of_study import options_of_study

@@ -107,7 +107,8 @@ def choice_of(args: argparse.Namespace, matrix: "Matrix") -> "TableChoice":
     scenarios = [name for name in matrix.scenarios if name in named]
     if args.names == "r5py" and len(scenarios) > 1:
         raise BadInput(
-            args.matrix, f"r5py's columns name no scenario, and it has {', '.join(scenarios)}: name one with --scenario"
+            args.matrix,
+            f"r5py's columns name no scenario, and it has {', '.join(scenarios)}: choose one with --scenario",
         )
     shares = matrix.shares if args.share is None else [matrix.share(args.share)]
     known = [name for scenario in matrix.scenarios for name in matrix.origins(scenario, shares[0])]

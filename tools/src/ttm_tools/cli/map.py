@@ -70,7 +70,9 @@ def describe(parser: argparse.ArgumentParser) -> None:
     add_text(parser, "--opportunities", "FILE", what, without="an error for nearest")
     add_text(parser, "--column", "NAME", "the column of this file to look for", without="the only one")
     what = "the number of these opportunities to reach"
-    add_number(parser, "--nearest", what, Range("", 1e-9, 1e15, whole=False), without="1; in a difference, access is compared")
+    add_number(
+        parser, "--nearest", what, Range("", 1e-9, 1e15, whole=False), without="1; in a difference, access is compared"
+    )
     add_share(parser)
     add_within(parser)
     what = "a scenario file, named as its scenario, whose trips to draw"
@@ -79,8 +81,8 @@ def describe(parser: argparse.ArgumentParser) -> None:
     add_text(parser, "--unit", "WORD", "what access counts, such as jobs", default="opportunities")
     what = "where classes begin, ascending numbers above 0 between commas: minutes, access, or percent"
     missing = (
-        "default 10,20,30,45,60,90 minutes, for isochrones 15,30,45,60, in a difference 1,5,15 minutes or 1,5,10,25 %%; "
-        "for access round numbers"
+        "default 10,20,30,45,60,90 minutes, for isochrones 15,30,45,60, for a difference 1,5,15 minutes or "
+        "1,5,10,25 %%, for access round numbers"
     )
     parser.add_argument("--breaks", metavar="N,N..", type=breaks_of, help=f"{what} ({missing})")
     add_text(parser, "--title", "TEXT", "the title of the map", without="what it shows")
@@ -153,5 +155,5 @@ def sought_of(args: argparse.Namespace, matrix: "Matrix") -> "Nearest":
     columns = [args.column] if args.column else []
     counts = read_counts([args.opportunities], matrix.stops, "stop of the matrix", columns)
     if len(counts.names) > 1:
-        raise BadInput(args.opportunities, f"it has the columns {some(counts.names)}: name one with --column")
+        raise BadInput(args.opportunities, f"it has the columns {some(counts.names)}: choose one with --column")
     return Nearest(counts.names[0], counts.numbers[:, 0], args.nearest or 1.0)

@@ -103,8 +103,8 @@ def add_matrix(parser: argparse.ArgumentParser) -> None:
 
 
 def opened(args: argparse.Namespace) -> "Matrix":
-    """The matrix that a command names, with the greatest travel time that it names, and beside the base of another file
-    where --base names one.
+    """The matrix that a command names, with the greatest travel time that it names, and compared with the base of
+    another file where --base names one.
     """
     from ..matrices import Beside, capped, open_matrix
 
@@ -141,9 +141,7 @@ def add_within(parser: argparse.ArgumentParser, without: str = "the only one") -
         metavar="MINUTES",
         help=what,
     )
-    add_number(
-        parser, "--within", "the same in seconds, as for ttm", Range("seconds", 0, MOST_LIMIT), without=without
-    )
+    add_number(parser, "--within", "the same in seconds, as for ttm", Range("seconds", 0, MOST_LIMIT), without=without)
 
 
 def add_cutoffs(parser: argparse.ArgumentParser, what: str, bounds: tuple[float, float], default: str) -> None:
@@ -210,9 +208,7 @@ def add_pace(parser: argparse.ArgumentParser) -> None:
 
 def add_walking(parser: argparse.ArgumentParser, of: str = "", there: str = "", along: str = "") -> None:
     """The options of walks on from a stop in areas; the texts name the picture."""
-    add_number(
-        parser, "--walk", f"the longest walk on from a stop{of}", Range("seconds", 0, 7200), default=600
-    )
+    add_number(parser, "--walk", f"the longest walk on from a stop{of}", Range("seconds", 0, 7200), default=600)
     add_number(parser, "--speed", f"the walking speed{there}", Range("m/s", 0.01, 100, whole=False), default=1.33)
     what = "length of a walk, as a multiple of the straight line"
     add_number(parser, "--detour", what, Range("", 1, 100, whole=False), default=1.3)

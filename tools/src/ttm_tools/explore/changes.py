@@ -135,7 +135,7 @@ def scenario_text(name: str, actions: Sequence[Values]) -> str:
 
 
 def name_among(names: Sequence[str]) -> str:
-    """What the scenario of a person's changes is called beside those of a plan."""
+    """The name of the scenario of a person's changes, which none of a plan has."""
     number, name = 1, NAME
     while name in names:
         number += 1

@@ -42,7 +42,7 @@ class Times:
 
 
 class Exploration:
-    """A network that a person holds in the hand. Several threads may ask it."""
+    """A network that a person explores. Several threads may use it."""
 
     def __init__(self, options: ExploreOptions, room: Path) -> None:
         self.options, self.room = options, room
@@ -51,7 +51,7 @@ class Exploration:
         if self.plan_text:
             self.begun(
                 0, Plan(options.feed, [], options.walk, [], "", [], None)
-            ).close()  # tells what is wrong with the feed
+            ).close()  # reports what is wrong with the feed
         self.standing = self.begun(1, self.planned([], options.walk))
         self.ground = ground_of(stops_of(self.standing.plan.folder, points_in(options.feed)))
         self.counts: Counts = read_counts(options.opportunities, self.ground.places.identifiers, "stop of the feed")
@@ -92,7 +92,7 @@ class Exploration:
         return thread
 
     def begun(self, version: int, plan: Plan) -> Standing:
-        """A network that has answered its first question, so that a fault of the feed is told."""
+        """A network that has answered its first question, so that an error of the feed is reported."""
         standing = Standing(version, plan, self.options)
         try:
             standing.network.matrix((self.options.window[0],) * 2, origins=self.first_stop(plan.folder))

@@ -1,4 +1,4 @@
-"""Makes what an exploration begins with where its command asks for it: walks along streets, and cells of a grid."""
+"""Computes what an exploration begins with if its options say so: walks along streets, and cells of a grid."""
 
 import os
 import shutil

@@ -138,7 +138,7 @@ class Projection:
         return (latitudes - self.latitude) * self.degree
 
     def longitudes(self, east: Floats) -> Floats:
-        """The degrees of places so many kilometres east."""
+        """The degrees of places at these kilometres east."""
         return (east / (self.degree * self.narrow) + self.longitude + 180) % 360 - 180
 
     def latitudes(self, north: Floats) -> Floats:

@@ -98,7 +98,7 @@ class Table:
 
 
 def unnumbered(count: int) -> Whole:
-    """The numbers of so many records where nobody asks for them: they take no memory."""
+    """The numbers of records that nobody needs: they take no memory."""
     return np.broadcast_to(np.zeros(1, np.int64), (count,))
 
 

@@ -41,5 +41,5 @@ class Capped(Matrix):
 
 
 def capped(matrix: Matrix, minutes: float | None) -> Matrix:
-    """A matrix whose travel times end at so many minutes, where some are named."""
+    """A matrix whose travel times end at a number of minutes, if one is given."""
     return matrix if minutes is None else Capped(matrix, round(60 * minutes))

@@ -1,4 +1,4 @@
-"""Matrices as `ttm` prints them. A first pass notes where each line's cells stand; cells are read when they are asked
+"""Matrices as `ttm` prints them. A first pass notes where each line's cells stand; cells are read when they are needed
 for.
 """
 

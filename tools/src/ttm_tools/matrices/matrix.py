@@ -40,8 +40,8 @@ class Matrix(ABC):
     scenarios: list[str]  # in the file's order
     shares: list[Share]  # ascending
     greatest: float | None = None  # seconds above which a pair counts as not reached
-    heading: str = ""  # what stands above it where it is two files, one beside the other
-    files: tuple[str, ...] = ()  # those that it has beside its own
+    heading: str = ""  # the heading if it is two files, side by side
+    files: tuple[str, ...] = ()  # those in addition to its own
 
     @abstractmethod
     def origins(self, scenario: str, share: Share) -> list[str]:
@@ -110,7 +110,7 @@ class Matrix(ABC):
         return row
 
     def share(self, percent: int | None) -> Share:
-        """The share that is asked for, which needs to be named only where there are several."""
+        """The chosen percentile, which needs to be named only if there are several."""
         percentiles = ", ".join(map(str, self.shares))
         if percent is not None and not self.layout.names_share:
             raise BadInput(self.path, "it has no percentiles: leave out --share")
@@ -121,7 +121,7 @@ class Matrix(ABC):
         return self.shares[0] if percent is None else percent
 
     def limit(self, seconds: int | None) -> tuple[int, int | None]:
-        """The place of a limit among the columns of access, and the limit in seconds: the one asked for, or the only
+        """The place of a limit among the columns of access, and the limit in seconds: the chosen one, or the only
         one.
         """
         limits = self.layout.limits
@@ -136,14 +136,14 @@ class Matrix(ABC):
         return place, limits[place]
 
     def scenario(self, name: str) -> str:
-        """A scenario that is asked for by its name."""
+        """A scenario by its name."""
         if name not in self.scenarios:
             raise BadInput(self.path, f"no scenario {shown(name)}; it has {', '.join(map(shown, self.scenarios))}")
         return name
 
     @property
     def greatest_stated(self) -> str:
-        """What is reported beside the percentile where travel times have an end."""
+        """What is reported with the percentile if travel times have a maximum."""
         return "" if self.greatest is None else f"pairs beyond {self.greatest / 60:g} minutes count as not reached"
 
     @property
@@ -153,7 +153,7 @@ class Matrix(ABC):
         return "" if self.compared == self.scenarios else sentence
 
     def other(self, base: str, wanted: str | None) -> str:
-        """The scenario beside the base, which needs to be named only where there are several."""
+        """The scenario other than the base, which needs to be named only if there are several."""
         self.scenario(base)
         if wanted is not None:
             return self.scenario(wanted)
@@ -200,7 +200,7 @@ class Pair:
 
 
 def pair_of(matrix: Matrix, base: str | None, compared: str | None, share: int | None) -> Pair:
-    """Two scenarios of a matrix, of one share; beside its own base where none is named."""
+    """Two scenarios of a matrix, of one percentile; compared with its own base if none is named."""
     base = base or matrix.base
     other, chosen = matrix.other(base, compared), matrix.share(share)
     first, second = (matrix.origins(name, chosen) for name in (base, other))

@@ -133,7 +133,7 @@ def fill_data(data: Any, matrix: Matrix, key: tuple[str, Share], threads: int) -
 
 
 def padded(matrix: Matrix, key: tuple[str, Share], rows: range, room: int) -> Seconds:
-    """Some rows of a scenario and a share, and zeros behind them up to so many."""
+    """Some rows of a scenario and a share, and zeros behind them up to this number."""
     cells = np.zeros((room, len(matrix.stops)), np.float32)
     for first in rows[:: matrix.rows_at_once()]:
         last = min(first + matrix.rows_at_once(), rows.stop)

@@ -23,7 +23,7 @@ class AccessKind:
 
     opportunity: str
     percentile: str
-    cutoff: str  # minutes; of a table of times how many are to be reached
+    cutoff: str  # minutes; of a table of times the number to reach
 
     @property
     def label(self) -> str:
@@ -45,7 +45,7 @@ class AccessTable:
     scenarios: list[str]
     kinds: list[AccessKind]
     origins: list[str]
-    numbers: Floats  # by scenario, kind and origin; of times seconds, NaN where so many aren't reached
+    numbers: Floats  # by scenario, kind and origin; of times seconds, NaN where fewer are reached
     of_times: bool = False
     named_base: str | None = None  # where it is of another table
 
@@ -129,7 +129,7 @@ def is_of_times(path: str) -> bool:
 
 
 def lines_of(path: str, named: Sequence[str]) -> Iterator[tuple[int, str, AccessKind, str, float]]:
-    """Each line: its record, scenario, kind, origin and access, or time: infinite where so many aren't reached."""
+    """Each line: its record, scenario, kind, origin and access, or time: infinite where fewer are reached."""
     for number, (origin, opportunity, percentile, cutoff, text, scenario) in rows(path, named, ["scenario"]):
         value = math.inf if named is OF_TIMES and not text.strip() else number_of(text.strip())
         if not value >= 0:

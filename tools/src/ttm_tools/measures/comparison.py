@@ -16,7 +16,7 @@ from ..matrices import Pair, Seconds, Sums
 
 KINDS = ["cut off", "slower", "new", "faster"]  # in the order of a table
 CUT_OFF, SLOWER, NEW, FASTER = range(4)
-LOSS, GAIN, RELATIVE = "loss", "gain", "relative"  # ways to sort beside losers first and then winners, by size
+LOSS, GAIN, RELATIVE = "loss", "gain", "relative"  # ways to sort other than losers first and then winners, by size
 RANKS = {LOSS: [0, 1, 3, 2], GAIN: [3, 2, 0, 1]}  # of KINDS
 
 

@@ -37,7 +37,7 @@ class Counts:
 
 
 def read_counts(paths: Sequence[str], stops: Sequence[str], kind: str, wanted: Sequence[str] = ()) -> Counts:
-    """The columns of some files, or those that are asked for, for these stops; a file that names another stop is
+    """The columns of some files, or the chosen ones, for these stops; a file that names another stop is
     refused. A column `opportunities` is called as its file.
     """
     places = {stop: place for place, stop in enumerate(stops)}

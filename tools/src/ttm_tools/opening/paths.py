@@ -16,7 +16,7 @@ KINDS = (
     (stat.S_ISBLK, "a device"),
     (stat.S_ISDIR, "a folder"),
 )
-MOST_TOLD = 300  # characters of what a library says
+MOST_REPORTED = 300  # characters of a library's message
 
 
 def regular(path: str | Path) -> os.stat_result:
@@ -62,4 +62,4 @@ def as_one_line(path: str | Path, what: str) -> Iterator[None]:
         if isinstance(fault, OSError) and is_full(fault):
             raise
         message = str(fault) or type(fault).__name__
-        raise BadInput(path, f"{what}: {message[:MOST_TOLD]}") from fault
+        raise BadInput(path, f"{what}: {message[:MOST_REPORTED]}") from fault

@@ -32,7 +32,7 @@ NO_ROW = -1  # in place of a record: a call that no record of the feed states
 
 @dataclass(frozen=True)
 class Headway:
-    """A row of frequencies.txt: departures from the start on, so many seconds apart, strictly before the end."""
+    """A row of frequencies.txt: departures from the start on, a headway apart, strictly before the end."""
 
     start: int
     end: int
@@ -44,7 +44,7 @@ class Headway:
         return range(self.start, self.end, self.seconds)
 
     def moved(self, seconds: int) -> "Headway":
-        """The same departures, so many seconds later; the end is the least that leaves them all."""
+        """The same departures, later by some seconds; the end is the least that leaves them all."""
         if not self.departures:
             return self
         return Headway(self.start + seconds, self.departures[-1] + 1 + seconds, self.seconds, self.row)

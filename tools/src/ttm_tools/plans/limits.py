@@ -59,7 +59,7 @@ def by_day(base: Base, states: Sequence[State]) -> tuple[Whole, Whole]:
 
 
 def most_of(base: Base, runs: Whole, events: Whole, days: int) -> Most | None:
-    """The most of so many days in a row, an odd number; none where the calendars know no day."""
+    """The most runs and calls in an odd number of consecutive days; none if the calendars have no day."""
     if not len(runs):
         return None
     both = [np.convolve(counts, np.ones(days, dtype=np.int64), "same")[: len(runs)] for counts in (runs, events)]
@@ -68,7 +68,7 @@ def most_of(base: Base, runs: Whole, events: Whole, days: int) -> Most | None:
 
 
 def sentences_on_days(base: Base, states: Sequence[State]) -> Iterator[str]:
-    """How much runs on a day at most, beside what `ttm` takes."""
+    """The most runs on a day, compared with what `ttm` takes."""
     runs, events = by_day(base, states)
     one, three = (most_of(base, runs, events, days) for days in (1, 3))
     if one is None or three is None:

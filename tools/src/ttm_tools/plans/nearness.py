@@ -39,7 +39,7 @@ def sentences_on_nearer(folder: str, footpaths: str, walk: int = 0) -> Iterator[
 
 def nearer(walks: Leaving, new: set[int], walk: int = 0) -> list[tuple[int, int, int, int | None]]:
     """The pairs of old stops that are nearer by way of new ones: by how many seconds one walks with them and without.
-    Walks from stops beside new ones will do, since all others go by way of these.
+    Walks from stops next to new ones suffice, since all others go by way of these.
     """
     limit = max((seconds for ways in walks.values() for _, seconds in ways), default=walk)
     limit = max(limit, walk)

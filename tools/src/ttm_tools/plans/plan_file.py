@@ -7,7 +7,7 @@ from ..opening.toml_file import Entry, read_entry
 
 NAME = re.compile(r"[^\s.@#/\\\"',](?:[^@#/\\\"',\x00-\x1f\x7f]*[^\s@#/\\\"',\x00-\x1f\x7f])?")
 TAKEN = ("base", "today")  # names that scenarios of a plan can't have
-MOST_SCENARIOS = 14  # beside these two: `ttm` takes sixteen
+MOST_SCENARIOS = 14  # in addition to these two: `ttm` takes sixteen
 
 
 @dataclass(frozen=True)

@@ -63,7 +63,7 @@ class Grid:
 
 
 def grid_near(stops: Stops, side: float, metres: float) -> Grid:
-    """The cells whose middle lies at most so many metres from a stop at which vehicles call."""
+    """The cells whose middle is within a distance in metres of a stop at which vehicles call."""
     called = stops.placed & (stops.kinds == 0)
     if not called.any():
         raise BadInput(stops.path, "no stop has stop_lat and stop_lon, so there is no place for a grid")
@@ -114,7 +114,7 @@ def grid_over(path: str, side: float) -> Grid:
 
 
 def band(grid: Grid, row: int, count: int) -> Any:
-    """A whole row of so many cells."""
+    """A whole row of this many cells."""
     from shapely.ops import unary_union
 
     return unary_union([grid.square(row, 0), grid.square(row, count - 1)]).envelope

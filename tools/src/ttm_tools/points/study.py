@@ -27,10 +27,10 @@ from .table import Points, plain
 
 MOST_STOPS, MOST_PAIRS = 65_535, 4_000_000  # that `ttm` takes
 FEED, POINTS, WORDS, LABELS, FOOTPATHS = "feed", "points.csv", "words.txt", "labels.csv", "footpaths.csv"
-SCENARIOS, NEW_STOPS = "scenarios", "new_stops.csv"  # of a plan, beside its feed
+SCENARIOS, NEW_STOPS = "scenarios", "new_stops.csv"  # of a plan, in its feed's folder
 HELPS, HELPS_AFTER = "use --leave-out for points without a stop in reach, or ", "take parts of the region"
 PLACE = ("stop_name", "stop_lat", "stop_lon")
-Walker = Callable[[Stops, int | None], Walks]  # of the first so many stops with all alone, where it is said
+Walker = Callable[[Stops, int | None], Walks]  # of the first stops with all alone, if their number is given
 Flags = npt.NDArray[np.bool_]
 
 
@@ -248,7 +248,7 @@ def has_heights(points: Points) -> bool:
 
 
 def write_files(folder: Path, options: PointsOptions, study: PointStudy, walks: Walks, rounded: Rounded) -> None:
-    """Writes what stands beside the feed."""
+    """Writes the files next to the feed."""
     ends = {"origins.csv": study.of_files(options.begins), "destinations.csv": study.of_files(options.ends)}
     with open(folder / FOOTPATHS, "wb") as out:
         write_rows(out, ["from_stop_id", "to_stop_id", "seconds"], walks.rows())

@@ -49,7 +49,7 @@ class Clip:
 
 
 def clip(feed: Feed, options: Clip) -> list[str]:
-    """Leaves out what isn't asked for, and what refers to it; what of which file, a sentence a line. The feed has no
+    """Leaves out what isn't chosen, and what refers to it; what of which file, a sentence a line. The feed has no
     faults but limits.
     """
     before, counts = there(feed), {name: len(table) for name, table in feed.tables.items()}
@@ -98,7 +98,7 @@ def agencies_of(feed: Feed) -> list[str]:
 
 
 def near(stops: Table, options: Clip) -> set[str] | None:
-    """The locations of a region, faults or not; none where no region is asked for, or nothing can be said of it."""
+    """The locations of a region, faults or not; none if no region is given, or nothing can be said of it."""
     if not options.is_region or "stop_id" not in stops:
         return None
     return set(distinct(stops["stop_id"], of_region(stops, options)))

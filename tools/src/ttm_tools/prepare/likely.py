@@ -24,7 +24,7 @@ PLACES = ("stop_lat", "stop_lon", "stop_name")
 
 
 def sentences(feed: Feed, with_days: bool = True) -> Iterator[str]:
-    """What is reported of a feed beside its faults; its days where it has none."""
+    """What is reported of a feed in addition to its errors; its days if it has none."""
     yield from misspelt(feed)
     if feed.has_columns("stops.txt"):
         yield from unplaced(feed.tables["stops.txt"])

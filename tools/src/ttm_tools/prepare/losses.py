@@ -1,4 +1,4 @@
-"""What a repair leaves of a feed beside what was there, and whether that is enough to go on with."""
+"""What a repair leaves of a feed, compared with what was there, and whether that is enough."""
 
 import datetime
 from typing import Iterator, Mapping, Sequence
@@ -28,7 +28,7 @@ def counts_of(feed: Feed) -> dict[str, int]:
 
 
 def left(before: Mapping[str, int], feed: Feed) -> str:
-    """What is left of each file beside what was there."""
+    """What is left of each file, compared with what was there."""
     after = counts_of(feed)
     return "records left: " + ", ".join(f"{name} {after[name]:,} of {count:,}" for name, count in before.items())
 
@@ -69,7 +69,7 @@ def no_runs(feed: Feed, day: datetime.date | None = None) -> str | None:
 
 
 def sentences(feed: Feed, has_faults: bool) -> Iterator[str]:
-    """What is reported of a feed beside its faults; where it has some, its days are those that a repair leaves."""
+    """What is reported of a feed in addition to its errors; if it has some, its days are those that a repair leaves."""
     yield from likely.sentences(feed, with_days=not has_faults)
     if not has_faults:
         return

@@ -117,7 +117,7 @@ def noun_of(done: str) -> str:
 
 
 def run_lines(feed: Feed, days: Sequence[datetime.date]) -> Iterator[str]:
-    """The runs on the days that are asked for, beside what `ttm` takes."""
+    """The runs on the chosen days, compared with what `ttm` takes."""
     if not days:
         return
     table = feed.tables["stop_times.txt"]

@@ -14,7 +14,7 @@ from ..gtfs.tables import Table, joined, read_table
 from ..records import shown
 from .feed_info import feed_info_of
 
-ALSO = (  # beside what `ttm` reads, files that are merged; all others are left out, and reported
+ALSO = (  # in addition to what `ttm` reads, files that are merged; all others are left out, and reported
     *("agency.txt", "shapes.txt", "fare_attributes.txt", "fare_rules.txt", "pathways.txt", "levels.txt"),
     *("translations.txt", "attributions.txt", "areas.txt", "stop_areas.txt", "networks.txt", "route_networks.txt"),
 )

@@ -1,4 +1,4 @@
-"""What a check found, as lines and as a table; and what was mended."""
+"""What a check found, as lines and as a table; and what was repaired."""
 
 from dataclasses import dataclass
 from typing import Iterator, Sequence

@@ -60,7 +60,7 @@ def places_of(name: str, frame: Any) -> FramePlaces:
     if not frame["id"].is_unique or frame["id"].isna().any():
         raise BadInput(name, "is missing or occurs twice", column="id")
     if frame.crs is None:
-        raise BadInput(name, "names no coordinate reference system; say it by .set_crs(..)")
+        raise BadInput(name, "names no coordinate reference system; set it with .set_crs(..)")
     shapes = frame.geometry
     there = ~(shapes.isna() | shapes.is_empty).to_numpy()
     inside = [shape if shape.geom_type == "Point" else shape.representative_point() for shape in shapes[there]]

@@ -1,4 +1,4 @@
-"""A study's files looked at beside each other, before any work that takes long."""
+"""A study's files compared with each other, before any work that takes long."""
 
 import datetime
 from pathlib import Path

@@ -224,7 +224,7 @@ def feed_stage(maker: Maker) -> Stage:
 
 
 def facts_of(settings: FeedSettings) -> dict[str, Any]:
-    """What is asked of the feed, whatever its files are called."""
+    """The settings of the feed, whatever its files are called."""
     return {key: value for key, value in asdict(settings).items() if key not in ("files", "area")}
 
 

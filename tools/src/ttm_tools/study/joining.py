@@ -76,7 +76,7 @@ def join_parts(
     path: str = MATRIX,
 ) -> list[str]:
     """Writes the matrix of all parts, which are looked at once more, with the scenarios that are shown, and those
-    columns alone that are to be shown, where there are any.
+    columns alone that a study shows, if there are any.
     """
     refuse_changed(parts, threads)
     joined = Joined(parts, shown_as)

@@ -1,4 +1,4 @@
-"""study.json: for who comes back after half a year, all that was run, from what, by which versions, and when."""
+"""study.json: what was run, from what, by which versions, and when, for a reader who comes back after half a year."""
 
 import importlib.metadata
 import json

@@ -1,4 +1,4 @@
-"""The parts of a study, run by processes of this machine: those that are missing, so many at once."""
+"""The parts of a study, run by processes of this machine: those that are missing, several at once."""
 
 import contextlib
 import itertools
@@ -61,7 +61,7 @@ def tell_ending(count: int) -> None:
 
 
 class Pool:
-    """The runs that go on, so many at once, and the parts that wait for theirs."""
+    """The runs under way, a fixed number at once, and the parts that wait for theirs."""
 
     def __init__(self, run: Run, missing: Sequence[Part], at_once: int, threads: int) -> None:
         self.run, self.at_once, self.threads = run, at_once, threads

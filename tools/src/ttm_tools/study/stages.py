@@ -1,5 +1,5 @@
-"""Stages of a study, each done once: it counts as done when its record is there, bears the sum of all that its outputs
-depend on, and these have the sums that it states. Whatever else is found is removed, never taken.
+"""Stages of a study, each done once: it counts as done when its record is there, has the checksum of all that its
+outputs depend on, and these have the sums that it states. Whatever else is found is removed, never taken.
 """
 
 import contextlib
@@ -34,7 +34,7 @@ class Stage:
     outputs: Sequence[str]  # files, by names with a suffix, and folders, from the study's folder on
     make: Callable[[], list[str]]  # writes them, a folder by `many_written_aside`, and says what was done
     of_tools: bool = True  # whether other tools may make other outputs: done anew, then
-    keeps_task: bool = False  # whether what other machines compute stays what is asked for
+    keeps_task: bool = False  # whether other machines still compute what is needed
     refuse_changed: Callable[[], None] = lambda: None  # says what isn't as it was when its sum was taken
     stated: dict[str, str] = field(default_factory=dict)  # sums of files from outside that it reads
 

@@ -16,7 +16,7 @@ Settings = TypeVar("Settings")
 
 
 def read_study(path: str) -> Study:
-    """Reads and looks at all of a study's file."""
+    """Reads and checks a study's file."""
     text, top = read_entry(path)
     top.only([*names_of(About), *TABLES])
     entries = {name: top.table(name) for name in TABLES if top.has(name)}

@@ -37,7 +37,7 @@ def write_task(run: Run, parts: Sequence[Part], key: str, version: Sequence[str]
 
 
 def task_known() -> dict[str, Any]:
-    """What is to be computed; nothing where no study asks for it any more."""
+    """What to compute; nothing if no study needs it any more."""
     try:
         return dict(json.loads(Path(TASK).read_text(encoding="utf-8")))
     except (OSError, ValueError):
@@ -45,7 +45,7 @@ def task_known() -> dict[str, Any]:
 
 
 def one_part(folder: Path, number: int) -> None:
-    """Computes a part where a study's folder says so; what goes wrong is noted beside it."""
+    """Computes a part where a study's folder says so; what goes wrong is noted next to it."""
     if not folder.is_dir():
         raise BadInput(folder, "is not the folder of a study")
     with contextlib.chdir(folder):

@@ -25,7 +25,7 @@ from .stages import LOCK, RECORDS, held, room
 from .ttm import version_of
 from .work import found_program, sweep
 
-OF_ALL = 10  # one in so many rows is computed again
+OF_ALL = 10  # one in this many rows is computed again
 
 
 def verify(folder: Path, seed: int | None, workers: int) -> None:

@@ -33,7 +33,7 @@ class EquityOptions:
 def chosen_kinds(
     table: AccessTable, opportunity: str | None, percentile: float | None, cutoff: float | None
 ) -> list[AccessKind]:
-    """The kinds that are asked for; there is one, or it is reported what there is."""
+    """The chosen kinds; if there is none, an error says which there are."""
     numbers = {"percentile": percentile, "cutoff": cutoff}
     kinds = [
         kind
@@ -133,7 +133,7 @@ def draw_lorenz(axes: Any, names: Sequence[str], numbers: Floats, weights: Float
 def draw_tenths(
     axes: Any, names: Sequence[str], numbers: Floats, weights: Floats, base: int, others: Sequence[int]
 ) -> None:
-    """Bars of the mean change of each tenth of the people, a row of them for each scenario beside the base."""
+    """Bars of the mean change of each tenth of the people, a row of them for each scenario other than the base."""
     wide = 0.8 / max(1, len(others))
     for row, place in enumerate(others):
         changes = changes_by_tenth(numbers[base], numbers[place], weights)

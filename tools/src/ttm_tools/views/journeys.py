@@ -34,7 +34,7 @@ class ExplainOptions:
     departures: list[int]  # seconds on the axis
     back: int  # days before the date, with which the axis begins
     share: int  # percent
-    arguments: str  # what else was asked for
+    arguments: str  # the other arguments
 
     def clock(self, seconds: int) -> str:
         """A time on the axis, by the clock of the date."""

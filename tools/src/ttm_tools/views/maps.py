@@ -50,7 +50,7 @@ class Areas:
 def picture_of(
     kind: str, matrix: Matrix, stops: Stops, origin: str | None, options: PictureOptions, what: Nearest | None = None
 ) -> Picture:
-    """What is to be drawn: times, access, nearest, or difference, of the nearest where it is named."""
+    """What a map draws: times, access, nearest, or difference, of the nearest where it is named."""
     if origin is not None and origin not in stops.places:
         raise BadInput(stops.path, f"no stop {origin}")
     if what is not None:

@@ -46,7 +46,7 @@ class Nearest:
         return f"nearest {shown(self.name)}" if self.count == 1 else f"{self.count:g} nearest {shown(self.name)}"
 
     def seconds(self, matrix: Matrix, scenario: str, share: Share) -> Floats:
-        """The time to it from each origin, NaN where so many aren't reached."""
+        """The time to it from each origin, NaN where fewer are reached."""
         seconds: Floats = nearest(matrix, scenario, share, self.numbers[:, None], [self.count])[:, 0, 0]
         return seconds
 
@@ -76,7 +76,7 @@ def picture_of_nearest(matrix: Matrix, options: PictureOptions, what: Nearest) -
 
 
 def picture_of_nearest_difference(matrix: Matrix, stops: Stops, options: PictureOptions, what: Nearest) -> Picture:
-    """The same in a scenario beside the base."""
+    """The same in a scenario, compared with the base."""
     pair = pair_of(matrix, options.base, options.scenario, options.share)
     before, after = what.seconds(matrix, pair.base, pair.share), what.seconds(matrix, pair.other, pair.share)
     before, after = before[pair.before], after[pair.after]

@@ -34,7 +34,7 @@ class Shade:
 
 @dataclass(frozen=True)
 class Mark:
-    """How the stops of a class are drawn, and what the key says of them; `size` is an area beside an ordinary
+    """How the stops of a class are drawn, and what the key says of them; `size` is an area relative to an ordinary
     mark's.
     """
 
@@ -47,7 +47,7 @@ class Mark:
 
 @dataclass(frozen=True)
 class Picture:
-    """What is to be drawn: the classes in the key's order, which of them each stop is in, and what is written
+    """What a picture draws: the classes in the key's order, which of them each stop is in, and what is written
     beside.
     """
 
@@ -120,7 +120,7 @@ def picture_of_times(matrix: Matrix, stops: Stops, origin: str, options: Picture
 
 
 def round_step(most: float, count: int) -> int:
-    """A round number that steps to `most` in about so many steps: 1, 2 or 5 times a power of ten."""
+    """A round number that steps to `most` in about this many steps: 1, 2 or 5 times a power of ten."""
     least = max(most / count, 1)
     power = 10 ** math.floor(math.log10(least))
     return next(int(step * power) for step in (1, 2, 5, 10) if step * power >= least)
@@ -206,7 +206,7 @@ def beside(pair: Pair) -> str:
 
 
 def picture_of_time_difference(matrix: Matrix, stops: Stops, origin: str, options: PictureOptions) -> Picture:
-    """Travel times from an origin in a scenario beside the base."""
+    """Travel times from an origin in a scenario, compared with the base."""
     pair = pair_of(matrix, options.base, options.scenario, options.share)
     before, after = (matrix.seconds(name, pair.share, origin) for name in (pair.base, pair.other))
     breaks = options.breaks or MINUTES_OF_DIFFERENCE
@@ -225,7 +225,7 @@ def picture_of_time_difference(matrix: Matrix, stops: Stops, origin: str, option
 
 
 def picture_of_access_difference(matrix: Matrix, stops: Stops, options: PictureOptions) -> Picture:
-    """Access at each origin in a scenario beside the base, in classes of percent."""
+    """Access at each origin in a scenario, compared with the base, in classes of percent."""
     place, limit = matrix.limit(options.within)
     pair = pair_of(matrix, options.base, options.scenario, options.share)
     breaks = options.breaks or PERCENT

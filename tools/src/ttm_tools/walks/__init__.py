@@ -11,7 +11,7 @@ __all__ = ["NEAR", "Pace", "Walks", "distances", "points_of", "read_walks", "str
 def walks_of(
     stops: Stops, pace: Pace, streets: str | None = None, near: float = NEAR, first: int | None = None
 ) -> Walks:
-    """The walks between all stops by straight lines, or along the streets of a file; between the first so many and all
+    """The walks between all stops by straight lines, or along the streets of a file; between the first ones and all
     alone, where it is said how many.
     """
     if streets is None:

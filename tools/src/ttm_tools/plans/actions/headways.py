@@ -1,4 +1,4 @@
-"""A route that runs every so many seconds: its trips of a period give way to copies of a typical one."""
+"""A route that runs at a headway: copies of a typical trip replace its trips of a period."""
 
 from dataclasses import replace
 from typing import Sequence

@@ -78,7 +78,7 @@ class Content:
 
     ground: Ground
     counts: Counts  # by place
-    people: int  # the last so many columns of counts are people
+    people: int  # the number of last columns of counts that are people
     hidden: list[str]  # what is counted, and lies in part at stops that aren't shown
     away: list[str]  # what is counted, and lies at no place at which journeys end
     measures: list[PageMeasure]
