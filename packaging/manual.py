@@ -68,7 +68,7 @@ def list_of(lines: Sequence[str]) -> list[str]:
 
 
 def table(lines: Sequence[str]) -> list[str]:
-    """A table as a list: its first column, and what stands beside it. A number keeps its column's name.
+    """A table as a list: its first column, and the other columns. A number keeps its column's name.
 
     A table of options is left out: they are those of the help.
     """

@@ -1,5 +1,5 @@
-"""`ttm-tools COMMAND ..`: one module for each command, which defines its options and calls the other packages. It has no
-logic of its own, and imports no package before it is needed.
+"""`ttm-tools COMMAND ..`: one module for each command, which defines its options and calls the other packages. It has
+no logic of its own, and imports no package before it is needed.
 """
 
 import argparse
@@ -53,7 +53,7 @@ def parser_of() -> argparse.ArgumentParser:
     for name in COMMANDS:
         module = importlib.import_module(f".{name}", __package__)
         form = argparse.RawDescriptionHelpFormatter
-        command = commands.add_parser(name, help=module.TOLD, description=module.HELP, formatter_class=form)
+        command = commands.add_parser(name, help=module.SUMMARY, description=module.HELP, formatter_class=form)
         module.describe(command)
         setattr(command, "_negative_number_matcher", NEGATIVE)  # a value such as -0.1,51.5,0.1,51.6 is no option
         command.set_defaults(run=module.run, command=name, parser=command)

@@ -25,7 +25,7 @@ if TYPE_CHECKING:
     from ..matrices import Matrix, Share
     from ..measures.opportunities import Counts
 
-TOLD = "opportunities within limits, weighted by travel time, and the time to the nearest"
+SUMMARY = "opportunities within limits, weighted by travel time, and the time to the nearest"
 HELP = """\
 Measures what is reached from each origin of a matrix. For each column of each file of opportunities, this is the sum
 over all stops within each cutoff (--decay step), or the sum weighted by travel time (linear, exponential, logistic), as

@@ -4,12 +4,12 @@ import argparse
 
 from .options import Range, add_number, add_numbers, add_out, add_people, add_text
 
-TOLD = "the number of people in bands of access, or of the time to the nearest opportunities"
+SUMMARY = "the number of people in bands of access, or of the time to the nearest opportunities"
 HELP = """\
 Counts the people in each band of access, from a table of `ttm-tools access` in its long form and the people at each of
 its origins. There is a line for each opportunity, percentile, cutoff, group of people, scenario and band: how many
-people have a number of opportunities in the band, and what percentage of the group they are. For a table of
-`ttm-tools access --nearest`, a band is a range of minutes to the nearest opportunities.
+people have a number of opportunities in the band, and what percentage of the group they are. For a table of `ttm-tools
+access --nearest`, a band is a range of minutes to the nearest opportunities.
 
 Groups are the columns of numbers of --people: a file with the column stop_id (or id). --picture draws a bar for each
 group and scenario as PNG, for one opportunity, percentile and cutoff; it needs matplotlib. Memory: some 100 MB, and 300
@@ -25,7 +25,9 @@ def describe(parser: argparse.ArgumentParser) -> None:
     add_number(parser, "--percentile", "the percentile to count", Range("percent", 1, 100), without="all")
     what = "the cutoff to count, or the number of nearest opportunities"
     add_number(parser, "--cutoff", what, Range("", 0, 1e15, whole=False), without="all")
-    parser.add_argument("--form", choices=("csv", "markdown"), default="csv", help="the format of the table (default csv)")
+    parser.add_argument(
+        "--form", choices=("csv", "markdown"), default="csv", help="the format of the table (default csv)"
+    )
     add_text(parser, "--picture", "FILE", "the file of a picture", without="none is drawn")
     add_out(parser, "the file of the table")
 

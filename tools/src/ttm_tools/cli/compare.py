@@ -16,7 +16,7 @@ from .options import (
     opened,
 )
 
-TOLD = "who loses and who gains between two scenarios"
+SUMMARY = "who loses and who gains between two scenarios"
 HELP = """\
 Lists who loses and who gains between two scenarios of a matrix: a table of pairs, or of origins.
 
@@ -50,7 +50,9 @@ def describe(parser: argparse.ArgumentParser) -> None:
     parser.add_argument("--listed", choices=("both", "times", "access"), default="both", help=what)
     what = "how lines are sorted: the greatest loss or gain first, or by percent (without it, losers, then winners)"
     parser.add_argument("--sort", choices=("loss", "gain", "relative"), help=what)
-    add_number(parser, "--top", "the maximum number of lines of the table", Range("lines", 1, 1000000000), without="all")
+    add_number(
+        parser, "--top", "the maximum number of lines of the table", Range("lines", 1, 1000000000), without="all"
+    )
     add_base(parser)
     add_text(parser, "--scenario", "NAME", "the scenario that is compared with the base", without="the only other one")
     add_share(parser)

@@ -6,7 +6,7 @@ import webbrowser
 from pathlib import Path
 from typing import Iterator
 
-TOLD = "the documentation, in a browser"
+SUMMARY = "the documentation, in a browser"
 HELP = """\
 Opens the documentation in a browser, and prints where it is. It needs no network, and its search works offline. The
 Debian package, the tar file and the wheel contain it; in a clone, packaging/build.sh writes it."""

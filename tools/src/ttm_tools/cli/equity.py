@@ -10,7 +10,7 @@ if TYPE_CHECKING:
     from ..measures.access_table import AccessTable, AccessKind
     from ..measures.opportunities import Counts
 
-TOLD = "the distribution of access among people, by group and scenario"
+SUMMARY = "the distribution of access among people, by group and scenario"
 HELP = """\
 Measures how access is distributed among people, from a table of `ttm-tools access` in its long form and the people at
 each of its origins. There is a line for each opportunity, percentile, cutoff, group of people and scenario. Its columns
@@ -49,7 +49,9 @@ def describe(parser: argparse.ArgumentParser) -> None:
     add_text(parser, "--rank", "FILE", what, without="none")
     what = "the access below which people are poor; poverty needs it"
     add_number(parser, "--line", what, Range("", 1e-9, 1e15, whole=False), without="none")
-    parser.add_argument("--form", choices=("csv", "markdown"), default="csv", help="the format of the table (default csv)")
+    parser.add_argument(
+        "--form", choices=("csv", "markdown"), default="csv", help="the format of the table (default csv)"
+    )
     add_text(parser, "--picture", "FILE", "the file of a picture", without="none is drawn")
     add_out(parser, "the file of the table")
 

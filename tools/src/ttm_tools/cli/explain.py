@@ -10,7 +10,7 @@ if TYPE_CHECKING:
     from ..engine import Run
 
 UNUSED = ("within", "workers", "tries", "origins", "opportunities", "destinations")
-TOLD = "the journey behind a travel time of the matrix, leg by leg, and the durations of all departures"
+SUMMARY = "the journey behind a travel time of the matrix, leg by leg, and the durations of all departures"
 HELP = """\
 Shows the journey behind a travel time of the matrix, leg by leg, with stops, route, trip, times, waits, transfers and
 walks. It is the journey of the first departure that has exactly this duration, for the feed as it is and for each

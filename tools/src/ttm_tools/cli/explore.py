@@ -9,7 +9,7 @@ from .options import Range, add_number, add_text, day
 if TYPE_CHECKING:
     from ..explore.options import ExploreOptions
 
-TOLD = "a page on this machine: click to see travel times, change the network, and compare"
+SUMMARY = "a page on this machine: click to see travel times, change the network, and compare"
 HELP = """\
 Serves a page for this machine alone and opens it in the browser: a map of the network that answers at once. Click on a
 stop, or search for it, to see travel times and isochrones from there, with sliders for minutes, percentile, window,

@@ -15,7 +15,7 @@ from .options import (
     scenarios_of,
 )
 
-TOLD = "stops with access and travel times, for a geographic information system"
+SUMMARY = "stops with access and travel times, for a geographic information system"
 HELP = """\
 Writes the stops of a matrix for a geographic information system, with their access, and with --origin their travel
 times from there. There is a column for each scenario, percentile and limit, such as base_50_access_1800 and

@@ -17,7 +17,7 @@ from .options import (
     scenarios_of,
 )
 
-TOLD = "the areas that can be reached from an origin within given minutes"
+SUMMARY = "the areas that can be reached from an origin within given minutes"
 HELP = """\
 Writes the areas that can be reached from an origin within given numbers of minutes: one shape for each band, scenario
 and percentile, as GeoJSON (.geojson, .json) or GeoPackage (.gpkg, needs geopandas). A point that has a shape, the

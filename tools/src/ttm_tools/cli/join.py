@@ -4,7 +4,7 @@ import argparse
 
 from .options import add_out
 
-TOLD = "the whole matrix from the matrices of parts"
+SUMMARY = "the whole matrix from the matrices of parts"
 HELP = """\
 Joins the matrices of the parts of a study, in any order: the bytes are those of one run over all origins. All parts
 must have the same header; each origin must be in exactly one part, with the same scenarios, one after another, and a

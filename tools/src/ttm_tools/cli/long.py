@@ -11,7 +11,7 @@ if TYPE_CHECKING:
     from ..matrices import Matrix
     from ..views.long import TableChoice
 
-TOLD = "the matrix in long form: a line for each pair, with names and coordinates"
+SUMMARY = "the matrix in long form: a line for each pair, with names and coordinates"
 HELP = """\
 Turns a matrix from wide to long: a line for each origin and destination. A line has scenario, share (the percentile, if
 the matrix names it), origin, destination and seconds: the travel time, empty if too few departures reach the

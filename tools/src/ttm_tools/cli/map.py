@@ -25,7 +25,7 @@ if TYPE_CHECKING:
     from ..views.nearest import Nearest
     from ..views.pictures import PictureOptions
 
-TOLD = "a map of travel times, of access, or of the difference between scenarios"
+SUMMARY = "a map of travel times, of access, or of the difference between scenarios"
 HELP = """\
 Draws a map of a matrix as PNG: travel times from an origin (times), access of all origins (access), or who loses and
 who gains in a scenario compared with the base (difference), by the access of each origin, or with --origin by the

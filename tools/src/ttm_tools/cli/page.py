@@ -18,7 +18,7 @@ from .options import (
     scenarios_of,
 )
 
-TOLD = "one HTML file to send, with travel times and access to explore in a browser"
+SUMMARY = "one HTML file to send, with travel times and access to explore in a browser"
 HELP = """\
 Writes a matrix as one HTML file that you can send by mail and open with a double click: any current browser shows it
 without a network. It has a map of the stops, coloured by travel time from the stop that you click on; a slider that

@@ -9,7 +9,7 @@ if TYPE_CHECKING:
     from ..points import Points
     from ..walks import Pace
 
-TOLD = "a feed for journeys from door to door: points as stops, and the walks to them"
+SUMMARY = "a feed for journeys from door to door: points as stops, and the walks to them"
 HELP = """\
 Writes a folder for runs of ttm from point to point, such as cells of a grid, homes or schools: the points become stops
 without trips, and the walks between points and stops become footpaths. A journey then begins with a walk from a point,
@@ -36,8 +36,8 @@ or of a point in an earlier file, all those of its file begin with the file's na
 
 Walks are those of ttm-tools walks, in straight lines or along streets; a point has no entrances. Points with no stop in
 reach are reported, and so are old stops that walks by way of a plan's new stops bring nearer to each other. ttm accepts
-65,535 stops, stations and points, and 4,000,000 walks; more are an error before anything is written. Memory: some
-150 MB, 150 bytes for each walk, and with --streets 800 for each node of the ways."""
+65,535 stops, stations and points, and 4,000,000 walks; more are an error before anything is written. Memory: some 150
+MB, 150 bytes for each walk, and with --streets 800 for each node of the ways."""
 
 
 def describe(parser: argparse.ArgumentParser) -> None:
@@ -45,7 +45,9 @@ def describe(parser: argparse.ArgumentParser) -> None:
     parser.add_argument("points", metavar="POINTS", nargs="*", help="points at which journeys begin and end")
     for name, what in (("--origins", "begin"), ("--destinations", "end")):
         add_several(parser, name, "POINTS", f"points at which journeys only {what}", without="POINTS alone")
-    parser.add_argument("--out", metavar="FOLDER", required=True, help="the folder to write; it must be new or empty (needed)")
+    parser.add_argument(
+        "--out", metavar="FOLDER", required=True, help="the folder to write; it must be new or empty (needed)"
+    )
     for name, what in (("id", "identifier"), ("lat", "latitude"), ("lon", "longitude")):
         add_text(parser, f"--{name}", "COLUMN", f"the column of a point's {what}", default=name)
     add_number(

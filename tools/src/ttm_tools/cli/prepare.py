@@ -6,7 +6,7 @@ import datetime
 from ..prepare.rules import help_table
 from .options import Range, add_number, add_several, add_text, day
 
-TOLD = "a feed that ttm reads, from published feeds: checked, repaired, clipped, merged"
+SUMMARY = "a feed that ttm reads, from published feeds: checked, repaired, clipped, merged"
 HELP = """\
 Writes a folder that ttm reads, from published feeds: zip files or folders, with the files in it or one folder below.
 
@@ -14,8 +14,8 @@ Writes a folder that ttm reads, from published feeds: zip files or folders, with
 that fails it prints ttm's line, then the value, what is allowed, and how often it fails. A field that fails several
 checks is reported once; references to a missing file are not checked. Warnings follow: the days on which trips run,
 misspelt columns, stops without coordinates or at 0 and 0, trips of a single stop, speeds over 300 km/h, stations used
-as stops, transfers that aren't used. For a feed with errors, the days are those that --repair would leave, with what
-it would remove. The exit status is 1 if there is an error.
+as stops, transfers that aren't used. For a feed with errors, the days are those that --repair would leave, with what it
+would remove. The exit status is 1 if there is an error.
 
 --out writes the feed; a feed with errors is refused. --repair repairs it first, by the rules below; prepared.csv in the
 folder has a line for each repaired record. Then it prints how many records each file has left, and on which days trips

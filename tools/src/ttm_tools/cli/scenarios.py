@@ -7,7 +7,7 @@ import sys
 from ..plans.action_list import help_table
 from .options import add_text
 
-TOLD = "a feed with scenario files, from a plan of new lines, headways and speeds"
+SUMMARY = "a feed with scenario files, from a plan of new lines, headways and speeds"
 HELP = """\
 Writes a feed with the trips of all scenarios of a plan, and for each scenario a file that removes what it lacks, so
 that one run of ttm compares them. FOLDER is a feed by the GTFS reference. It also has scenarios/NAME.csv and
@@ -24,8 +24,8 @@ stops) and service select some of their trips. Times are "HH:MM" or "HH:MM:SS". 
 new. An action that changes nothing, names something unknown, or makes times go back is an error with the plan's line.
 
 The feed must be one that ttm accepts (ttm-tools prepare writes one). compare, map, long and others leave out ttm's
-scenario `base`, which has the trips of all scenarios at once, and use `today` as the base. Memory: some 200 bytes for each stop time that
-is written."""
+scenario `base`, which has the trips of all scenarios at once, and use `today` as the base. Memory: some 200 bytes for
+each stop time that is written."""
 
 
 def describe(parser: argparse.ArgumentParser) -> None:

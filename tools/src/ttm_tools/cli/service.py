@@ -9,7 +9,7 @@ from .options import add_out, add_text, day
 if TYPE_CHECKING:
     from ..views.service import Day
 
-TOLD = "the service: departures, headways, speeds, vehicles, hours and kilometres"
+SUMMARY = "the service: departures, headways, speeds, vehicles, hours and kilometres"
 HELP = """\
 Shows what runs on a service day, by route, direction and period, for the feed as it is and for each scenario file:
 departures, the median headway and the greatest gap (minutes, at the stop at which most vehicles of the direction call;
@@ -42,7 +42,9 @@ def describe(parser: argparse.ArgumentParser) -> None:
     parser.add_argument("scenarios", metavar="SCENARIO", nargs="*", help=what)
     what = "the service day, YYYYMMDD or YYYY-MM-DD, of the years 1 to 9999 (needed)"
     parser.add_argument("--date", metavar="DATE", type=day, required=True, help=what)
-    what = "the times at which periods begin and the last one ends: 00:00 to 168:00 between commas (default 00:00,48:00)"
+    what = (
+        "the times at which periods begin and the last one ends: 00:00 to 168:00 between commas (default 00:00,48:00)"
+    )
     parser.add_argument("--periods", metavar="TIMES", type=times, default=[0, 48 * 3600], help=what)
     what = "what a line stands for (default direction)"
     parser.add_argument("--by", choices=("direction", "route", "all", "stop"), default="direction", help=what)

@@ -4,7 +4,7 @@ import argparse
 
 from .options import Range, add_number, add_text
 
-TOLD = "the origins of a study, cut into parts"
+SUMMARY = "the origins of a study, cut into parts"
 HELP = """\
 Cuts the origins of a study into parts, one for each process, processor or machine. With --feed the origins are all
 stops of the feed. The files part_0001.csv .. have the origins in their order, in a column stop_id; sizes differ by one

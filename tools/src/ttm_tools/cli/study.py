@@ -5,7 +5,7 @@ import sys
 
 from .options import Range, add_number, add_several, add_text
 
-TOLD = "a whole study from one file: feed, runs in parts, matrix, tables, maps, report"
+SUMMARY = "a whole study from one file: feed, runs in parts, matrix, tables, maps, report"
 HELP = """\
 Runs a whole study from one file, in one folder: prepares the feed, makes walks between its stops (or points), runs ttm
 in parts of the origins, and joins the parts to a matrix, from which it writes tables, maps and a report. --new prints a
@@ -16,10 +16,10 @@ missing, and redoes what depends on a changed input. A part of the run is done i
 checksum of its inputs, arguments and version of ttm. A part that fails is reported with ttm's line, and the others go
 on; the exit status is then 1.
 
-Parts run on the processors of this machine, as many at once as its memory allows by ttm's own estimate. With --slurm they
-are an array of a cluster that shares the folder, with --hosts they run on hosts that you reach by ssh and that share
-it; --option goes to sbatch, or to parallel, such as --option partition=long. If the command ends, an array continues,
-and the same command waits for it.
+Parts run on the processors of this machine, as many at once as its memory allows by ttm's own estimate. With --slurm
+they are an array of a cluster that shares the folder, with --hosts they run on hosts that you reach by ssh and that
+share it; --option goes to sbatch, or to parallel, such as --option partition=long. If the command ends, an array
+continues, and the same command waits for it.
 
 --verify FOLDER compares the checksums of a study's files, recomputes a random tenth of the rows, and compares their
 bytes. Memory: what ttm takes for all parts that run at once, and then what map, page and compare take."""
@@ -40,7 +40,13 @@ def describe(parser: argparse.ArgumentParser) -> None:
         parser, "--part", "compute one part, as the tasks of --slurm and --hosts do", Range("", 1, 9999), without="all"
     )
     add_text(parser, "--verify", "FOLDER", "recompute a tenth of a study's rows", without="the study runs")
-    add_number(parser, "--seed", "chooses the rows of --verify", Range("", 0, 4294967295), without="drawn at random, and printed")
+    add_number(
+        parser,
+        "--seed",
+        "chooses the rows of --verify",
+        Range("", 0, 4294967295),
+        without="drawn at random, and printed",
+    )
 
 
 def refuse_others(args: argparse.Namespace) -> None:

@@ -5,7 +5,7 @@ import os
 
 from .options import Range, add_number, add_out, add_pace, add_text
 
-TOLD = "the footpaths of a feed, from the coordinates of its stops"
+SUMMARY = "the footpaths of a feed, from the coordinates of its stops"
 HELP = """\
 Writes the footpaths of a feed from the coordinates of its stops: straight lines, lengthened by a detour factor. Two
 stops have a footpath, in each direction, if the way between them takes at most the limit: the distance on the ground
@@ -14,9 +14,9 @@ times the detour factor, at the walking speed, rounded up to whole seconds. ttm 
 
 Stops are those at which vehicles call: location_type 0 or empty. If their station lists entrances (location_type 2),
 walks from outside pass an entrance; within one station they are direct (GTFS reference, stops.txt). A stop without
-valid coordinates, or at 0 and 0, has no footpath; a line on standard error counts these. The file has
-the columns from_stop_id, to_stop_id and seconds, for ttm's --footpaths. In a folder of ttm-tools scenarios with new
-stops, old stops that walks by way of these bring nearer to each other are reported.
+valid coordinates, or at 0 and 0, has no footpath; a line on standard error counts these. The file has the columns
+from_stop_id, to_stop_id and seconds, for ttm's --footpaths. In a folder of ttm-tools scenarios with new stops, old
+stops that walks by way of these bring nearer to each other are reported.
 
 --streets uses the ways of a file of OpenStreetMap, without a detour factor. A way may be walked if its highway is
 primary, secondary, tertiary (and their links), unclassified, residential, living_street, service, road, track, path,

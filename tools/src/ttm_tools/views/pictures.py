@@ -47,8 +47,8 @@ class Mark:
 
 @dataclass(frozen=True)
 class Picture:
-    """What a picture draws: the classes in the key's order, which of them each stop is in, and what is written
-    beside.
+    """What a picture draws: the classes in the key's order, which of them each stop is in, and the
+    texts.
     """
 
     title: str

@@ -2,8 +2,8 @@
 looked for by Dijkstra's search, cut at the limit.
 
 The way between a place and its street counts as it is where it is near, and else as a straight line, with its detour.
-The search runs cube by cube of space, each as wide as the longest walk: whoever begins in a cube ends in it or in one
-beside it, so only the streets of these are looked at.
+The search runs cube by cube of space, each as wide as the longest walk: whoever begins in a cube ends in it or in a
+neighbour, so only the streets of these are looked at.
 """
 
 from dataclasses import dataclass

@@ -1,7 +1,7 @@
 "use strict";
 // What is kept: the picture, the numbers, and a study that computes all of it.
 
-const KEY_WIDE = 260; // pixels of the key beside the picture
+const KEY_WIDE = 260; // pixels of the key next to the picture
 
 const keep = {
   page: null,

@@ -40,7 +40,7 @@ function tellFault(fault) {
 
 class Asker {
   constructor() {
-    this.answers = new Map(); // by question, the one that was asked for last at the end
+    this.answers = new Map(); // by question, the most recent one at the end
     this.running = null; // the question that is on its way, and its answer
     this.waiting = null; // the one that comes next
   }

@@ -92,7 +92,7 @@ function changeClasses() {
   return { marks, classOf };
 }
 
-/** A round number that steps over a span in about so many steps: 1, 2 or 5 times a power of ten. */
+/** A round number that steps over a span in about this many steps: 1, 2 or 5 times a power of ten. */
 function roundStep(span, count) {
   const least = Math.max(span / count, 1e-9);
   const power = 10 ** Math.floor(Math.log10(least));

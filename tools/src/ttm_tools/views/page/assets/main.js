@@ -18,7 +18,7 @@ const state = {
   share: 0,
   place: -1, // that is chosen; -1 for none
   minutes: head.minutes, // of the slider
-  of: "", // what access is told of
+  of: "", // what access counts
   within: 0, // which of its limits
   weight: -1, // of the histogram: a column of counts, or -1 for places
 };
@@ -193,7 +193,7 @@ function choose(place, event) {
   return additions.some((addition) => addition.takes(place, event)) ? show() : set({ place });
 }
 
-/** What is told of a place under the pointer. */
+/** The text on a place under the pointer. */
 function tipOf(place) {
   const { now, before } = current, name = nameOf(place);
   if (state.view === "access") {

@@ -1,5 +1,5 @@
 "use strict";
-// What stands beside the map: sentences, sums, the key, the histogram, and tables. All text is set as text.
+// The panel next to the map: sentences, sums, the key, the histogram, and tables. All text is set as text.
 
 const MOST_LINES = 500; // of the table of all travel times
 const MOST_LOSERS = 10;
