@@ -8,8 +8,8 @@ SUMMARY = "the number of people in bands of access, or of the time to the neares
 HELP = """\
 Counts the people in each band of access, from a table of `ttm-tools access` in its long form and the people at each of
 its origins. There is a line for each opportunity, percentile, cutoff, group of people, scenario and band: how many
-people have a number of opportunities in the band, and what percentage of the group they are. For a table of `ttm-tools
-access --nearest`, a band is a range of minutes to the nearest opportunities.
+people have at least the number of opportunities at which the band begins, and what percentage of the group they are.
+For a table of `ttm-tools access --nearest`, bands are minutes: how many people have the nearest within them.
 
 Groups are the columns of numbers of --people: a file with the column stop_id (or id). --picture draws a bar for each
 group and scenario as PNG, for one opportunity, percentile and cutoff; it needs matplotlib. Memory: some 100 MB, and 300

@@ -171,7 +171,7 @@ def add_cutoffs(parser: argparse.ArgumentParser, what: str, bounds: tuple[float,
 
 def add_base(parser: argparse.ArgumentParser) -> None:
     what = "base, or today for a plan"
-    about = "the scenario to compare others with, or a file of the same kind whose base is taken for it"
+    about = "the scenario to compare with, or another file of the same kind, whose base to compare with"
     add_text(parser, "--base", "NAME|FILE", about, without=what)
     add_base_scenario(parser)
 
