@@ -450,7 +450,7 @@ FAULTS = [
     ),
     (
         'do = "extend"\nroute = "R"\nafter = "D"\nstops = ["B"]\nseconds = [1, 2]',
-        "line 8: seconds '[1, 2]' is invalid; allowed: 1 whole numbers between brackets, 0 to 86,400",
+        "line 8: seconds '[1, 2]' is invalid; allowed: 1 whole number in brackets, 0 to 86,400",
     ),
     ('do = "cut"\nroute = "Q"\nafter = "C"', "line 6: after 'C' leaves all trips of the route as they are"),
     (

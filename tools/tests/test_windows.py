@@ -206,7 +206,7 @@ def test_a_day_without_trips_is_refused(place: Place) -> None:  # noqa: F811
         (f'date = 2026-05-04\nfrom = "08:00"\n{WINDOWS}', "windows doesn't go with from"),
         (f"date = 2026-05-04\ndates = [2026-05-04]\n{WINDOWS}", "dates doesn't go with date"),
         (f"dates = [2026-05-05, 2026-05-04]\n{WINDOWS}", "dates '[2026-05-05, 2026-05-04]' is invalid"),
-        (f"dates = []\n{WINDOWS}", "allowed: 1 to 31 dates between brackets, ascending"),
+        (f"dates = []\n{WINDOWS}", "allowed: 1 to 31 dates in brackets, ascending"),
         ('date = 2026-05-04\nwindows = [{ name = "a b", from = "08:00", to = "08:00" }]', "can't be a window's name"),
         ('date = 2026-05-04\nwindows = [{ name = "a", from = "08:01", to = "08:00" }]', "to '08:00' is before from"),
         ('date = 2026-05-04\nwindows = [{ name = "a", from = "8", to = "08:00" }]', "from '8' is not a time"),

@@ -79,7 +79,7 @@ def tell_lost_files(study: Study, kind: type[Any], entry: Entry) -> None:
             continue
         for path in [entry.values[field.name]] if field.metadata["kind"] is FILE else entry.texts(field.name):
             if not os.path.exists(study.at(path)):
-                raise entry.fault("isn't there", field.name, path, "a path from the folder of this file")
+                raise entry.fault("isn't there", field.name, path, "a path, relative to this file's folder")
 
 
 def refuse_both(entry: Entry, *keys: str) -> None:
