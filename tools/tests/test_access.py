@@ -75,7 +75,7 @@ def test_shares_stay_apart(small: Town) -> None:
 def test_wrong_files_are_told(small: Town) -> None:
     path = small.path("bad.csv")
     wrong: list[tuple[str, list[Cell], str]] = [
-        ("stop_id,jobs", ["X", 1], f"{path}: record 2: the matrix has no stop X"),
+        ("stop_id,jobs", ["X", 1], f"{path}: record 2: no stop of the matrix is called X"),
         ("stop_id,jobs", ["B", -1], f"{path}: record 2: jobs '-1' is invalid; allowed: a number from 0 on"),
         ("stop_id,jobs", ["B", ""], f"{path}: record 2: jobs '' is invalid; allowed: a number from 0 on"),
         ("stop,jobs", ["B", 1], f"{path}: record 1: no column stop_id or id"),

@@ -177,9 +177,9 @@ def test_a_route_is_taken_out_undone_and_redone_by_clicks(served: Explored, brow
     changed(browser)
     assert browser.run("return head.scenarios") == ["today", "changed"]
     assert browser.text("told") == (
-        "changed compared with today: of 4 places 1 are cut off, 0 slower by 2 minutes or more, 0 faster, 0 new."
+        "changed compared with today: of 4 places 1 cut off, 0 slower by 2 minutes or more, 0 faster, 0 new."
     )
-    assert browser.text("within-picture").startswith("Within the picture: of 4 places 1 are cut off")
+    assert browser.text("within-picture").startswith("Within the picture: of 4 places 1 cut off")
     assert browser.text("changes") == "remove route 2 (Q)"
     assert browser.text("changes-told").startswith("changed: 1 remove_route Q: trips 4 taken out")
     assert "removed trips" in browser.text("lines-key")
@@ -247,7 +247,7 @@ def test_a_line_is_drawn_by_clicks_and_a_route_goes_on(served: Explored, browser
     changed(browser)
     # 3.76 kilometres at 20 km/h are 11 minutes and some seconds
     assert minutes(browser)["D"] == 12
-    assert browser.text("told").endswith("0 are cut off, 0 slower by 2 minutes or more, 1 faster, 0 new.")
+    assert browser.text("told").endswith("0 cut off, 0 slower by 2 minutes or more, 1 faster, 0 new.")
     assert browser.text("changes") == "new line New line: Alpha (A), Delta (D), every 10 minutes"
     assert "added trips" in browser.text("lines-key")
     browser.press("#undo")
@@ -293,7 +293,7 @@ def test_a_plan_is_compared_with_today_and_a_change_comes_beside_it(
     with explored(feed, program, "--plan", str(tmp_path / "plan.toml")) as served:
         browser.visit(served.address, "from=A")
         assert browser.run("return head.scenarios") == ["today", "no route 2"]
-        assert browser.text("told").startswith("no route 2 compared with today: of 4 places 1 are cut off")
+        assert browser.text("told").startswith("no route 2 compared with today: of 4 places 1 cut off")
         browser.awaited("await routes.read_; await routes.add({ do: 'remove_route', route: 0 });")
         assert browser.run("return head.scenarios") == ["today", "no route 2", "changed"]
         assert minutes(browser) == {"A": 0, "B": 255, "C": 255, "D": 255}

@@ -163,6 +163,6 @@ def test_a_map_shows_the_areas_with_their_square_kilometres(town: Town, monkeypa
     ]
     assert (key, classes) == ("Reached within", printed)
     assert texts[:2] == ["Areas reached from Alpha (A)", f"{wide:.1f} km² within 10 minutes"]
-    assert "50 of 100 departures" in texts[2].replace("\n", " ")
+    assert "50 % of departures" in texts[2].replace("\n", " ")
     ran = town.ran("map", "isochrones", "--feed", town.feed, "--out", town.path("map.png"), town.file)
     assert ran[2] == 2 and "isochrones needs --origin" in ran[1]

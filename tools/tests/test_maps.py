@@ -36,7 +36,7 @@ def test_travel_times_in_classes_of_minutes(town: Town, monkeypatch: pytest.Monk
     texts, key, classes = figure(town, monkeypatch, "times", "--origin", "A")
     message = "3 of 3 other stops are reached, half of them within 15 minutes"
     assert texts[:2] == ["Travel time from Alpha (A)", message]
-    assert ("50 of 100 departures" in texts[2].replace("\n", " ")) == second_form
+    assert ("50 % of departures" in texts[2].replace("\n", " ")) == second_form
     assert key == "Travel time in minutes,\nwaiting included"
     assert classes == ["up to 10  (1)", "10 to 20  (1)", "30 to 45  (1)", "origin", "where vehicles run"]
     arguments = ["times", "--origin", "A", "--scenario", "cut", "--breaks", "5,6"]
@@ -57,7 +57,7 @@ def test_access_in_round_numbers(town: Town, monkeypatch: pytest.MonkeyPatch) ->
 def test_the_difference_of_access(town: Town, monkeypatch: pytest.MonkeyPatch) -> None:
     town.matrix(town_matrix(True))
     texts, _, classes = figure(town, monkeypatch, "difference")
-    message = "Of 2 stops 1 lose, 1 gain; the most: 33 % (1 opportunities) at Alpha (A)"
+    message = "Of 2 stops 1 loses, 1 gains; the greatest loss: 33 % (1 opportunities) at Alpha (A)"
     assert texts[1] == message
     lost, gained = "25 % or more lost  (1)", "25 % or more gained  (1)"
     assert classes[:3] == [lost, gained, "not an origin of the matrix  (2)"]
@@ -67,7 +67,7 @@ def test_the_difference_of_travel_times(town: Town, monkeypatch: pytest.MonkeyPa
     town.matrix(town_matrix(False))
     texts, _, classes = figure(town, monkeypatch, "difference", "--origin", "A")
     title = "Travel time from Alpha (A): cut compared with base"
-    assert texts[:2] == [title, "Of 4 stops 1 are cut off, 2 slower, 0 faster"]
+    assert texts[:2] == [title, "Of 4 stops 1 cut off, 2 slower, 0 faster"]
     gone = "cut off: not reached now  (1)"
     assert classes[:3] == [gone, "15 min or more slower  (1)", "1 to 5 min slower  (1)"]
     town.matrix(town_matrix(True))

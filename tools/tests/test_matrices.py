@@ -76,7 +76,7 @@ def test_of_several_shares_and_limits_one_must_be_named(town: Town) -> None:
     refused(
         town, text, "it has rows for the percentiles 25, 50: choose one with --share", lambda item: item.share(None)
     )
-    refused(town, text, "no line of the share 90; it has 25, 50", lambda item: item.share(90))
+    refused(town, text, "no rows for the percentile 90; it has 25, 50", lambda item: item.share(90))
     message = "it has access within 900, 1800 seconds: choose one with --within"
     refused(town, text, message, lambda item: item.limit(None))
     refused(town, text, "no access within 60 seconds, but within 900, 1800", lambda item: item.limit(60))

@@ -117,7 +117,7 @@ def test_a_slider_that_is_dragged_leaves_the_last_address(town: Town, browser: B
 def test_the_difference_has_who_is_cut_off_as_a_class(town: Town, browser: Browser) -> None:
     town.matrix(town_matrix(True))
     browser.open(page(town, *jobs(town)), "view=times&scenario=cut&difference=1&from=A")
-    message = "cut compared with base: of 4 places 1 are cut off, 1 slower by 2 minutes or more, 0 faster, 0 new."
+    message = "cut compared with base: of 4 places 1 cut off, 1 slower by 2 minutes or more, 0 faster, 0 new."
     assert browser.text("told") == message
     key = {"cut off: not reached now": "1", "15 min or more slower": "1", "at most 1 min either way": "2"}
     assert browser.key() == key
@@ -149,7 +149,7 @@ def test_access_its_change_and_who_loses_most(town: Town, browser: Browser) -> N
     losers = [row for row in rows if int(row["change"]) < 0]
     wanted = [[f"{row['origin_name']} ({row['origin']})", row["access_before"], row["access_after"]] for row in losers]
     assert [row[:3] for row in browser.lines("losers")[1:]] == wanted != []
-    assert "of 2 places 1 lose, 1 gain" in browser.text("told")
+    assert "of 2 places 1 loses, 1 gains" in browser.text("told")
     assert browser.key() == {"25 % or more lost": "1", "25 % or more gained": "1", "not an origin of the matrix": "2"}
     browser.press("#losers button")
     assert browser.lines("sums")[1] == ["opportunities", "3", "2", "-1", "-33.3 %"]
@@ -295,7 +295,7 @@ def test_points_alone_as_squares_and_a_new_line(town: Town, browser: Browser) ->
     assert browser.run("return head.scenarios") == ["today", "tram"]
     assert (
         browser.text("told")
-        == "tram compared with today: of 3 places 0 are cut off, 0 slower by 2 minutes or more, 1 faster, 1 new."
+        == "tram compared with today: of 3 places 0 cut off, 0 slower by 2 minutes or more, 1 faster, 1 new."
     )
     assert "added trips" in browser.text("lines-key") and "taken out" not in browser.text("lines-key")
     aside = int(browser.run("return 0.4 * page.sideOf(0) * 2 ** page.map.getZoom()"))  # pixels, within the square

@@ -89,7 +89,7 @@ def test_a_matrix_that_was_cut_short_is_refused(room: Room) -> None:
     whole = Path(other).read_bytes()
     for count in (1, 2, 20):
         Path(other).write_bytes(whole[:-count])
-        refused([some, other], f"{other}: cut short")
+        refused([some, other], f"{other}: truncated")
 
 
 def test_a_matrix_that_was_cut_between_two_rows_is_refused(room: Room) -> None:
@@ -102,7 +102,7 @@ def test_a_matrix_that_was_cut_between_two_shares_is_refused(room: Room) -> None
     some, other = parts(room, ORIGINS[:2], ORIGINS[2:], scenarios=["base", "cut"], shares=2)
     whole = Path(other).read_bytes()
     Path(other).write_bytes(whole.replace(b"cut,G,1,7,,4\n", b""))
-    refused([some, other], f"{other}: G has other shares in cut than the first origin")
+    refused([some, other], f"{other}: G has other percentiles in cut than the first origin")
     Path(other).write_bytes(whole.replace(b"base,D,0,", b"base,D,2,"))
     refused([some, other], f"{other}: D has other shares in base than the first origin")
 

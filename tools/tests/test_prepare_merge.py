@@ -35,7 +35,7 @@ def test_identifiers_that_collide_get_a_prefix(room: Room) -> None:
     write_feed(room, "tram", "CD", "Q", "X")
     printed = merged(room, "bus", "tram")
     kinds = ("stop", "service", "trip", "agency")
-    lines = [f"tram: each {kind}'s identifier begins with tram:" for kind in kinds]
+    lines = [f"tram: the identifiers of all {kind}s begin with tram:" for kind in kinds]
     lines.insert(0, "left out, since no rule merges them: bus/fares.txt, tram/fares.txt")
     assert printed.splitlines() == [*lines, f"{room.path('out')}: 6 stops and stations, 2 trips, 4 stop times"]
     result = {path.name: path.read_text().splitlines()[1:] for path in (room.folder / "out").iterdir()}

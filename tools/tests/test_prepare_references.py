@@ -68,8 +68,8 @@ def test_what_refers_to_what_went_goes_too(room: Room, arguments: tuple[str, str
         "attributions.txt": ["1"],
     }
     assert (
-        "removed with what they name: attributions.txt 1 records, fare_attributes.txt 1 record, fare_rules.txt 2 "
-        "records, pathways.txt 1 records, shapes.txt 1 records, stop_areas.txt 1 records, translations.txt 2 records"
+        "removed with what they name: attributions.txt 1 record, fare_attributes.txt 1 record, fare_rules.txt 2 "
+        "records, pathways.txt 1 record, shapes.txt 1 record, stop_areas.txt 1 record, translations.txt 2 records"
         in errors.splitlines()
     )
     assert "left out: stops.txt 2 of 4, routes.txt 1 of 2, trips.txt 1 of 2" in errors

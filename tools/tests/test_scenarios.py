@@ -434,7 +434,7 @@ FAULTS = [
     ),
     (
         'do = "headway"\nroute = "Q"\ntimes = 2\nfrom = "08:00"\nto = "09:00"',
-        "line 6: times leaves nothing between 08:00:00 and 09:00:00 to be added to",
+        "line 6: times adds no departure between 08:00:00 and 09:00:00",
     ),
     (
         'do = "headway"\nroute = "R"\nevery = 600\ntimes = 2\nfrom = "08:00"\nto = "09:00"',
@@ -496,7 +496,7 @@ def test_plans_that_are_none(small: Room) -> None:
             "".join(one.format(f"s{number}") for number in range(15)),
             ": line 72: name 's14' is scenario 15; ttm takes 14 in addition to base and today",
         ),
-        (one.format("x") + '[[stop]]\nid = "A"\n', ": line 7: id 'A' is there already"),
+        (one.format("x") + '[[stop]]\nid = "A"\n', ": line 7: id 'A' already exists"),
     ):
         plan.write_text(text)
         small.refused(f"{plan}{printed}", "scenarios", small.path("feed"), str(plan), "--out", small.path("out"))
@@ -560,7 +560,7 @@ def test_walks_that_bring_old_stops_nearer_are_told(small: Room) -> None:
     nearer = (
         "walks to new stops bring 1 pairs of old stops nearer to each other, so today differs from the feed: A and B, "
     )
-    assert small.ran(*arguments)[1].splitlines()[1] == f"{nearer}590 seconds apart by way of them, and 591 without"
+    assert small.ran(*arguments)[1].splitlines()[1] == f"{nearer}590 seconds apart by way of them, and 591 without them"
     small.write("walks.csv", "from_stop_id,to_stop_id,seconds", [*table[:2], ["B", "A", 600]])
     assert small.ran(*arguments)[1].endswith("590 seconds apart by way of them, and out of reach without\n")
 
@@ -638,7 +638,7 @@ def test_what_a_day_of_all_scenarios_has_is_told(small: Room, monkeypatch: pytes
     """On Monday run all five trips and another one of Q, with 20 calls, on Tuesday and Wednesday all but R3."""
     (small.folder / "plan.toml").write_text(TWO)
     what = "all scenarios together: at most 6 runs with 20 stop times on a day (2026-05-04)"
-    more = "with a day before and one after {}: --back 0 --ahead 0, since ttm takes 1,000,000 and 20"
+    more = "with the day before and after {}: use --back 0 --ahead 0, since ttm takes 1,000,000 and 20"
     for most, printed in (
         (60, what),
         (20, f"{what}; {more.format('16 runs with 52')}"),

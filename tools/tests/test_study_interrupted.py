@@ -82,7 +82,7 @@ def test_the_parts_that_run_at_ctrl_c_are_kept(room: Room, monkeypatch: pytest.M
     with pytest.raises(Interrupted):
         run_parts(Run("feed", "20260504", ("08:00", "08:00")), parts, 2, 1)
     assert [part.is_done() for part in parts] == [True, True, False]
-    assert b"interrupted: 2 parts that run are waited for and kept" in room.captured.readouterr()[1]
+    assert b"interrupted: waiting for 2 running parts, which will be kept" in room.captured.readouterr()[1]
     assert signal.getsignal(signal.SIGINT) is signal.default_int_handler
 
 

@@ -121,7 +121,7 @@ def test_what_is_put_into_a_folder_that_a_kill_left_is_never_removed(
         assert os.waitstatus_to_exitcode(os.waitpid(child, 0)[1]) == -signal.SIGKILL
         Path("maps").mkdir(exist_ok=True)
         Path("maps/mine.png").write_text("mine")
-        with pytest.raises(BadInput, match="maps/mine.png: isn't this study's"):
+        with pytest.raises(BadInput, match="maps/mine.png: doesn't belong to this study"):
             folder.do(stage("never"))
         assert Path("maps/mine.png").read_text() == "mine"
         Path("maps/mine.png").unlink()

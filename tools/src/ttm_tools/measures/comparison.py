@@ -64,7 +64,7 @@ class Sides:
         lose, gain, cut, new = (int(kind.sum()) for kind in (self.lose, self.gain, self.cut_off, self.newly_reached))
         all_of_it = f" ({cut:,} of them cut off)" if cut else ""
         from_nothing = f" ({new:,} of them newly reached)" if new else ""
-        return f"{lose:,} lose{all_of_it}, {gain:,} gain{from_nothing}"
+        return f"{lose:,} lose{'s' * (lose == 1)}{all_of_it}, {gain:,} gain{'s' * (gain == 1)}{from_nothing}"
 
 
 def sides_of(before: Sums, after: Sums, least: int = 1) -> Sides:

@@ -132,5 +132,5 @@ def run_lines(feed: Feed, days: Sequence[datetime.date]) -> Iterator[str]:
 
 
 def counted(out: str, feed: Feed) -> str:
-    names = {"stops.txt": "stops and stations", "trips.txt": "trips", "stop_times.txt": "stop times"}
-    return f"{out}: " + ", ".join(f"{len(feed.get(name)):,} {noun}" for name, noun in names.items())
+    stops, trips, calls = (len(feed.get(name)) for name in ("stops.txt", "trips.txt", "stop_times.txt"))
+    return f"{out}: {stops:,} stops and stations, {quantity(trips, 'trip')}, {quantity(calls, 'stop time')}"

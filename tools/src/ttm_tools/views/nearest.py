@@ -86,7 +86,7 @@ def picture_of_nearest_difference(matrix: Matrix, stops: Stops, options: Picture
     change = np.nan_to_num((before - after) / 60)
     classes = classes_of_difference(change, breaks)
     classes[gone & ~new], classes[new & ~gone], classes[new & gone] = 0, len(marks) - 3, len(marks) - 2
-    counts = counts_stated(classes, breaks, ("are cut off", "slower", "faster", "newly reach it"))
+    counts = counts_stated(classes, breaks, ("cut off", "slower", "faster", "newly reached"))
     order = np.argsort(np.where(gone & ~new, -np.inf, change), kind="stable")[:MOST_WORST]
     worst = [pair.origins[row] for row in order.tolist() if gone[row] and not new[row] or change[row] <= -breaks[0]]
     title, subtitle = (

@@ -215,7 +215,7 @@ def picture_of_time_difference(matrix: Matrix, stops: Stops, origin: str, option
     classes = classes_of_difference(np.nan_to_num((before - after).astype(np.float64) / 60), breaks)
     gone, new = np.isnan(after), np.isnan(before)
     classes[gone & ~new], classes[new & ~gone], classes[new & gone] = 0, len(marks) - 2, len(marks) - 1
-    counts = counts_stated(classes, breaks, ("are cut off", "slower", "faster", "newly reached"))
+    counts = counts_stated(classes, breaks, ("cut off", "slower", "faster", "newly reached"))
     title, subtitle = (
         f"Travel time from {stops.name_of(origin)}: {beside(pair)}",
         f"Of {len(matrix.stops):,} {options.what} {counts}",

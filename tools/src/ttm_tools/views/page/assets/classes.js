@@ -134,8 +134,8 @@ function sidesTold(before, now) {
   const sides = Array.from(now, (after, origin) => sideOf(before[origin], after));
   const [lose, gain, cut, joined] = ["lose", "gain", "cut", "joined"].map((name) =>
     sides.filter((side) => side[name]).length);
-  return `${told(lose)} lose${cut ? ` (${told(cut)} of them cut off)` : ""}, `
-    + `${told(gain)} gain${joined ? ` (${told(joined)} of them newly reached)` : ""}`;
+  return `${told(lose)} lose${lose === 1 ? "s" : ""}${cut ? ` (${told(cut)} of them cut off)` : ""}, `
+    + `${told(gain)} gain${gain === 1 ? "s" : ""}${joined ? ` (${told(joined)} of them newly reached)` : ""}`;
 }
 
 /** The marks of changed access, and which of them an origin is in, by its access before and after. */

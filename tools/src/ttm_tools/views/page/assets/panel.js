@@ -151,7 +151,7 @@ function changesTold(now, before) {
       faster += Number(earlier - after >= CHANGES[0]);
     }
   }
-  return `of ${places(now.length)} ${told(cut)} are cut off, ${told(slower)} slower by ${CHANGES[0]} minutes or more, `
+  return `of ${places(now.length)} ${told(cut)} cut off, ${told(slower)} slower by ${CHANGES[0]} minutes or more, `
     + `${told(faster)} faster, ${told(joined)} new.`;
 }
 
