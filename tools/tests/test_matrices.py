@@ -213,7 +213,7 @@ def test_a_matrix_that_lacks_origins_of_the_study_is_told(town: Town) -> None:
 def test_an_open_matrix_file_wants_one_list_of_origins(town: Town) -> None:
     pytest.importorskip("h5py")
     town.matrix(town_matrix(True, {"base": TOWN["base"], "cut": {"A": TOWN["cut"]["A"]}}))
-    message = "an Open Matrix file has one list of origins: 1 of 2 origins of base aren't in cut, share 50: D"
+    message = "an Open Matrix file has one list of origins: 1 of 2 origins of base aren't in cut, percentile 50: D"
     town.refused(f"{town.file}: {message}", "omx", "--out", town.path("town.omx"), town.file)
     Path(town.path("town.omx")).write_bytes(b"\x89HDF\r\n\x1a\n" + bytes(100))
     with pytest.raises(BadInput, match="town.omx: not a complete HDF5 file"):

@@ -104,7 +104,7 @@ def test_a_matrix_that_was_cut_between_two_shares_is_refused(room: Room) -> None
     Path(other).write_bytes(whole.replace(b"cut,G,1,7,,4\n", b""))
     refused([some, other], f"{other}: G has other percentiles in cut than the first origin")
     Path(other).write_bytes(whole.replace(b"base,D,0,", b"base,D,2,"))
-    refused([some, other], f"{other}: D has other shares in base than the first origin")
+    refused([some, other], f"{other}: D has other percentiles in base than the first origin")
 
 
 def test_a_matrix_that_ends_after_any_line_is_refused(room: Room) -> None:

@@ -558,7 +558,7 @@ def test_walks_that_bring_old_stops_nearer_are_told(small: Room) -> None:
     assert small.ran(*arguments)[1] == message.format(4, "0 times with decimals rounded up")
     small.write("walks.csv", "from_stop_id,to_stop_id,seconds", [*table[:2], ["A", "B", 591], ["B", "A", 600]])
     nearer = (
-        "walks to new stops bring 1 pairs of old stops nearer to each other, so today differs from the feed: A and B, "
+        "walks to new stops bring 1 pair of old stops nearer to each other, so today differs from the feed: A and B, "
     )
     assert small.ran(*arguments)[1].splitlines()[1] == f"{nearer}590 seconds apart by way of them, and 591 without them"
     small.write("walks.csv", "from_stop_id,to_stop_id,seconds", [*table[:2], ["B", "A", 600]])
@@ -626,7 +626,7 @@ def test_limits_of_ttm_are_told_before_anything_is_written(small: Room, monkeypa
             4,
             ": line 2: name 'late' takes a scenario file of 5 records, and ttm 4: change fewer trips, or whole routes",
         ),
-        ("base.MOST_STOPS", 4, ": line 17: id makes 5 stops and stations, and ttm takes 4"),
+        ("base.MOST_STOPS", 4, ": line 17: id makes 5 stops and stations; ttm takes 4"),
     ):
         (small.folder / "plan.toml").write_text(TWO + NEW_STOP * name.endswith("STOPS"))
         with monkeypatch.context() as patch:

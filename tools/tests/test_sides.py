@@ -61,7 +61,7 @@ def test_map_page_and_compare_count_alike(
     _, errors, _ = town.ran("compare", "--by", "origin", "--feed", town.feed, "--out", town.path("c.csv"), town.file)
     assert town.ran("page", "--feed", town.feed, "--out", town.path("p.html"), town.file)[2] == 0
     browser.open(Path(town.path("p.html")), "view=access")
-    counts = re.search(r"[0-9]+ lose( \([0-9]+ of them cut off\))?, [0-9]+ gain( \([^)]* reached\))?", errors)
+    counts = re.search(r"[0-9]+ loses?( \([0-9]+ of them cut off\))?, [0-9]+ gains?( \([^)]* reached\))?", errors)
     assert counts is not None, errors
     assert texts[1].startswith(f"Of 4 stops {counts[0]}")
     assert browser.text("told") == f"cut compared with base: of 4 places {counts[0]}."
