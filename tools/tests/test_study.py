@@ -327,7 +327,10 @@ def test_wrong_words_of_a_study_are_told_with_their_line_and_the_nearest_name(ba
         ): "line 8: to '8:04' is not a time; allowed: HH:MM in quotes, 00:00 to 23:59",
         ("date = 2026-05-04", 'date = "20260532"'): "line 6: date '20260532' is not a date; allowed: YYYY-MM-DD",
         ("date = 2026-05-04\n", ""): "line 5: date is needed; allowed: YYYY-MM-DD, or YYYYMMDD in quotes",
-        ('files = ["jobs.csv"]', 'files = ["job.csv"]'): "line 12: files 'job.csv' isn't there; allowed: a path from",
+        (
+            'files = ["jobs.csv"]',
+            'files = ["job.csv"]',
+        ): "line 12: files 'job.csv' isn't there; allowed: a path, relative",
         ("csv = true", "csv = 1"): "line 18: csv '1' is invalid; allowed: true or false",
         ("csv = true", "within = 900"): "line 18: within '900' is not among limits of [run]; allowed: 600, 1800",
         ("csv = true", 'decay = "linear"'): "line 18: decay 'linear' needs decay_value, minutes above 0",
