@@ -562,7 +562,7 @@ def test_walks_that_bring_old_stops_nearer_are_told(small: Room) -> None:
     )
     assert small.ran(*arguments)[1].splitlines()[1] == f"{nearer}590 seconds apart by way of them, and 591 without them"
     small.write("walks.csv", "from_stop_id,to_stop_id,seconds", [*table[:2], ["B", "A", 600]])
-    assert small.ran(*arguments)[1].endswith("590 seconds apart by way of them, and out of reach without\n")
+    assert small.ran(*arguments)[1].endswith("590 seconds apart by way of them, and out of reach without them\n")
 
 
 @pytest.fixture

@@ -361,6 +361,6 @@ def test_walks_that_bring_old_stops_nearer_are_told_by_a_study(place: Place, wal
     assert status == 0, said
     line = "  walks to new stops bring "
     assert [
-        text for text in said.splitlines() if text.startswith(line) and text.endswith(" and out of reach without")
+        text for text in said.splitlines() if text.startswith(line) and text.endswith(" and out of reach without them")
     ], said
     assert line.strip() in (place.folder / "nine/report.md").read_text()
