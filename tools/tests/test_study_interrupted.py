@@ -19,7 +19,7 @@ from ttm_tools.files import Interrupted
 from ttm_tools.study.cutting import Part
 from ttm_tools.study.running import Pool, run_parts, tell_ending
 
-WAITED_FOR = "interrupted: waiting for the running parts, which will be kept; Ctrl-C again stops them"
+WAITED_FOR = "interrupted: waiting for the running parts, which will be kept; Ctrl-C again stops at once"
 
 
 def test_an_interruption_says_that_the_same_command_goes_on(place: Place) -> None:  # noqa: F811
@@ -106,7 +106,9 @@ def test_ctrl_c_in_a_terminal_reaches_no_part(place: Place, program: str) -> Non
     ran = subprocess.Popen(arguments, stderr=subprocess.PIPE, preexec_fn=as_in_a_terminal, **how)
     wait_until(lambda: bool(list(place.folder.glob("nine/parts/0001/.part.*"))) or ran.poll() is not None)
     os.killpg(ran.pid, signal.SIGINT)
-    printed = lines_until(ran, "interrupted: 1 parts that run are waited for and kept; Ctrl-C again ends them")
+    printed = lines_until(
+        ran, "interrupted: waiting for 1 running part, which will be kept; Ctrl-C again stops at once"
+    )
     (place.folder / "go").touch()
     printed += lines_until(ran)
     assert "finished parts are kept: the same command resumes the study" in printed and ran.returncode == 130

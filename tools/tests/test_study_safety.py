@@ -280,7 +280,7 @@ def test_verification_tells_files_beside_the_stated_ones_and_sources_that_are_go
     (place.folder / "people.csv").unlink()
     _, said, status = place.ran("study", "--verify", place.path("nine"), "--seed", "7")
     lines = said.splitlines()
-    assert status == 0 and "maps/mine.png: is there, and study.json doesn't state it" in lines
+    assert status == 0 and "maps/mine.png: exists, and study.json doesn't list it" in lines
     assert any(line.endswith(" files no longer exist: ../people.csv") for line in lines)
 
 

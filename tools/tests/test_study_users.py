@@ -144,7 +144,7 @@ def test_walks_longer_than_ttm_takes_are_refused_and_shorter_ones_told(place: Pl
     assert errors[2] == 1 and "limit '700' is more than walk of [run], 600" in errors[1]
     place.say(STUDY + "[walks]\nlimit = 500\n")
     assert place.ran("study", path)[2] == 0
-    sentence = "a single walk takes 500 seconds at most ([walks] limit), one of several in turn 600 ([run] walk)"
+    sentence = "a single walk takes 500 seconds at most ([walks] limit), several in a row 600 ([run] walk)"
     assert sentence.replace("[", "\\[").replace("]", "\\]") in report_of(place)
 
 
