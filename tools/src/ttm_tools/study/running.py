@@ -57,9 +57,8 @@ def missing_of(parts: Sequence[Part]) -> list[Part]:
 def tell_ending(count: int) -> None:
     """Says what becomes of the parts that run when somebody presses Ctrl-C."""
     if count:
-        say(
-            f"interrupted: waiting for {quantity(count, 'running part')}, which will be kept; Ctrl-C again stops at once"
-        )
+        parts = quantity(count, "running part")
+        say(f"interrupted: waiting for {parts}, which will be kept; Ctrl-C again stops at once")
 
 
 class Pool:
