@@ -241,7 +241,7 @@ def test_a_part_of_other_inputs_or_with_other_bytes_is_never_taken(place: Place,
     rotten = (parts / "0001/matrix.csv").read_bytes()
     (parts / "0001/matrix.csv").write_bytes(rotten.replace(b"base,S0,25,100,", b"base,S0,25,200,"))
     (place.folder / "nine/matrix.omx").unlink()
-    with pytest.raises(BadInput, match="parts/0001/matrix.csv: changed since it was made"):
+    with pytest.raises(BadInput, match="parts/0001/matrix.csv: changed since it was written"):
         make_study(study, place.folder / "nine", Means(2))
     assert computed_after(study, place) == wanted
 

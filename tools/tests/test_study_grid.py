@@ -40,7 +40,7 @@ def test_the_cells_are_those_of_points_with_a_grid(place: Place) -> None:  # noq
     matrix = open_matrix(place.path("nine/matrix.omx"))
     assert matrix.origins("base", 50) == matrix.stops == [cell["id"] for cell in cells]
     report = Path(place.path("nine/report.md")).read_text()
-    assert "inputs/grid.csv" not in report.split("SHA-256 checksums")[1].split("What was done")[0]
+    assert "inputs/grid.csv" not in report.split("SHA-256 checksums")[1].split("How the inputs were prepared")[0]
     assert place.ran("study", "--verify", place.path("nine"))[2] == 0
 
 
