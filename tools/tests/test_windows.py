@@ -205,11 +205,11 @@ def test_a_day_without_trips_is_refused(place: Place) -> None:  # noqa: F811
     [
         (f'date = 2026-05-04\nfrom = "08:00"\n{WINDOWS}', "windows doesn't go with from"),
         (f"date = 2026-05-04\ndates = [2026-05-04]\n{WINDOWS}", "dates doesn't go with date"),
-        (f"dates = [2026-05-05, 2026-05-04]\n{WINDOWS}", "dates '[2026-05-05, 2026-05-04]' isn't that"),
-        (f"dates = []\n{WINDOWS}", "allowed: 1 to 31 dates between brackets, ascending"),
+        (f"dates = [2026-05-05, 2026-05-04]\n{WINDOWS}", "dates '[2026-05-05, 2026-05-04]' is invalid"),
+        (f"dates = []\n{WINDOWS}", "allowed: 1 to 31 dates in brackets, ascending"),
         ('date = 2026-05-04\nwindows = [{ name = "a b", from = "08:00", to = "08:00" }]', "can't be a window's name"),
         ('date = 2026-05-04\nwindows = [{ name = "a", from = "08:01", to = "08:00" }]', "to '08:00' is before from"),
-        ('date = 2026-05-04\nwindows = [{ name = "a", from = "8", to = "08:00" }]', "from '8' is no time"),
+        ('date = 2026-05-04\nwindows = [{ name = "a", from = "8", to = "08:00" }]', "from '8' is not a time"),
         ('date = 2026-05-04\nwindows = [{ name = "a", end = "8" }]', "end isn't known"),
         ('date = 2026-05-04\nfrom = "08:00"', "to is needed"),
         (f"{WINDOWS}", "date is needed"),
@@ -290,7 +290,7 @@ def test_pictures_name_days_windows_and_scenarios() -> None:
     shown = [axes for axes in figure.axes if axes.get_visible()]
     assert [axes.get_title() for axes in shown] == ["2026-05-04", "2026-05-09"]
     labels = [line.get_label() for line in shown[0].get_lines()]
-    assert labels == ["base", "base, tenth that has least", "cut", "cut, tenth that has least"]
+    assert labels == ["base", "base, tenth with the least", "cut", "cut, tenth with the least"]
     assert [line.get_ydata().tolist() for line in shown[0].get_lines()][:2] == [[3.0, 3.0], [1.0, 1.0]]
     assert shown[0].get_lines()[0].get_xdata().tolist() == [8.0, 21.5]
     heat = figure_of_heat(columns, 0, printed)

@@ -37,7 +37,7 @@ def write_task(run: Run, parts: Sequence[Part], key: str, version: Sequence[str]
 
 
 def task_known() -> dict[str, Any]:
-    """What is to be computed; nothing where no study asks for it any more."""
+    """What to compute; nothing if no study needs it any more."""
     try:
         return dict(json.loads(Path(TASK).read_text(encoding="utf-8")))
     except (OSError, ValueError):
@@ -45,13 +45,13 @@ def task_known() -> dict[str, Any]:
 
 
 def one_part(folder: Path, number: int) -> None:
-    """Computes a part where a study's folder says so; what goes wrong is noted beside it."""
+    """Computes a part where a study's folder says so; what goes wrong is noted next to it."""
     if not folder.is_dir():
-        raise BadInput(folder, "is no folder of a study")
+        raise BadInput(folder, "is not the folder of a study")
     with contextlib.chdir(folder):
         known = task_known()
         if not known:
-            raise BadInput(folder, f"is no folder of a study with parts to compute: no {TASK}")
+            raise BadInput(folder, f"is not the folder of a study with parts to compute: no {TASK}")
         run = Run(**known["run"])
         window = known.get("window", FIRST)
         parts = parts_for(origins_in(str(run.files["origins"])), known["parts"], known["key"], window)
@@ -72,7 +72,9 @@ def computed(run: Run, part: Part, known: dict[str, Any]) -> str | None:
     """Runs a part with the version of `ttm` that the study has; gives the line that says why there is no matrix."""
     own = version_of(program_at(None))
     if own != known["version"]:
-        return f"{program_at(None)} is {own[0]}, and the study's ttm is another one, or proved with another toolchain"
+        return (
+            f"{program_at(None)} is {own[0]}, and the study's ttm is another one, or was proved with another toolchain"
+        )
     running = Running(run, part.matrix)
     try:
         message = running.end()

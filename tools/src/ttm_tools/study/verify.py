@@ -25,7 +25,7 @@ from .stages import LOCK, RECORDS, held, room
 from .ttm import version_of
 from .work import found_program, sweep
 
-OF_ALL = 10  # one in so many rows is computed again
+OF_ALL = 10  # one in this many rows is computed again
 
 
 def verify(folder: Path, seed: int | None, workers: int) -> None:
@@ -38,7 +38,7 @@ def verify(folder: Path, seed: int | None, workers: int) -> None:
             files = {name: was for stage in notes["stages"].values() for name, was in stage["files"].items()}
             sources = {f"{notes.get('sources_in', '..')}/{name}": was for name, was in notes["sources"].items()}
         refuse_changed(files)
-        say(f"sums: {len(files)} files are as {NOTES} says", *unstated(files))
+        say(f"checksums: {len(files)} files are as {NOTES} says", *unstated(files))
         refuse_changed_sources(sources)
         run = Run(**notes["run"], program=program)
         own, was = version_of(program), [notes["versions"]["ttm"], notes["versions"]["toolchain"]]
@@ -56,7 +56,7 @@ def verify(folder: Path, seed: int | None, workers: int) -> None:
         few_at_once = parts_of(drawn, -(-count * notes["parts"] // len(origins)))
         for (own_run, matrices), few in itertools.product(kept, few_at_once):
             compare_again(replace(own_run, workers=workers), few, matrices, notes.get("shown_as") or {})
-        say(f"rows: those of {count:,} of {len(origins):,} origins, drawn by --seed {seed}, have the same bytes")
+        say(f"rows: those of {count:,} of {len(origins):,} origins, chosen with --seed {seed}, have the same bytes")
 
 
 def unstated(files: dict[str, str]) -> Iterator[str]:
@@ -64,7 +64,7 @@ def unstated(files: dict[str, str]) -> Iterator[str]:
     own = {NOTES, LOCK, *files}
     for path in sorted(path for path in Path(".").rglob("*") if not path.is_dir()):
         if str(path) not in own and path.parts[0] not in (RECORDS, PARTS):
-            yield f"{path}: is there, and {NOTES} doesn't state it"
+            yield f"{path}: exists, and {NOTES} doesn't list it"
 
 
 def refuse_changed_sources(sources: dict[str, str]) -> None:
@@ -72,9 +72,9 @@ def refuse_changed_sources(sources: dict[str, str]) -> None:
     lost = [path for path in sources if not Path(path).is_file()]
     for path, was in sources.items():
         if path not in lost and sum_of(path) != was:
-            raise BadInput(path, f"has another sum than {NOTES} says: it was changed since the study read it")
+            raise BadInput(path, f"has another checksum than {NOTES} says: it was changed since the study read it")
     if lost:
-        say(f"sources: {len(lost)} of {len(sources)} files aren't there any more: {some(lost)}")
+        say(f"sources: {len(lost)} of {len(sources)} files no longer exist: {some(lost)}")
 
 
 def refuse_changed(files: dict[str, str]) -> None:
@@ -82,7 +82,7 @@ def refuse_changed(files: dict[str, str]) -> None:
         if not Path(name).is_file():
             raise BadInput(name, f"no longer exists, and {NOTES} has its checksum")
         if sum_of(name) != was:
-            raise BadInput(name, f"has another sum than {NOTES} says: it was changed")
+            raise BadInput(name, f"has another checksum than {NOTES} says: it was changed")
 
 
 def compare_again(run: Run, origins: Sequence[str], kept: Sequence[Matrix], shown_as: dict[str, str]) -> None:
