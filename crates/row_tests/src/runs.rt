@@ -1,7 +1,8 @@
 //! Runs of workers: the same matrix by one, two and seven of them, and what becomes of it where leases are lost.
 ghost use Rattle.std.specs.Prelude.{◌≤◌};
 
-use crate::rows::{A, B, C, EDITED, EVERY_ROW, has, networks_of, study_of};
+use crate::ride_networks::{A, B, C, networks_of};
+use crate::rows::{EDITED, EVERY_ROW, has, study_of};
 use collector::Matrix;
 use std::sync::Wait;
 use std::sync::atomic::{AtomicU64, Ordering};
