@@ -191,20 +191,21 @@ pub(crate) fn are(found: &Option<Vec<u32>>, expected: &[u32]) -> bool {
     }
 }
 
-/// The durations of a window, where origin and window are in range.
+/// The durations of a window, where origin and window are in range, in a box, as networks are.
 pub(crate) fn of_window(
     alloc: Global,
     network: &SmallNetwork,
     origin: u32,
     window: Window,
     rides: u32,
-) -> Result<Option<Durations>, AllocError> {
+) -> Result<Option<Box<Durations>>, AllocError> {
     if let Some(network) = network
         && origin < network.stops()
         && window.fits()
         && rides <= MOST_RIDES
     {
-        return Ok(Some(durations(alloc, network, StopNo(origin), window, rides)?));
+        let found = durations(alloc, network, StopNo(origin), window, rides)?;
+        return Ok(Some(Box::new(alloc, found)?));
     }
     Ok(None)
 }
