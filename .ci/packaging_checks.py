@@ -108,7 +108,7 @@ def sample_feed_is_taken(of: Packages) -> None:
     """the sample feed has less than a megabyte, and no fault"""
     feed = of.tree / "usr/share/doc/ttm/examples/town.zip"
     assert feed.stat().st_size < 1_000_000 and (feed.parent / "jobs.csv").is_file()
-    assert "no faults" in of.output(PYTHON, of.folder / "bin/ttm-tools", "prepare", "--check", feed)
+    assert "no errors" in of.output(PYTHON, of.folder / "bin/ttm-tools", "prepare", "--check", feed)
 
 
 def tools_say_that_python_is_not_there(of: Packages) -> None:

@@ -26,6 +26,7 @@ OF_TESTS = [
     "matrix_tests",
     "measure",
     "network_tests",
+    "row_tests",
     "surface_tests",
     "table_tests",
 ]

@@ -68,7 +68,7 @@ def list_of(lines: Sequence[str]) -> list[str]:
 
 
 def table(lines: Sequence[str]) -> list[str]:
-    """A table as a list: its first column, and what stands beside it. A number keeps its column's name.
+    """A table as a list: its first column, and the other columns. A number keeps its column's name.
 
     A table of options is left out: they are those of the help.
     """
@@ -167,13 +167,13 @@ def manual(name: str, program: Sequence[str], version: str, docs: str) -> Iterat
     if docs:
         yield from sections(Path(docs))
     other = "ttm\\-tools" if name == "ttm" else "ttm"
-    yield from (".SH SEE ALSO", f".BR {other} (1)", ".PP", "\\fI/usr/share/doc/ttm\\fR has the exact words of all")
+    yield from (".SH SEE ALSO", f".BR {other} (1)", ".PP", "\\fI/usr/share/doc/ttm\\fR has the whole documentation")
 
 
 def main() -> None:
     parser = argparse.ArgumentParser(description=__doc__, formatter_class=argparse.RawDescriptionHelpFormatter)
-    parser.add_argument("name", help="of the program as it is installed")
-    parser.add_argument("program", nargs="+", help="the program as it is run here, with its first words")
+    parser.add_argument("name", help="the program's installed name")
+    parser.add_argument("program", nargs="+", help="the command that runs the program here")
     parser.add_argument("--version", default="", help="the version that the page names")
     parser.add_argument("--docs", default="", help="the folder docs, whose pages the manual includes")
     args = parser.parse_args()

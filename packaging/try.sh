@@ -22,7 +22,7 @@ if [ "${1:-}" = --room ]; then
 fi
 [ $# -eq 1 ] || { sed -n '4,9s/^# //p' "$0" >&2; exit 2; }
 deb=$(realpath "$1")
-[ "$(id -u)" = 0 ] || { echo "$0: a room can be had by root alone" >&2; exit $NO_ROOM; }
+[ "$(id -u)" = 0 ] || { echo "$0: only root can set up a room" >&2; exit $NO_ROOM; }
 room=$(mktemp -d)
 # debootstrap that is cut off may leave what it mounted
 trap 'umount "$room/debian/proc" "$room/debian/sys" 2> /dev/null || true; rm -rf --one-file-system "$room"' EXIT

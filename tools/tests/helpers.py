@@ -93,7 +93,7 @@ class Room:
 
     def stops(self, *rows: Sequence[Any]) -> None:
         """Writes stops: name, metres north and east of a place near the equator, and then location_type and
-        parent_station. The place isn't 0 and 0, which is no place.
+        parent_station. The place isn't 0 and 0, which is not a place.
         """
         full = []
         for name, north, east, *more in rows:

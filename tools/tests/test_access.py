@@ -75,9 +75,9 @@ def test_shares_stay_apart(small: Town) -> None:
 def test_wrong_files_are_told(small: Town) -> None:
     path = small.path("bad.csv")
     wrong: list[tuple[str, list[Cell], str]] = [
-        ("stop_id,jobs", ["X", 1], f"{path}: record 2: X is no stop of the matrix"),
-        ("stop_id,jobs", ["B", -1], f"{path}: record 2: jobs '-1' is none; allowed: a number from 0 on"),
-        ("stop_id,jobs", ["B", ""], f"{path}: record 2: jobs '' is none; allowed: a number from 0 on"),
+        ("stop_id,jobs", ["X", 1], f"{path}: record 2: no stop of the matrix is called X"),
+        ("stop_id,jobs", ["B", -1], f"{path}: record 2: jobs '-1' is invalid; allowed: a number from 0 on"),
+        ("stop_id,jobs", ["B", ""], f"{path}: record 2: jobs '' is invalid; allowed: a number from 0 on"),
         ("stop,jobs", ["B", 1], f"{path}: record 1: no column stop_id or id"),
         ("stop_id", ["B"], f"{path}: record 1: no column of numbers"),
     ]
@@ -85,7 +85,7 @@ def test_wrong_files_are_told(small: Town) -> None:
         small.write("bad.csv", header, [row])
         small.refused(printed, "access", "--opportunities", path, small.file)
     small.write("bad.csv", "stop_id,jobs", [["B", 1], ["B", 1]])
-    small.refused(f"{path}: record 3: B is there twice", "access", "--opportunities", path, small.file)
+    small.refused(f"{path}: record 3: B occurs twice", "access", "--opportunities", path, small.file)
     jobs = small.path("jobs.csv")
     small.write("bad.csv", "stop_id,jobs", [["B", 1]])
     both = ["access", "--opportunities", jobs, "--opportunities", path, small.file]

@@ -91,7 +91,7 @@ def test_a_damaged_file_of_areas_is_told(town: Town, text: str) -> None:
     path.write_text(text)
     town.refused_with(f"{path}: ", "map", "access", "--feed", town.feed, "--out", town.path("m.png"), town.file)
     path.write_text(json.dumps({"features": [feature_of("a", [[[[500, 0], [0, 1], [1, 1], [500, 0]]]])]}))
-    with pytest.raises(BadInput, match="the area of a has a ring that is none"):
+    with pytest.raises(BadInput, match="the area of a has an invalid ring"):
         areas_beside(f"{town.feed}/points.csv")
 
 

@@ -100,14 +100,20 @@ def a_deep_open_matrix(folder: Path) -> tuple[list[str], str]:
 
 def a_large_toml(folder: Path) -> tuple[list[str], str]:
     (folder / "plan.toml").write_text("a = [" + "1," * 40_000_000 + "]")
-    return ["scenarios", "--out", str(folder / "out"), feed_of(folder), str(folder / "plan.toml")], "TOML file at most"
+    return [
+        "scenarios",
+        "--out",
+        str(folder / "out"),
+        feed_of(folder),
+        str(folder / "plan.toml"),
+    ], "a TOML file has at most"
 
 
 def a_large_area(folder: Path) -> tuple[list[str], str]:
     with open(folder / "area.json", "wb") as file:
         file.truncate(300_000_000)
     arguments = ["prepare", "--area", str(folder / "area.json"), "--out", str(folder / "out"), feed_of(folder)]
-    return arguments, "GeoJSON at most"
+    return arguments, "GeoJSON has at most"
 
 
 BOMBS: list[Bomb] = [

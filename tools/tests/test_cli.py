@@ -57,7 +57,7 @@ def test_the_launcher_runs_from_anywhere(room: Room) -> None:
 def test_a_package_that_is_not_there_is_told_in_a_line() -> None:
     with pytest.raises(faults.Lacking) as raised:
         faults.needs("csv", "nosuchpackage")
-    way = "apt-get install python3-nosuchpackage and take /usr/bin/python3, or pip install nosuchpackage"
+    way = "apt-get install python3-nosuchpackage and use /usr/bin/python3, or pip install nosuchpackage"
     assert str(raised.value) == f"this Python, {sys.executable}, has no nosuchpackage: {way}"
 
 

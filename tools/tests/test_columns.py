@@ -35,7 +35,7 @@ def test_access_alone_is_compared(town: Town) -> None:
     town.matrix(ALONE)
     out, errors, status = town.ran("compare", "--by", "origin", "--within", "1800", town.file)
     assert status == 0
-    assert "access: of 2 origins 1 lose, 0 gain; in all -2" in out + errors
+    assert "access: of 2 origins 1 loses, 0 gain; in all -2" in out + errors
     assert "of 0 pairs 0 cut off" in out + errors
 
 
@@ -62,5 +62,5 @@ def test_origins_without_a_column_are_points(town: Town) -> None:
 
 def test_a_matrix_without_columns_is_no_open_matrix_file(town: Town) -> None:
     town.matrix(ALONE)
-    message = "has no columns, as a run whose --destinations are a header alone: there is nothing to write"
+    message = "has no columns, as after a run whose --destinations has only a header: there is nothing to write"
     town.refused(f"{town.file}: {message}", "omx", "--out", town.path("made.omx"), town.file)

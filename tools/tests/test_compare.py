@@ -42,7 +42,7 @@ def test_by_origin_the_greatest_loss_of_access_comes_first(town: Town, second_fo
     town.matrix(town_matrix(second_form))
     out, errors, _ = town.ran("compare", "--by", "origin", town.file)
     assert out == BY_ORIGIN + "A,3,2,-1,-33.3,1,1,0,0\nD,3,4,1,33.3,0,0,1,1\n"
-    assert errors.splitlines()[1] == "access: of 2 origins 1 lose, 1 gain; in all +0"
+    assert errors.splitlines()[1] == "access: of 2 origins 1 loses, 1 gains; in all +0"
 
 
 def test_winners_come_by_the_size_of_their_gain_too(town: Town) -> None:
@@ -56,8 +56,8 @@ def test_winners_come_by_the_size_of_their_gain_too(town: Town) -> None:
 
 def test_a_share_and_a_limit_are_chosen(town: Town) -> None:
     town.matrix(town_matrix(True, shares=(25, 50), limits=(900, 1800)))
-    town.refused(f"{town.file}: it has lines of the shares 25, 50: name one by --share", "compare", town.file)
-    message = f"{town.file}: it has access within 900, 1800 seconds: name one by --within"
+    town.refused(f"{town.file}: it has rows for the percentiles 25, 50: choose one with --share", "compare", town.file)
+    message = f"{town.file}: it has access within 900, 1800 seconds: choose one with --within"
     town.refused(message, "compare", "--by", "origin", "--share", "25", town.file)
     rows = read(compared(town, "--by", "origin", "--share", "50", "--within", "900"))
     access = [(row["origin"], row["access_before"], row["access_after"]) for row in rows]

@@ -75,7 +75,7 @@ def test_what_does_not_go_together_is_told(small: Town) -> None:
     ):
         assert small.ran(*common, *arguments, small.file)[2] == 2
     two = small.write("two.csv", "stop_id,men,women", [["A", 1, 2]])
-    message = f"{two}: it has the columns men, women: name one by --demand-column"
+    message = f"{two}: it has the columns men, women: choose one with --demand-column"
     small.refused(message, *common, "--competition", "floating", "--demand", two, small.file)
     small.write("people.csv", "stop_id,men,women", [["A", 1, 2], ["B", 1, 1]])
     arguments = ["--competition", "floating", *demand, "--demand-column", "men"]

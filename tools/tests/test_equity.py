@@ -86,20 +86,22 @@ def test_a_table_of_r5r_is_taken(room: Room) -> None:
 def test_wrong_tables_are_told(small: Town) -> None:
     people, path = ["--people", small.path("people.csv")], small.path("bad.csv")
     small.write("bad.csv", ACCESS, [["base", "A", "jobs", 50, 30, "x"]])
-    small.refused(f"{path}: record 2: accessibility 'x' is none; allowed: a number from 0 on", "equity", path, *people)
+    small.refused(
+        f"{path}: record 2: accessibility 'x' is invalid; allowed: a number from 0 on", "equity", path, *people
+    )
     small.write("bad.csv", ACCESS, [["base", name, "jobs", 50, 30, 1] for name in "AA"])
     small.refused(
-        f"{path}: record 3: A is there twice for jobs within 30 minutes, share 50 %, base", "equity", path, *people
+        f"{path}: record 3: A occurs twice for jobs within 30 minutes, share 50 %, base", "equity", path, *people
     )
     lines = [["base", name, "jobs", 50, 30, 1] for name in "ABC"]
     small.write("bad.csv", ACCESS, [*lines, ["cut", "A", "jobs", 50, 30, 1]])
     lost = "jobs within 30 minutes, share 50 %, cut lacks 2 of 3 origins: B, C"
     small.refused(f"{path}: {lost}", "equity", path, *people)
     small.write("bad.csv", ACCESS, lines[:2])
-    small.refused(f"{small.path('people.csv')}: record 4: C is no origin of {path}", "equity", path, *people)
+    small.refused(f"{small.path('people.csv')}: record 4: no origin of {path} is called C", "equity", path, *people)
     small.write("bad.csv", ACCESS, lines)
     small.refused(
-        f"{path}: no scenario cut; it has base: name the base by --base", "equity", path, *people, "--base", "cut"
+        f"{path}: no scenario cut; it has base: choose the base with --base", "equity", path, *people, "--base", "cut"
     )
     nobody = small.write("nobody.csv", "id,people", [["A", 0]])
     small.refused(f"{path}: nobody of the group people lives at its origins", "equity", path, "--people", nobody)
@@ -114,7 +116,7 @@ def test_the_picture_is_drawn_of_one_kind_and_group(small: Town) -> None:
     assert small.ran(*arguments)[1:] == ("", 0)
     assert Path(result).read_bytes().startswith(b"\x89PNG")
     people = small.write("people.csv", "id,all,some", [["A", 10, 1]])
-    message = f"{access}: a picture shows one group of all, some: name it by --column"
+    message = f"{access}: a picture shows one group of all, some: choose it with --column"
     small.refused(message, "equity", access, "--people", people, "--picture", result)
 
 

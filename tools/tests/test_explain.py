@@ -52,9 +52,10 @@ def test_the_small_feed_by_hand(small: Room, program: str) -> None:
     """At 07:58 it takes 32 minutes, at 07:59 31, at 08:00 30, and at 08:01 nobody gets there: half attain 31."""
     lines = explained(small, program, str(small.folder), small.path("late.csv"), *WORDS)
     assert lines == [
-        "From Alpha (A) to C: the travel time that 50 % of 4 departures attain",
-        "2026-05-04, days before 1 and after 0; departures 07:58 to 08:01, at most 2 rides, walks up to 120 seconds",
-        "By a second search, in Python, which isn't proved.",
+        "From Alpha (A) to C: the travel time that 50 % of 4 departures achieve",
+        "2026-05-04, service days: 1 before and 0 after; departures 07:58 to 08:01, "
+        "at most 2 rides, walks up to 120 seconds",
+        "Found by a second search, in Python, which isn't proved.",
         "",
         "base: 1860 seconds               late: 2160 seconds",
         "07:59:00 Alpha (A)               07:59:00 Alpha (A)",
@@ -147,8 +148,8 @@ def test_the_numbers_of_both_are_told_where_they_differ(small: Room) -> None:
     program.write_text(f"#!/bin/sh\ncat << END\n{matrix}END\n")
     program.chmod(program.stat().st_mode | stat.S_IXUSR)
     arguments = ["explain", str(small.folder), *WORDS, "--program", str(program)]
-    message = "the travel times differ: from A to C, base: ttm has 1800 seconds, and this search, which isn't proved, "
-    small.refused(message + "1860 seconds", *arguments)
+    message = "the travel times differ: from A to C, base: ttm has 1800 seconds, and this search, which isn't proved"
+    small.refused(f"{message}, has 1860 seconds", *arguments)
 
 
 def test_a_cell_of_a_matrix_is_taken_in_place_of_a_run(small: Room) -> None:
@@ -175,7 +176,7 @@ def test_a_picture_shows_the_duration_of_each_departure(small: Room, monkeypatch
     assert base.get_ydata()[:3].tolist() == [32, 31, 30] and late.get_ydata()[:3].tolist() == [37, 36, 35]
     assert np.isnan(base.get_ydata()[3])
     printed = [text.get_text() for text in axes.get_legend().get_texts()]
-    assert printed == ["base: 50 % attain 31.0 minutes", "late: 50 % attain 36.0 minutes"]
+    assert printed == ["base: 50 % achieve 31.0 minutes", "late: 50 % achieve 36.0 minutes"]
     assert [text.get_text() for text in axes.get_xticklabels()] == ["07:58", "07:59", "08:00", "08:01"]
 
 
@@ -358,4 +359,4 @@ def test_drawn_feeds_are_explained_as_ttm_counts(room: Room, program: str) -> No
         ends = ["--origin", drawn.stops[0], "--destination", drawn.stops[-1]]
         files = [str(room.folder), room.path("cut.csv"), room.path("late.csv")]
         lines = explained(room, program, *files, *ends, *some, "--footpaths", room.path("footpaths.csv"))
-        assert lines[2] == "By a second search, in Python, which isn't proved."
+        assert lines[2] == "Found by a second search, in Python, which isn't proved."

@@ -177,12 +177,12 @@ def test_a_route_is_taken_out_undone_and_redone_by_clicks(served: Explored, brow
     changed(browser)
     assert browser.run("return head.scenarios") == ["today", "changed"]
     assert browser.text("told") == (
-        "changed compared with today: of 4 places 1 are cut off, 0 slower by 2 minutes or more, 0 faster, 0 new."
+        "changed compared with today: of 4 places 1 cut off, 0 slower by 2 minutes or more, 0 faster, 0 new."
     )
-    assert browser.text("within-picture").startswith("Within the picture: of 4 places 1 are cut off")
-    assert browser.text("changes") == "take out route 2 (Q)"
+    assert browser.text("within-picture").startswith("Within the picture: of 4 places 1 cut off")
+    assert browser.text("changes") == "remove route 2 (Q)"
     assert browser.text("changes-told").startswith("changed: 1 remove_route Q: trips 4 taken out")
-    assert "trips that are taken out" in browser.text("lines-key")
+    assert "removed trips" in browser.text("lines-key")
     assert browser.colour("D") == "#000000"
     browser.press("#undo")
     changed(browser)
@@ -247,9 +247,9 @@ def test_a_line_is_drawn_by_clicks_and_a_route_goes_on(served: Explored, browser
     changed(browser)
     # 3.76 kilometres at 20 km/h are 11 minutes and some seconds
     assert minutes(browser)["D"] == 12
-    assert browser.text("told").endswith("0 are cut off, 0 slower by 2 minutes or more, 1 faster, 0 new.")
+    assert browser.text("told").endswith("0 cut off, 0 slower by 2 minutes or more, 1 faster, 0 new.")
     assert browser.text("changes") == "new line New line: Alpha (A), Delta (D), every 10 minutes"
-    assert "trips that are added" in browser.text("lines-key")
+    assert "added trips" in browser.text("lines-key")
     browser.press("#undo")
     changed(browser)
     browser.run("routes.choose(0)")
@@ -258,7 +258,7 @@ def test_a_line_is_drawn_by_clicks_and_a_route_goes_on(served: Explored, browser
     browser.press("#extend")  # from C to D, 2.2 kilometres, behind twenty seconds at C
     changed(browser)
     assert minutes(browser)["D"] == 18
-    assert browser.text("changes") == "route 1 (R) goes on to Delta (D)"
+    assert browser.text("changes") == "route 1 (R) extended to Delta (D)"
 
 
 def test_a_fault_of_a_change_is_told_and_nothing_changes(served: Explored, browser: Browser) -> None:
@@ -293,7 +293,7 @@ def test_a_plan_is_compared_with_today_and_a_change_comes_beside_it(
     with explored(feed, program, "--plan", str(tmp_path / "plan.toml")) as served:
         browser.visit(served.address, "from=A")
         assert browser.run("return head.scenarios") == ["today", "no route 2"]
-        assert browser.text("told").startswith("no route 2 compared with today: of 4 places 1 are cut off")
+        assert browser.text("told").startswith("no route 2 compared with today: of 4 places 1 cut off")
         browser.awaited("await routes.read_; await routes.add({ do: 'remove_route', route: 0 });")
         assert browser.run("return head.scenarios") == ["today", "no route 2", "changed"]
         assert minutes(browser) == {"A": 0, "B": 255, "C": 255, "D": 255}
@@ -318,7 +318,7 @@ def test_an_address_holds_the_view_with_its_changes(served: Explored, browser: B
     changed(browser)
     browser.visit(served.address, arguments)
     changed(browser)
-    assert (minutes(browser), browser.text("told"), browser.text("changes")) == (shown, printed, "take out route 2 (Q)")
+    assert (minutes(browser), browser.text("told"), browser.text("changes")) == (shown, printed, "remove route 2 (Q)")
     assert browser.run("return [live.last, live.trips, sliders.step]") == ["08:05", 3, 15]
 
 
@@ -373,7 +373,7 @@ def test_by_keyboard_and_on_a_phone(served: Explored, browser: Browser) -> None:
     assert browser.text("route-told") == "Route 2 (Q): 4 departures on 2026-05-04."
     browser.type("take-out", ENTER)
     changed(browser)
-    assert browser.text("changes") == "take out route 2 (Q)"
+    assert browser.text("changes") == "remove route 2 (Q)"
     browser.type("undo", SPACE)
     changed(browser)
     assert browser.text("changes") == ""

@@ -174,7 +174,7 @@ def test_a_port_in_use_is_told_in_one_line(tmp_path: Path) -> None:
         other.listen()
         port = other.getsockname()[1]
         ran = launched("explore", feed, "--date", "20260504", "--program", program, "--no-browser", "--port", str(port))
-    message = f"ttm-tools explore: port {port}: is in use: name another by --port, or 0 for a free one\n"
+    message = f"ttm-tools explore: port {port}: is in use: name another with --port, or 0 for a free one\n"
     assert (ran.returncode, ran.stdout, ran.stderr.decode()) == (1, b"", message)
 
 
@@ -271,7 +271,7 @@ def test_a_study_stands_in_place_of_the_feed(tmp_path: Path) -> None:
     path.write_text(tables)
     ran = launched("explore", str(path), "--no-browser", "--program", canned(tmp_path))
     assert ran.returncode == 1 and ran.stderr.decode().count("\n") == 1
-    assert "its walks have to be made first: ttm-tools walks" in ran.stderr.decode()
+    assert "walks must be computed first: run ttm-tools walks" in ran.stderr.decode()
     ran = launched("explore", str(tmp_path / "village"), "--no-browser")
     assert (ran.returncode, ran.stderr) == (2, b"ttm-tools explore: --date is needed where no study is named\n")
 
@@ -280,11 +280,11 @@ def test_faults_at_the_start_are_one_line_and_leave_no_process(tmp_path: Path) -
     feed, arguments = village(tmp_path), ["--date", "20260504", "--no-browser", "--program", canned(tmp_path)]
     (tmp_path / "bad.csv").write_text("stop_id,jobs\nZ,1\n")
     ran = launched("explore", str(feed), *arguments, "--opportunities", str(tmp_path / "bad.csv"))
-    message = f"ttm-tools explore: {tmp_path}/bad.csv: record 2: Z is no stop of the feed\n"
+    message = f"ttm-tools explore: {tmp_path}/bad.csv: record 2: no stop of the feed is called Z\n"
     assert (ran.returncode, ran.stdout, ran.stderr.decode()) == (1, b"", message)
     (feed / "stops.txt").write_text("stop_id,stop_lat,stop_lon\nA,,\nB,,\nC,,\nD,,\n")
     ran = launched("explore", str(feed), *arguments)
-    message = f"ttm-tools explore: {feed}/stops.txt: none of the stops has a place, so there is nothing to show\n"
+    message = f"ttm-tools explore: {feed}/stops.txt: none of the stops has coordinates, so there is nothing to show\n"
     assert (ran.returncode, ran.stdout, ran.stderr.decode()) == (1, b"", message)
     left = [path.name for path in Path("/proc").glob("[0-9]*") if str(feed).encode() in cmdline(path)]
     assert left == []

@@ -27,11 +27,11 @@ def test_access_that_the_matrix_counts_beyond_it_is_refused(town: Town) -> None:
     town.matrix(town_matrix(True, limits=(600, 1800)))
     arguments = ["compare", "--by", "origin", "--max-minutes", "20", town.file]
     message = "access of the matrix counts pairs that take longer than the greatest travel time, 1200 seconds"
-    town.refused(f"{town.file}: {message}: take ttm-tools access", *arguments, "--within", "1800")
+    town.refused(f"{town.file}: {message}: use ttm-tools access", *arguments, "--within", "1800")
     # by the limit that is left, 600 s, A reaches itself and B in both; it is cut off from C, 1900 s away
     assert town.ran(*arguments)[0].splitlines()[1] == "A,2,2,0,0.0,1,0,0,0"
     town.matrix(town_matrix(True))
-    town.refused(f"{town.file}: {message}: take ttm-tools access", *arguments)
+    town.refused(f"{town.file}: {message}: use ttm-tools access", *arguments)
 
 
 def test_access_and_the_nearest_end_there(town: Town) -> None:

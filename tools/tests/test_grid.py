@@ -49,7 +49,7 @@ def test_points_are_summed_by_cell_and_what_lies_outside_is_told(room: Room) -> 
     rows = [["a", *place(-100, -100), 3, 1.5], ["b", *place(-60, -200), 2, 0], ["c", *place(0, 0), 4, 0]]
     people = room.write("people.csv", "id,lat,lon,people,jobs", [*rows, ["d", *place(9000, 0), 5, 0]])
     _, errors, status = room.ran("points", town, "--grid", "250", "--people", people, "--out", out, *NEAR)
-    assert (errors.splitlines()[1], status) == (f"{people}: 5 of 14 people lie outside of all cells", 0)
+    assert (errors.splitlines()[1], status) == (f"{people}: 5 of 14 people are outside all cells", 0)
     counted = {cell["id"]: (cell["people"], cell["jobs"]) for cell in cells_of(out) if cell["people"] != "0"}
     assert counted == {"r1c1": ("5", "1.5"), "r2c2": ("4", "0")}
     assert "r1c1,5\n" in Path(out, "opportunities_people.csv").read_text()
@@ -66,7 +66,7 @@ def test_cells_have_a_part_in_the_area_and_polygons_are_shared_out(room: Room) -
     arguments = ["--grid", "250", "--area", area, "--people", people, "--out", out]
     _, errors, status = room.ran("points", town, *arguments, *NEAR)
     assert (errors.splitlines()[:2], status) == (
-        ["3 cells of 250 metres", f"{people}: 4.5 of 89 people lie outside of all cells"],
+        ["3 cells of 250 metres", f"{people}: 4.5 of 89 people are outside all cells"],
         0,
     )
     found = [(cell["id"], float(cell["people"])) for cell in cells_of(out)]
@@ -104,12 +104,12 @@ def test_what_is_refused(room: Room) -> None:
     arguments = ["points", town, "--out", out, *NEAR]
     assert room.ran(*arguments, "--people", "x.csv")[2] == 2
     room.refused(
-        "grid: no cell of 9000 metres is within a walk of a stop: take smaller ones", *arguments, "--grid", "9000"
+        "grid: no cell of 9000 metres is within a walk of a stop: use smaller cells", *arguments, "--grid", "9000"
     )
     wide = [*arguments[:-6], "--limit", "7200", "--speed", "9", "--detour", "1"]
-    message = "grid: 167,987,521 cells are too many to look at: take larger ones, or a smaller area"
+    message = "grid: 167,987,521 cells are too many: use larger cells, or a smaller area"
     room.refused(message, *wide, "--grid", "10")
-    room.refused("grid: more than 65,535 cells, which ttm doesn't take: take larger ones", *wide, "--grid", "200")
+    room.refused("grid: more than 65,535 cells, which is more than ttm takes: use larger cells", *wide, "--grid", "200")
     texts = room.write("texts.csv", "id,lat,lon,kind", [["a", *place(0, 0), "x"]])
     room.refused(f"{texts}: no column of numbers", *arguments, "--grid", "250", "--people", texts)
     counts = room.write("counts.csv", "id,lat,lon,people", [["a", *place(0, 0), 1]])
@@ -121,7 +121,7 @@ def test_negative_numbers_of_polygons_are_refused(room: Room) -> None:
     pytest.importorskip("geopandas")
     people = polygons(room, "people.geojson", ({"people": -1}, 0, 0, 10, 10))
     arguments = ["points", feed(room), "--out", room.path("doors"), *NEAR, "--grid", "250", "--people", people]
-    room.refused(f"{people}: record 1: people '-1' is none; allowed: a number from 0 on", *arguments)
+    room.refused(f"{people}: record 1: people '-1' is invalid; allowed: a number from 0 on", *arguments)
 
 
 def test_cells_are_squares_for_a_geographic_information_system(town: Town) -> None:

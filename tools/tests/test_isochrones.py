@@ -98,9 +98,9 @@ def test_an_empty_band_has_an_empty_shape(town: Town) -> None:
 def test_what_is_refused(town: Town) -> None:
     town.matrix(town_matrix(True))
     arguments = ["isochrones", "--feed", town.feed, "--out", town.path("a.geojson"), "--origin"]
-    town.refused(f"{town.file}: B is no origin of the scenario base", *arguments, "B", town.file)
+    town.refused(f"{town.file}: the scenario base has no origin B", *arguments, "B", town.file)
     people = town.write("people.csv", "stop_id,people", [["Z", 1]])
-    town.refused(f"{people}: record 2: Z is no column", *arguments, "A", "--people", people, town.file)
+    town.refused(f"{people}: record 2: no column is called Z", *arguments, "A", "--people", people, town.file)
     assert town.ran(*arguments[:4], town.path("a.shp"), "--origin", "A", town.file)[2] == 2
 
 
@@ -162,7 +162,7 @@ def test_a_map_shows_the_areas_with_their_square_kilometres(town: Town, monkeypa
         "where vehicles run",
     ]
     assert (key, classes) == ("Reached within", printed)
-    assert texts[:2] == ["Areas that are reached from Alpha (A)", f"{wide:.1f} km² within 10 minutes"]
-    assert "50 of 100 departures" in texts[2].replace("\n", " ")
+    assert texts[:2] == ["Areas reached from Alpha (A)", f"{wide:.1f} km² within 10 minutes"]
+    assert "50 % of departures" in texts[2].replace("\n", " ")
     ran = town.ran("map", "isochrones", "--feed", town.feed, "--out", town.path("map.png"), town.file)
     assert ran[2] == 2 and "isochrones needs --origin" in ran[1]

@@ -79,7 +79,7 @@ def test_r5py_names_have_minutes_and_a_column_for_each_share(town: Town) -> None
     assert rows[0] == "from_id,to_id,travel_time_p25,travel_time_p50"
     assert rows[1:5] == ["A,A,0.0,0.0", "A,B,3.0,6.0", "A,C,15.83,31.67", "A,D,,"]
     assert "A,D,," not in lines(town, "--names", "r5py", "--scenario", "cut", "--reached").splitlines()
-    message = "r5py's columns name no scenario, and it has base, cut: name one by --scenario"
+    message = "r5py's columns name no scenario, and it has base, cut: choose one with --scenario"
     town.refused(f"{town.file}: {message}", "long", "--names", "r5py", town.file)
     median = lines(town, "--names", "r5py", "--scenario", "cut", "--share", "50").splitlines()
     assert median[:2] == ["from_id,to_id,travel_time", "A,A,0.0"]
@@ -128,14 +128,14 @@ def test_names_in_windows_1252_are_text_in_utf8(town: Town) -> None:
 def test_faults_name_the_file_and_the_record(town: Town) -> None:
     some = town.write("some.csv", "stop_id", [["D"], ["B"]])
     town.matrix(town_matrix(True))
-    town.refused(f"{some}: record 3: B is no origin of the matrix", "long", "--origins", some, town.file)
+    town.refused(f"{some}: record 3: the matrix has no origin B", "long", "--origins", some, town.file)
     trips = town.path("trips.txt")
     town.refused(f"{trips}: record 1: no column stop_id", "long", "--destinations", trips, town.file)
     zipped = town.path("feed.zip")
-    town.refused(f"{zipped}: no folder of a feed (unzip it first)", "long", "--feed", zipped, town.file)
+    town.refused(f"{zipped}: not the folder of a feed (unzip it first)", "long", "--feed", zipped, town.file)
     out = town.path("long.csv")
     town.matrix(town_matrix(True, stops="AZCD"))
-    message = f"{town.path('stops.txt')}: no stop Z, which the matrix has: is it of another feed?"
+    message = f"{town.path('stops.txt')}: no stop Z, which the matrix has: is it from another feed?"
     town.refused(message, "long", "--feed", town.feed, "--out", out, town.file)
 
 
@@ -175,7 +175,7 @@ def test_more_lines_than_a_spreadsheet_shows_are_told(town: Town, monkeypatch: p
     town.matrix(town_matrix(True))
     monkeypatch.setattr("ttm_tools.views.long.MOST_LINES", 16)
     out, errors, status = town.ran("long", "--out", town.path("long.csv"), town.file)
-    wanted = f"{town.path('long.csv')}: 17 lines, of which a spreadsheet shows 16: take some by --origins\n"
+    wanted = f"{town.path('long.csv')}: 17 lines, of which a spreadsheet shows 16: choose some with --origins\n"
     assert (out, errors, status) == ("", wanted, 0)
 
 

@@ -36,7 +36,7 @@ def test_travel_times_in_classes_of_minutes(town: Town, monkeypatch: pytest.Monk
     texts, key, classes = figure(town, monkeypatch, "times", "--origin", "A")
     message = "3 of 3 other stops are reached, half of them within 15 minutes"
     assert texts[:2] == ["Travel time from Alpha (A)", message]
-    assert ("50 of 100 departures" in texts[2].replace("\n", " ")) == second_form
+    assert ("50 % of departures" in texts[2].replace("\n", " ")) == second_form
     assert key == "Travel time in minutes,\nwaiting included"
     assert classes == ["up to 10  (1)", "10 to 20  (1)", "30 to 45  (1)", "origin", "where vehicles run"]
     arguments = ["times", "--origin", "A", "--scenario", "cut", "--breaks", "5,6"]
@@ -48,7 +48,7 @@ def test_access_in_round_numbers(town: Town, monkeypatch: pytest.MonkeyPatch) ->
     town.matrix(town_matrix(True))
     texts, key, classes = figure(town, monkeypatch, "access", "--unit", "jobs", "--scenario", "cut")
     assert (texts[0], key) == ("Access from each stop: jobs within 30 minutes", "Jobs reached\nwithin 30 minutes")
-    no_origin = "no origin of the matrix  (2)"
+    no_origin = "not an origin of the matrix  (2)"
     assert classes == ["less than 3  (1)", "3 and more  (1)", no_origin, "where vehicles run"]
     town.matrix(town_matrix(False))
     assert figure(town, monkeypatch, "access")[0][0] == "Access from each stop: opportunities"
@@ -57,17 +57,17 @@ def test_access_in_round_numbers(town: Town, monkeypatch: pytest.MonkeyPatch) ->
 def test_the_difference_of_access(town: Town, monkeypatch: pytest.MonkeyPatch) -> None:
     town.matrix(town_matrix(True))
     texts, _, classes = figure(town, monkeypatch, "difference")
-    message = "Of 2 stops 1 lose, 1 gain; the most: 33 % (1 opportunities) at Alpha (A)"
+    message = "Of 2 stops 1 loses, 1 gains; the greatest loss: 33 % (1 opportunities) at Alpha (A)"
     assert texts[1] == message
     lost, gained = "25 % or more lost  (1)", "25 % or more gained  (1)"
-    assert classes[:3] == [lost, gained, "no origin of the matrix  (2)"]
+    assert classes[:3] == [lost, gained, "not an origin of the matrix  (2)"]
 
 
 def test_the_difference_of_travel_times(town: Town, monkeypatch: pytest.MonkeyPatch) -> None:
     town.matrix(town_matrix(False))
     texts, _, classes = figure(town, monkeypatch, "difference", "--origin", "A")
     title = "Travel time from Alpha (A): cut compared with base"
-    assert texts[:2] == [title, "Of 4 stops 1 are cut off, 2 slower, 0 faster"]
+    assert texts[:2] == [title, "Of 4 stops 1 cut off, 2 slower, 0 faster"]
     gone = "cut off: not reached now  (1)"
     assert classes[:3] == [gone, "15 min or more slower  (1)", "1 to 5 min slower  (1)"]
     town.matrix(town_matrix(True))
@@ -88,7 +88,7 @@ def test_lines_go_from_stop_to_stop_or_along_shapes(town: Town, monkeypatch: pyt
     cut = town.write("cut.csv", "action,id,seconds", [["remove_route", "R", ""], ["shift_trip", "U", 60]])
     assert removed_trips(trips, cut) == {"T"}
     town.matrix(town_matrix(True))
-    assert "trips that are taken out" in figure(town, monkeypatch, "difference", "--edits", cut)[2]
+    assert "removed trips" in figure(town, monkeypatch, "difference", "--edits", cut)[2]
 
 
 def test_trips_that_a_scenario_adds_are_named_as_such(town: Town, monkeypatch: pytest.MonkeyPatch) -> None:
@@ -96,11 +96,11 @@ def test_trips_that_a_scenario_adds_are_named_as_such(town: Town, monkeypatch: p
     cut = town.write("cut.csv", "action,id,seconds", [["remove_route", "R", ""]])
     more = town.write("more.csv", "action,id,seconds", [["remove_route", "Q", ""]])
     arguments = ["difference", "--base", "cut", "--scenario", "more", "--edits", cut, "--edits", more]
-    assert figure(town, monkeypatch, *arguments)[2][-2:] == ["trips that are taken out", "trips that are added"]
+    assert figure(town, monkeypatch, *arguments)[2][-2:] == ["removed trips", "added trips"]
     arguments = ["difference", "--base", "cut", "--scenario", "base", "--edits", cut]
-    assert figure(town, monkeypatch, *arguments)[2][-2:] == ["where vehicles run", "trips that are added"]
+    assert figure(town, monkeypatch, *arguments)[2][-2:] == ["where vehicles run", "added trips"]
     arguments = ["access", "--scenario", "cut", "--base", "cut", "--edits", cut]
-    assert figure(town, monkeypatch, *arguments)[2][-1] == "trips that are taken out"
+    assert figure(town, monkeypatch, *arguments)[2][-1] == "removed trips"
 
 
 def test_kilometres_are_those_on_the_ground_and_the_date_line_is_no_edge() -> None:
@@ -143,15 +143,15 @@ def test_faults_name_the_file_and_the_record(town: Town) -> None:
 
     town.matrix(town_matrix(True))
     refused(f"{town.feed}/stops.txt: no stop Z", "--origin", "Z")
-    refused(f"{town.file}: B is no origin of the scenario base", "--origin", "B")
+    refused(f"{town.file}: the scenario base has no origin B", "--origin", "B")
     town.matrix(town_matrix(True, shares=(25, 50)))
-    message = f"{town.file}: it has lines of the shares 25, 50: name one by --share"
+    message = f"{town.file}: it has rows for the percentiles 25, 50: choose one with --share"
     refused(message, "--origin", "A")
     town.matrix(town_matrix(False))
     refused(f"{town.file}: no scenario late; it has base, cut", "--origin", "A", "--scenario", "late")
     header = "shape_id,shape_pt_sequence,shape_pt_lat,shape_pt_lon"
     town.write("shapes.txt", header, [["s", 1, 0, 0], ["s", 2, "north", 0]])
-    refused(f"{town.feed}/shapes.txt: record 3: shape_pt_lat 'north' is no number", "--origin", "A")
+    refused(f"{town.feed}/shapes.txt: record 3: shape_pt_lat 'north' is not a number", "--origin", "A")
     cut = town.write("cut.csv", "action,id,seconds", [["remove_route", "Z", ""]])
     town.write("shapes.txt", header, [])
     refused(f"{cut}: record 2: Z isn't in trips.txt", "--origin", "A", "--edits", cut)
@@ -163,7 +163,7 @@ def test_faults_name_the_file_and_the_record(town: Town) -> None:
 def test_points_for_a_geographic_information_system(town: Town) -> None:
     town.matrix(town_matrix(True))
     out = town.path("town.geojson")
-    message = f"{out}: 4 stops; 0 have no coordinates\n"
+    message = f"{out}: 4 stops; 0 without coordinates\n"
     assert town.ran("gis", "--feed", town.feed, "--origin", "A", "--out", out, town.file) == ("", message, 0)
     result = json.loads(Path(out).read_text())
     assert result["features"][1]["geometry"] == {"type": "Point", "coordinates": [9.01, 0.0]}
@@ -172,7 +172,7 @@ def test_points_for_a_geographic_information_system(town: Town) -> None:
     assert result["features"][1]["properties"] == {**names, **columns}
     assert result["features"][3]["properties"]["cut_50_access_1800"] == 4
     assert result["features"][3]["properties"]["cut_50_seconds"] is None
-    message = f"{town.file}: B is no origin of the scenario base"
+    message = f"{town.file}: the scenario base has no origin B"
     town.refused(message, "gis", "--feed", town.feed, "--origin", "B", "--out", town.path("b.json"), town.file)
 
 
@@ -181,7 +181,7 @@ def test_a_geopackage_has_the_same_points(town: Town) -> None:
     town.write("stops.txt", "stop_id,stop_lat,stop_lon", [["A", 1, 9], ["B", 2, 8], ["C", 0, 0], ["D", 1, 7]])
     town.matrix(town_matrix(False))
     out = town.path("town.gpkg")
-    message = f"{out}: 3 stops; 1 have no coordinates\n"
+    message = f"{out}: 3 stops; 1 without coordinates\n"
     before = town.names()
     ran = town.ran("gis", "--feed", town.feed, "--scenario", "cut", "--origin", "A", "--out", out, town.file)
     assert ran == ("", message, 0)
@@ -211,10 +211,10 @@ def test_each_command_takes_the_matrix_of_the_program(town: Town, program: str) 
     for picture in (["times", "--origin", "A"], ["access"], ["difference"], ["difference", "--origin", "A"]):
         assert town.ran("map", *picture, *out) == ("", "", 0)
     town.take(program, f"{arguments} --share 25,50,100 --within 600,1800")
-    message = f"{town.file}: it has lines of the shares 25, 50, 100: name one by --share"
+    message = f"{town.file}: it has rows for the percentiles 25, 50, 100: choose one with --share"
     town.refused(message, "compare", town.file)
     town.refused(message, "map", "times", "--origin", "A", *out)
-    message = f"{town.file}: it has access within 600, 1800 seconds: name one by --within"
+    message = f"{town.file}: it has access within 600, 1800 seconds: choose one with --within"
     town.refused(message, "compare", "--by", "origin", "--share", "50", town.file)
     again = read(town.ran("compare", "--share", "50", town.file)[0])
     assert [(row["origin"], row["destination"]) for row in again] == lost
@@ -255,7 +255,7 @@ def test_new_lines_of_a_plan_are_drawn_as_added_and_others_as_changed(
     town.write("scenarios/more.csv", "action,id,seconds", [["remove_trip", "T", ""], ["remove_route", "P", ""]])
     drawn: list[tuple[str, int]] = []
     monkeypatch.setattr(drawing, "draw_lines", lambda _, lines, __: drawn.append((lines.label, len(lines.pieces))))
-    changes = [("trips that are changed", 1), ("trips that are taken out", 1), ("trips that are added", 1)]
+    changes = [("changed trips", 1), ("removed trips", 1), ("added trips", 1)]
     for arguments, lines in (
         (["difference"], [("where vehicles run", 4), *changes]),  # A-B, B-C, A-C and A-D; A-B, B-C, A-D
         (["difference", "--base", "base", "--scenario", "more"], [("where vehicles run", 5)]),  # P's D-B too

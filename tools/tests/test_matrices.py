@@ -73,12 +73,14 @@ def test_both_forms_give_the_same_rows(town: Town, second_form: bool) -> None:
 
 def test_of_several_shares_and_limits_one_must_be_named(town: Town) -> None:
     text = town_matrix(True, shares=(25, 50), limits=(900, 1800))
-    refused(town, text, "it has lines of the shares 25, 50: name one by --share", lambda item: item.share(None))
-    refused(town, text, "no line of the share 90; it has 25, 50", lambda item: item.share(90))
-    message = "it has access within 900, 1800 seconds: name one by --within"
+    refused(
+        town, text, "it has rows for the percentiles 25, 50: choose one with --share", lambda item: item.share(None)
+    )
+    refused(town, text, "no rows for the percentile 90; it has 25, 50", lambda item: item.share(90))
+    message = "it has access within 900, 1800 seconds: choose one with --within"
     refused(town, text, message, lambda item: item.limit(None))
     refused(town, text, "no access within 60 seconds, but within 900, 1800", lambda item: item.limit(60))
-    refused(town, town_matrix(False), "it names no share; leave --share out", lambda item: item.share(50))
+    refused(town, town_matrix(False), "it has no percentiles: leave out --share", lambda item: item.share(50))
     matrix = open_matrix(town.matrix(text))
     place = matrix.limit(900)[0]
     assert [matrix.access(name, 25)[:, place].tolist() for name in matrix.scenarios] == [[3, 3], [2, 4]]
@@ -87,7 +89,7 @@ def test_of_several_shares_and_limits_one_must_be_named(town: Town) -> None:
 
 def test_two_scenarios_of_several(town: Town) -> None:
     three = {**TOWN, "late": TOWN["cut"]}
-    message = "it has the scenarios cut and late besides base: name one by --scenario"
+    message = "it has the scenarios cut and late besides base: choose one with --scenario"
     refused(town, town_matrix(True, three), message, lambda item: pair_of(item, "base", None, None))
     message = "no scenario late; it has base, cut"
     refused(town, town_matrix(True), message, lambda item: pair_of(item, "base", "late", None))
@@ -113,14 +115,14 @@ def test_what_is_no_matrix_is_told_by_its_record(town: Town, second_form: bool) 
     text = town_matrix(second_form)
     message = f"record 4: {6 + second_form} fields, and the header has {7 + second_form}"
     refused(town, text.replace("1900,\n", "1900\n"), message)
-    allowed = f"is no travel time; allowed: whole seconds up to {MOST}, or nothing"
+    allowed = f"is not a travel time; allowed: whole seconds up to {MOST}, or nothing"
     for bad in ("3oo", "-3", "3.5", " 3", "16777216", "4294967297", "12345678901234567890"):
         refused(town, text.replace(",300,", f",{bad},"), f"record 2: B {bad!r} {allowed}")
-    refused(town, text[:-1], "cut short: the last line has no end")
+    refused(town, text[:-1], "truncated: the last line has no end")
     access = "access_1800" if second_form else "access"
     refused(town, text.replace("A,50,3" if second_form else "A,3", "A,50,x" if second_form else "A,x"),
-            f"record 2: {access} 'x' is no number; allowed: whole numbers")  # fmt: skip
-    refused(town, text.replace("base,D,", "base,A,"), "record 3: A is there twice in base")
+            f"record 2: {access} 'x' is not a number; allowed: whole numbers")  # fmt: skip
+    refused(town, text.replace("base,D,", "base,A,"), "record 3: A occurs twice in base")
 
 
 def test_what_is_no_matrix_at_all_is_told(town: Town) -> None:
@@ -211,10 +213,10 @@ def test_a_matrix_that_lacks_origins_of_the_study_is_told(town: Town) -> None:
 def test_an_open_matrix_file_wants_one_list_of_origins(town: Town) -> None:
     pytest.importorskip("h5py")
     town.matrix(town_matrix(True, {"base": TOWN["base"], "cut": {"A": TOWN["cut"]["A"]}}))
-    message = "an Open Matrix file has one list of origins: 1 of 2 origins of base aren't in cut, share 50: D"
+    message = "an Open Matrix file has one list of origins: 1 of 2 origins of base aren't in cut, percentile 50: D"
     town.refused(f"{town.file}: {message}", "omx", "--out", town.path("town.omx"), town.file)
     Path(town.path("town.omx")).write_bytes(b"\x89HDF\r\n\x1a\n" + bytes(100))
-    with pytest.raises(BadInput, match="town.omx: no whole HDF5 file"):
+    with pytest.raises(BadInput, match="town.omx: not a complete HDF5 file"):
         open_matrix(town.path("town.omx"))
 
 
@@ -271,5 +273,5 @@ def test_a_chunk_that_is_damaged_is_told_and_other_forms_of_data_are_read(town: 
     assert whole(open_matrix(town.path("plain.omx"))) == whole(matrix)
     with h5py.File(town.path("damaged.omx"), "r+") as file:
         file["data/cut_50"].id.write_direct_chunk((0, 0), b"no chunk")
-    with pytest.raises(BadInput, match="damaged.omx: /data/cut_50: the piece that begins with row 1 can't be read"):
+    with pytest.raises(BadInput, match="damaged.omx: /data/cut_50: the chunk that begins with row 1 can't be read"):
         whole(open_matrix(town.path("damaged.omx")))

@@ -80,7 +80,7 @@ def test_bars_are_stacked_to_all_people(small: Town, monkeypatch: pytest.MonkeyP
         people_of(small, "bands", name, "--bands", bands, "--picture", small.path("b.png"), "--out", small.path("o"))
     for result, labels, widths in (
         (figures[0], ["11 jobs or more", "10 to 11", "less than 10"], [75, 0, 25, 0, 75, 25]),
-        (figures[1], ["up to 29 min", "29 to 30 min", "more than 30 min, or not at all"], [25, 75, 0, 25, 0, 75]),
+        (figures[1], ["up to 29 min", "29 to 30 min", "more than 30 min, or not reached"], [25, 75, 0, 25, 0, 75]),
     ):
         (axes,) = result.axes
         assert [text.get_text() for text in axes.get_legend().get_texts()] == labels
@@ -94,12 +94,12 @@ def test_a_map_of_the_nearest(small: Town, monkeypatch: pytest.MonkeyPatch) -> N
 
     arguments = ["--opportunities", small.path("schools.csv")]
     texts, key, classes = figure(small, monkeypatch, "nearest", *arguments)
-    message = "From 3 of 3 stops so many are reached, from half of these within 30 minutes"
+    message = "From 3 of 3 stops this number is reached, from half of these within 30 minutes"
     assert texts[:2] == ["Travel time to the nearest schools", message] and key.startswith("Travel time in minutes")
     assert classes[:2] == ["up to 10  (1)", "20 to 30  (2)"]
     texts, _, classes = figure(small, monkeypatch, "difference", "--nearest", "1", *arguments)
     assert texts[0] == "Travel time to the nearest schools: cut compared with base"
-    assert texts[1] == "Of 3 stops 2 are cut off, 0 slower, 0 faster"
+    assert texts[1] == "Of 3 stops 2 cut off, 0 slower, 0 faster"
     assert classes[:2] == ["cut off: not reached now  (2)", "less than 1 min either way  (1)"]
     texts, *_ = figure(small, monkeypatch, "nearest", "--nearest", "11", "--opportunities", small.path("jobs.csv"))
     assert texts[:2] == ["Travel time to the 11 nearest jobs", message.replace("3 of 3", "2 of 3")]
@@ -110,7 +110,7 @@ def test_a_map_of_the_nearest_needs_to_know_of_what(small: Town) -> None:
     for arguments in (["nearest"], ["times", "--origin", "A", "--nearest", "1", "--opportunities", "x"]):
         assert small.ran("map", *arguments, *common)[2] == 2
     both = small.write("both.csv", "stop_id,schools,jobs", [["C", 1, 1]])
-    message = f"{both}: it has the columns schools, jobs: name one by --column"
+    message = f"{both}: it has the columns schools, jobs: choose one with --column"
     small.refused(message, "map", "nearest", "--opportunities", both, *common)
 
 

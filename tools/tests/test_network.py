@@ -60,7 +60,7 @@ def test_a_fault_of_a_question_is_raised_and_the_next_is_answered_by_the_same_pr
 @pytest.mark.parametrize(
     "origin, line, ended",
     [
-        ("kill", "ttm: ended by SIGKILL, its last line: question 3", 137),
+        ("kill", "ttm: ended by SIGKILL, last line: question 3", 137),
         ("end", "ttm: out of memory", 3),
         ("short", "ttm: stops: 2", 5),
         ("bad", "ttm: no answer, but b'hello\\n'", 4),

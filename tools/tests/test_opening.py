@@ -117,7 +117,7 @@ def test_what_is_no_file_is_told_and_not_waited_for(room: Room) -> None:
     os.mkfifo(room.path("stops.txt"))
     os.mkfifo(room.path("feed.zip"))
     os.mkfifo(room.path("a.toml"))
-    line = "is no file but a pipe"
+    line = "is not a file but a pipe"
     assert told(room, "walks", str(room.folder)) == f"{room.path('stops.txt')}: {line}"
     assert told(room, "prepare", "--check", room.path("feed.zip")) == f"{room.path('feed.zip')}: {line}"
     assert told(room, "study", room.path("a.toml")) == f"{room.path('a.toml')}: {line}"
@@ -158,7 +158,7 @@ def test_two_equal_columns_are_told(town: Town) -> None:
         assert told(town, *arguments) == f"{path}: record 1: two columns {name}"
     town.matrix(town_matrix(True, stops=("A", "B", "C", "C")))
     arguments = ["omx", "--out", town.path("out.omx"), town.file]
-    assert told(town, *arguments) == f"{town.file}: 'C' destination 4 is there twice"
+    assert told(town, *arguments) == f"{town.file}: 'C' destination 4 is repeated"
 
 
 def test_a_property_that_is_called_as_the_shapes_is_told(town: Town) -> None:
@@ -190,7 +190,7 @@ def test_an_error_of_the_tools_own_is_a_line_with_a_log(
     _, said, status = town.ran("long", town.file)
     assert status == 70 and said.count("\n") == 1
     log = said.rstrip("\n").rsplit(" ", 1)[1]
-    assert said.startswith("ttm-tools long: an error of its own, KeyError: ") and "Traceback" in Path(log).read_text()
+    assert said.startswith("ttm-tools long: internal error, KeyError: ") and "Traceback" in Path(log).read_text()
 
 
 def test_escape_sequences_of_a_feed_do_not_reach_the_terminal(room: Room) -> None:

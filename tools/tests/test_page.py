@@ -117,7 +117,7 @@ def test_a_slider_that_is_dragged_leaves_the_last_address(town: Town, browser: B
 def test_the_difference_has_who_is_cut_off_as_a_class(town: Town, browser: Browser) -> None:
     town.matrix(town_matrix(True))
     browser.open(page(town, *jobs(town)), "view=times&scenario=cut&difference=1&from=A")
-    message = "cut compared with base: of 4 places 1 are cut off, 1 slower by 2 minutes or more, 0 faster, 0 new."
+    message = "cut compared with base: of 4 places 1 cut off, 1 slower by 2 minutes or more, 0 faster, 0 new."
     assert browser.text("told") == message
     key = {"cut off: not reached now": "1", "15 min or more slower": "1", "at most 1 min either way": "2"}
     assert browser.key() == key
@@ -149,8 +149,8 @@ def test_access_its_change_and_who_loses_most(town: Town, browser: Browser) -> N
     losers = [row for row in rows if int(row["change"]) < 0]
     wanted = [[f"{row['origin_name']} ({row['origin']})", row["access_before"], row["access_after"]] for row in losers]
     assert [row[:3] for row in browser.lines("losers")[1:]] == wanted != []
-    assert "of 2 places 1 lose, 1 gain" in browser.text("told")
-    assert browser.key() == {"25 % or more lost": "1", "25 % or more gained": "1", "no origin of the matrix": "2"}
+    assert "of 2 places 1 loses, 1 gains" in browser.text("told")
+    assert browser.key() == {"25 % or more lost": "1", "25 % or more gained": "1", "not an origin of the matrix": "2"}
     browser.press("#losers button")
     assert browser.lines("sums")[1] == ["opportunities", "3", "2", "-1", "-33.3 %"]
     browser.choose("counted", "jobs")
@@ -202,7 +202,7 @@ def test_by_keyboard_on_a_phone_and_on_paper(town: Town, browser: Browser) -> No
     browser.type("search", "BETA")  # without its accent
     assert browser.text("found") == 'Béta, "the" square (B)'
     browser.type("search", "\ue007")  # Enter
-    assert browser.text("told") == "It is no origin of the matrix: choose another place."
+    assert browser.text("told") == "This place is not an origin of the matrix: choose another one."
     browser.run("document.getElementById('search').value = ''")
     browser.type("search", "a", "\ue015", "\ue015", "\ue007")  # down twice: Alpha, then those with an a within
     assert browser.text("heading") == "Travel times from Delta (D)"
@@ -261,15 +261,18 @@ def test_where_there_is_no_room_for_all_rows_are_drawn_or_named(
     monkeypatch.setattr(make, "MOST_CELLS", 8)
     out = town.path("few.html")
     errors = town.ran("page", "--feed", town.feed, "--out", out, "--seed", "3", town.file)[1]
-    line = "The page has the travel times from 1 of 2 origins, which were drawn with the seed 3, and access from all."
+    how = "which were chosen at random with the seed 3, and access from all."
+    line = f"The page has the travel times from 1 of 2 origins, {how}"
     assert errors.splitlines()[1] == line
     browser.open(Path(out), "view=times&from=A")
     assert line in browser.text("meaning-part")
     drawn = browser.run("return head.identifiers[numbers.rows[0]]")
     other = {"A": "D", "D": "A"}[drawn]
-    assert browser.key() == {"travel times from there are in the page": "1", "not from there": "3"} or drawn == "A"
+    assert browser.key() == {"with travel times": "1", "without travel times": "3"} or drawn == "A"
     browser.open(Path(out), f"view=times&from={other}")
-    assert browser.text("told") == "The page hasn't its travel times, but its access: choose another place."
+    assert (
+        browser.text("told") == "The page has the access of this place, but not its travel times: choose another one."
+    )
     named = town.write("named.csv", "stop_id", [[other]])
     errors = town.ran("page", "--feed", town.feed, "--out", out, "--origins", named, town.file)[1]
     assert "from 1 of 2 origins, which were named" in errors
@@ -292,9 +295,9 @@ def test_points_alone_as_squares_and_a_new_line(town: Town, browser: Browser) ->
     assert browser.run("return head.scenarios") == ["today", "tram"]
     assert (
         browser.text("told")
-        == "tram compared with today: of 3 places 0 are cut off, 0 slower by 2 minutes or more, 1 faster, 1 new."
+        == "tram compared with today: of 3 places 0 cut off, 0 slower by 2 minutes or more, 1 faster, 1 new."
     )
-    assert "trips that are added" in browser.text("lines-key") and "taken out" not in browser.text("lines-key")
+    assert "added trips" in browser.text("lines-key") and "taken out" not in browser.text("lines-key")
     aside = int(browser.run("return 0.4 * page.sideOf(0) * 2 ** page.map.getZoom()"))  # pixels, within the square
     assert [browser.colour(letter, right=aside) for letter in "CD"] == ["#1b5a9c", "#ffd92f"]
     town.write("jobs.csv", "stop_id,jobs", [["A", 5], ["B", 20]])  # B isn't shown, but reached in 6 or 5 minutes
@@ -304,7 +307,7 @@ def test_points_alone_as_squares_and_a_new_line(town: Town, browser: Browser) ->
     browser.choose("counted", "jobs")
     browser.click("A")
     assert browser.lines("sums")[1] == ["jobs", "25", "25", "0", "0 %"]
-    message = "jobs: part of them is at stops that aren't shown; access counts all, the slider nothing."
+    message = "jobs: part of them is at stops that aren't shown; access counts all of them, the slider none."
     assert message in browser.text("meaning-part")
     browser.press("#from-here")
     assert [row[0] for row in browser.lines("sums")] == ["Within 30 minutes", "places"]
@@ -320,7 +323,7 @@ def test_a_plan_brings_its_scenario_files_and_leaves_the_base_out(town: Town, br
     assert errors.splitlines()[0] == f"{town.file}: base, which has the trips of all scenarios at once, is left out"
     browser.open(Path(town.path("plan.html")))
     assert browser.run("return head.scenarios") == ["today", "tram"]
-    key = ["where vehicles run", "trips that are taken out", "trips that are changed"]
+    key = ["where vehicles run", "removed trips", "changed trips"]
     assert browser.text("lines-key").splitlines()[:3] == key
     counts = "return CHANGED_LINES.map((it) => numbers[`${it}-1`].length / 4)"
     assert browser.run(counts) == [1, 2, 0]  # from A to D; A to B to C
@@ -383,7 +386,7 @@ def test_bad_input_is_told_in_one_line(town: Town) -> None:
     points = town.write("cells.csv", "id,lat,lon", [["X", 1, 2]])
     refused(f"{town.file}: it has no point of {points}", "--points", points)
     origins = town.write("origins.csv", "stop_id", [["B"]])
-    refused(f"{origins}: record 2: B is no origin of the matrix", "--origins", origins)
+    refused(f"{origins}: record 2: the matrix has no origin B", "--origins", origins)
     arguments = jobs(town)
     town.write("people.csv", "stop_id,jobs", [["A", 7]])
     refused(f"{town.path('people.csv')}: a column jobs is among the opportunities too", *arguments)
@@ -391,7 +394,7 @@ def test_bad_input_is_told_in_one_line(town: Town) -> None:
     refused(f"{town.file}: 1 of 2 origins of base aren't in cut: D; 1 of 2 origins of cut aren't in base: C")
     town.matrix(town_matrix(True))
     town.write("stops.txt", "stop_id", [["A"], ["B"], ["C"], ["D"]])
-    refused(f"{town.feed}/stops.txt: none of the stops has a place, so there is nothing to show")
+    refused(f"{town.feed}/stops.txt: none of the stops has coordinates, so there is nothing to show")
 
 
 def test_the_same_words_give_the_same_bytes_and_a_fault_leaves_nothing(town: Town) -> None:

@@ -33,10 +33,10 @@ def test_the_time_to_the_nearest_is_that_of_the_matrix(town: Town, browser: Brow
     assert browser.text("heading") == "Time to the nearest: schools"
     # from A 300 seconds to B, from D 600 to C
     assert browser.text("told") == "base: reached from 2 of 2 places, from half of these within 5 min."
-    assert browser.key() == {"up to 10 min": "2", "no origin of the matrix": "2"}
+    assert browser.key() == {"up to 10 min": "2", "not an origin of the matrix": "2"}
     browser.choose("within", "the 3 nearest")
     # from A all three within 900 seconds; from D no more than the two at C
-    assert browser.key() == {"11 to 20 min": "1", "not reached": "1", "no origin of the matrix": "2"}
+    assert browser.key() == {"11 to 20 min": "1", "not reached": "1", "not an origin of the matrix": "2"}
     assert browser.text("told") == "base: reached from 1 of 2 places, from half of these within 15 min."
     browser.choose("weight", "residents")
     bars = browser.run("return [...document.querySelectorAll('#histogram title')].map((it) => it.textContent)")
@@ -51,7 +51,7 @@ def test_the_difference_says_who_waits_longer_for_the_nearest(town: Town, browse
     assert browser.key() == {
         "15 min or more slower": "1",
         "new: not reached before": "1",
-        "no origin of the matrix": "2",
+        "not an origin of the matrix": "2",
     }
     assert browser.lines("sums")[1] == ["schools", "15 min", "32 min", "+17"]
     assert browser.lines("losers")[1:] == [["Alpha (A)", "15 min", "32 min", "+17"]]

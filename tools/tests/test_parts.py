@@ -80,7 +80,7 @@ def test_other_headers_and_scenarios_are_refused(room: Room) -> None:
 
 
 def test_origins_that_are_interleaved_are_refused(room: Room) -> None:
-    message = "origins.csv: the parts aren't stretches of the study's origins in their order"
+    message = "origins.csv: the parts aren't consecutive origins of the study"
     refused(parts(room, ORIGINS[::2], ORIGINS[1::2]), message)
 
 
@@ -89,7 +89,7 @@ def test_a_matrix_that_was_cut_short_is_refused(room: Room) -> None:
     whole = Path(other).read_bytes()
     for count in (1, 2, 20):
         Path(other).write_bytes(whole[:-count])
-        refused([some, other], f"{other}: cut short")
+        refused([some, other], f"{other}: truncated")
 
 
 def test_a_matrix_that_was_cut_between_two_rows_is_refused(room: Room) -> None:
@@ -102,9 +102,9 @@ def test_a_matrix_that_was_cut_between_two_shares_is_refused(room: Room) -> None
     some, other = parts(room, ORIGINS[:2], ORIGINS[2:], scenarios=["base", "cut"], shares=2)
     whole = Path(other).read_bytes()
     Path(other).write_bytes(whole.replace(b"cut,G,1,7,,4\n", b""))
-    refused([some, other], f"{other}: G has other shares in cut than the first origin")
+    refused([some, other], f"{other}: G has other percentiles in cut than the first origin")
     Path(other).write_bytes(whole.replace(b"base,D,0,", b"base,D,2,"))
-    refused([some, other], f"{other}: D has other shares in base than the first origin")
+    refused([some, other], f"{other}: D has other percentiles in base than the first origin")
 
 
 def test_a_matrix_that_ends_after_any_line_is_refused(room: Room) -> None:
@@ -121,7 +121,7 @@ def test_parts_with_other_shares_are_refused(room: Room) -> None:
     (some,) = parts(room, ORIGINS[:3], shares=2)
     other = room.path("other.csv")
     Path(other).write_bytes(matrix_of(SCENARIOS, ORIGINS[3:], 3).encode())
-    refused([some, other], f"{other}: its shares aren't those of {some}")
+    refused([some, other], f"{other}: its percentiles aren't those of {some}")
 
 
 def test_parts_are_whole_in_order_and_about_equal() -> None:
@@ -134,7 +134,7 @@ def test_parts_are_whole_in_order_and_about_equal() -> None:
 
 def test_a_fault_leaves_no_part_behind(room: Room) -> None:
     room.write("some.csv", "stop_id", [["A"], ["B"], ["A"]])
-    message = f"{room.path('some.csv')}: record 4: A is there twice"
+    message = f"{room.path('some.csv')}: record 4: A occurs twice"
     room.refused(message, "split", "--origins", room.path("some.csv"), "--parts", "2", "--out", room.path("parts"))
     assert room.ran("split", "--feed", str(room.folder), "--parts", "0")[2] == 2
 

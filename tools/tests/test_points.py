@@ -51,9 +51,9 @@ def cells(room: Room, name: str = "cells.csv") -> str:
 def test_the_folder_has_what_a_run_needs(room: Room) -> None:
     town, out = feed(room), room.path("doors")
     _, errors, status = room.ran("points", town, cells(room), "--out", out, "--limit", "300", *PACE)
-    whole = f"{out}: 3 points, 4 footpaths; the words of a run are in {out}/words.txt"
-    rounded = "1 numbers with decimals were rounded for ttm"
-    assert (errors.splitlines(), status) == (["1 points have no stop in reach: 3", rounded, whole], 0)
+    whole = f"{out}: 3 points, 4 footpaths; the arguments of a run are in {out}/words.txt"
+    rounded = "1 number with decimals rounded for ttm"
+    assert (errors.splitlines(), status) == (["1 point without a stop in reach: 3", rounded, whole], 0)
     result = {str(path.relative_to(out)): path.read_text() for path in Path(out).rglob("*") if path.is_file()}
     assert result["footpaths.csv"] == "from_stop_id,to_stop_id,seconds\nA,1,30\nB,2,40\n1,A,30\n2,B,40\n"
     assert result["origins.csv"] == result["destinations.csv"] == "stop_id\n1\n2\n3\n"
@@ -90,7 +90,7 @@ def test_the_scenarios_of_a_plan_stay_beside_its_feed(room: Room) -> None:
 def test_points_without_a_stop_in_reach_are_left_out_if_asked_for(room: Room) -> None:
     out = room.path("doors")
     _, errors, _ = room.ran("points", feed(room), cells(room), "--out", out, "--leave-out", "--limit", "300", *PACE)
-    assert errors.splitlines()[0] == "1 points have no stop in reach and are left out: 3"
+    assert errors.splitlines()[0] == "1 point without a stop in reach, left out: 3"
     assert Path(out, "origins.csv").read_text() == "stop_id\n1\n2\n"
     assert Path(out, "footpaths.csv").read_text().splitlines()[1:] == ["A,1,30", "B,2,40", "1,A,30", "2,B,40"]
     assert Path(out, "feed", "points.csv").read_text().count("\n") == 3
@@ -102,8 +102,8 @@ def test_several_files_have_roles_and_collisions_get_the_name_of_the_file(room: 
     schools = room.write("schools.csv", "lon,lat,id,places", [[*reversed(place(0, 990)), "2", 70]])
     _, errors, _ = room.ran("points", town, "--origins", homes, "--destinations", schools, "--out", out, *PACE)
     assert errors.splitlines()[:2] == [
-        f"{homes}: identifiers begin with homes: in the feed, since one of them was there",
-        f"{out}: 3 points, 8 footpaths; the words of a run are in {out}/words.txt",
+        f"{homes}: identifiers begin with homes: in the feed, since one of them already exists",
+        f"{out}: 3 points, 8 footpaths; the arguments of a run are in {out}/words.txt",
     ]
     assert Path(out, "origins.csv").read_text() == "stop_id\nhomes:A\nhomes:2\n"
     assert Path(out, "destinations.csv").read_text() == "stop_id\n2\n"
@@ -117,14 +117,14 @@ def test_several_files_have_roles_and_collisions_get_the_name_of_the_file(room: 
     [
         ("id,lat", ["1", 0.1], "record 1: no column lon"),
         ("id,lat,lon", ["", 0.1, 1], "record 2: id is empty"),
-        ("id,lat,lon", ["1", "x", 1], "record 2: lat 'x' is no such number; allowed: degrees from -90 to 90"),
-        ("id,lat,lon", ["1", 0.1, 181], "record 2: lon '181' is no such number; allowed: degrees from -180 to 180"),
-        ("id,lat,lon", ["1", 0, "-0.0"], "record 2: lat and lon are 0 and 0, which is no place"),
-        ("id,lat,lon,jobs", ["1", 0.1, 1, -1], "record 2: jobs '-1' is none; allowed: a number from 0 on"),
+        ("id,lat,lon", ["1", "x", 1], "record 2: lat 'x' is invalid; allowed: degrees from -90 to 90"),
+        ("id,lat,lon", ["1", 0.1, 181], "record 2: lon '181' is invalid; allowed: degrees from -180 to 180"),
+        ("id,lat,lon", ["1", 0, "-0.0"], "record 2: lat and lon are 0 and 0, which is not a place"),
+        ("id,lat,lon,jobs", ["1", 0.1, 1, -1], "record 2: jobs '-1' is invalid; allowed: a number from 0 on"),
         (
             "id,lat,lon,width",
             ["1", 0.1, 1, 0],
-            "record 2: width '0' is no such number; allowed: metres above 0, up to 1,000,000, or nothing",
+            "record 2: width '0' is invalid; allowed: metres above 0, up to 1,000,000, or nothing",
         ),
     ],
 )
@@ -137,23 +137,23 @@ def test_what_is_there_twice_or_not_at_all_is_refused(room: Room) -> None:
     town = feed(room)
     twice = room.write("twice.csv", "id,lat,lon", [["1", 0.1, 1], ["2", 0.1, 1], ["1", 0.2, 1]])
     arguments = ["--out", room.path("doors")]
-    room.refused(f"{twice}: record 4: 1 is there twice", "points", town, twice, *arguments)
+    room.refused(f"{twice}: record 4: 1 occurs twice", "points", town, twice, *arguments)
     none = room.write("none.csv", "id,lat,lon", [])
     room.refused(f"{none}: no points", "points", town, none, *arguments)
     room.refused(f"{room.path('x.csv')}: No such file or directory", "points", town, room.path("x.csv"), *arguments)
-    room.refused(f"{town}: is there already, and isn't empty", "points", town, cells(room), "--out", town)
+    room.refused(f"{town}: already exists, and isn't empty", "points", town, cells(room), "--out", town)
 
 
 def test_what_ttm_does_not_take_is_told_before_anything_is_written(room: Room, monkeypatch: pytest.MonkeyPatch) -> None:
     arguments = ["points", feed(room), cells(room), "--out", room.path("doors"), "--limit", "300", *PACE]
-    helps = "--leave-out leaves out points without a stop in reach; or take parts of the region"
+    helps = "use --leave-out for points without a stop in reach, or take parts of the region"
     monkeypatch.setattr(study, "MOST_STOPS", 4)
     message = "2 locations of the feed and 3 points are more than the 4 that ttm takes"
     room.refused(f"{room.path('cells.csv')}: {message}: {helps}", *arguments)
     assert room.ran(*arguments, "--leave-out")[2] == 0
     monkeypatch.setattr(study, "MOST_STOPS", 65535)
     monkeypatch.setattr(study, "MOST_PAIRS", 3)
-    message = "4 walks are more than the 3 that ttm takes: a shorter --limit, or fewer points"
+    message = "4 walks are more than the 3 that ttm takes: use a shorter --limit, or fewer points"
     arguments[arguments.index("--out") + 1] = room.path("more")
     room.refused(f"{room.path('cells.csv')}: {message}; {helps}", *arguments)
 
@@ -347,7 +347,7 @@ def test_columns_of_text_are_labels_and_columns_may_have_other_names(room: Room)
 
 def test_a_column_with_a_number_and_a_text_is_refused(room: Room) -> None:
     path = room.write("p.csv", "id,lat,lon,jobs", [["p", *place(30, 0), "many"], ["q", *place(0, 1040), 4]])
-    message = f"{path}: record 2: jobs 'many' is none; allowed: a number from 0 on"
+    message = f"{path}: record 2: jobs 'many' is invalid; allowed: a number from 0 on"
     room.refused(message, "points", "--out", room.path("doors"), feed(room), path)
 
 

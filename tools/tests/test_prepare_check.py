@@ -46,7 +46,7 @@ DAYS = [
 
 
 def test_a_right_feed_has_no_faults(feed: Room) -> None:
-    assert checked(feed) == (["no faults", *DAYS], 0)
+    assert checked(feed) == (["no errors", *DAYS], 0)
 
 
 def test_all_faults_are_told_at_once_in_the_order_of_ttm(feed: Room) -> None:
@@ -72,13 +72,13 @@ def test_all_faults_are_told_at_once_in_the_order_of_ttm(feed: Room) -> None:
         "ttm: stop_times.txt: record 4: no time",
         "ttm: frequencies.txt: record 2: bad number",
     ]
-    message = "it is empty or a number: digits alone, 0 to 4294967295; 2 times: records 5, 7"
+    message = "it is empty or a number: digits only, 0 to 4294967295; 2 times: records 5, 7"
     assert lines[1] == f'  column location_type is "1.0"; {message}'
     single = (feed.folder / "faults.csv").read_text().splitlines()
     assert single[0] == "file,record,column,value,fault,allowed"
     assert single[3:5] == [
         "stops.txt,7,stop_id,,empty id,it may not be empty",
-        'stops.txt,7,location_type,x,bad number,"it is empty or a number: digits alone, 0 to 4294967295"',
+        'stops.txt,7,location_type,x,bad number,"it is empty or a number: digits only, 0 to 4294967295"',
     ]
 
 
@@ -91,7 +91,7 @@ def test_missing_files_and_columns_are_told_and_what_refers_to_them_is_not(feed:
         "ttm: trips.txt: missing file",
         1,
     )
-    assert lines[4:] == ["stops.txt: the column 'Stop_ID' isn't read; stop_id is meant?"]
+    assert lines[4:] == ["stops.txt: the column 'Stop_ID' isn't read: is stop_id meant?"]
 
 
 def test_what_is_likely_not_meant(feed: Room) -> None:
@@ -103,13 +103,13 @@ def test_what_is_likely_not_meant(feed: Room) -> None:
     feed.write("transfers.txt", "from_stop_id,to_stop_id,transfer_type,min_transfer_time", [["A", "B", 3, ""]])
     assert checked(feed) == (
         [
-            "no faults",
-            "stops.txt: 1 stops have no place, or 0 and 0, such as A",
+            "no errors",
+            "stops.txt: 1 stop without coordinates, or at 0 and 0, such as A",
             "runs from 2026-05-04 to 2026-05-04; the most, 7, on 2026-05-04",
             "runs on Mondays 7 (medians)",
-            "stop_times.txt: 1 trips call at a single stop",
-            "stop_times.txt: 1 calls are reached at over 300 km/h; the fastest, record 4, at 4,331",
-            "transfers.txt: 1 of 1 rows aren't used (of types above 2, of a route or trip, or without a time)",
+            "stop_times.txt: 1 trip with a single stop",
+            "stop_times.txt: 1 call reached at over 300 km/h; the fastest, record 4, at 4,331",
+            "transfers.txt: 1 of 1 rows aren't used (with a type above 2, for a route or trip, or without a time)",
         ],
         0,
     )
@@ -119,7 +119,7 @@ def test_calls_at_stations_are_counted(feed: Room) -> None:
     edit(feed, "stop_times.txt", "09:10:00,C", "09:10:00,S")
     lines, status = checked(feed)
     assert status == 1
-    assert "stop_times.txt: 1 records call at a station or another place that is no stop" in lines
+    assert "stop_times.txt: 1 call at a station or another location that is not a stop" in lines
 
 
 def test_no_feed_is_told_in_a_line(room: Room) -> None:
@@ -164,7 +164,7 @@ def test_the_row_with_which_there_are_too_many_footpaths(feed: Room, program: st
     rows += [["A", "B", 2, number] for number in range(19)]  # 2000 * 1999 + 45 * 44 + 19 are 3,999,999
     header = "from_stop_id,to_stop_id,transfer_type,min_transfer_time"
     feed.write("transfers.txt", header, [*rows, ["S7", "S7", 2, 60], ["B", "A", 2, 1]])
-    assert checked(feed)[0][0] == "no faults"
+    assert checked(feed)[0][0] == "no errors"
     feed.write("transfers.txt", header, [*rows, ["T1", "T", 2, 60], ["B", "A", 2, 1]])
     assert first_line_of_both(feed, program) == "ttm: transfers.txt: record 26: too many"
     message = "2 times: records 26, 27"

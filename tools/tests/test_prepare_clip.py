@@ -109,8 +109,8 @@ def test_a_long_file_is_clipped_alike_and_faults_outside_are_not_looked_at(
         assert {path.name: path.read_bytes() for path in (feed.folder / "out").iterdir()} == before
     whole = ["prepare", "--out", feed.path("whole"), feed.path("in")]
     feed.refused(
-        f"{feed.path('in')}: 2 faults, first stop_times.txt: record 14: unknown trip "
-        "(--check tells all, --repair mends what rules can)",
+        f"{feed.path('in')}: 2 errors, the first: stop_times.txt: record 14: unknown trip "
+        "(--check lists all, --repair repairs what its rules cover)",
         *whole,
     )
 
@@ -140,14 +140,14 @@ def test_areas_that_are_none_are_told(feed: Room) -> None:
         ({"type": "Polygon", "coordinates": [[[1, 1], [2, 1], [2, 2], [1, 1]]]}, "no stop of the feed lies in it"),
         (
             {"type": "Polygon", "coordinates": [[[0, 0], [5e6, 0], [5e6, 6e6], [0, 0]]]},
-            "coordinates that are no degrees; allowed: longitude and latitude, WGS 84",
+            "coordinates that are not degrees; allowed: longitude and latitude, WGS 84",
         ),
     ]
     for read, message in cases:
         (feed.folder / "area.json").write_text(json.dumps(read))
         feed.refused(f"{feed.path('area.json')}: {message}", *arguments)
     (feed.folder / "area.json").write_text('{"type": "Polygon", "coordinates": [[1]]}')
-    assert "a polygon that is none" in feed.ran(*arguments)[1]
+    assert "an invalid polygon" in feed.ran(*arguments)[1]
     feed.refused("--box: no stop of the feed lies in it", *arguments[:3], "--box", "1,1,2,2", feed.path("in"))
 
 
@@ -176,7 +176,7 @@ def test_a_date_keeps_what_runs_on_it(feed: Room, day: str, kept: str) -> None:
 def test_what_is_too_much_is_told_with_what_helps(feed: Room) -> None:
     many: Table = [[f"s{n}", 10 + n / 70_000, 0.5, "", ""] for n in range(65_536)]
     feed.write("in/stops.txt", HEAD, STOPS + many)
-    less = "fewer by --box, --area, --routes, --agency"
+    less = "use --box, --area, --routes or --agency"
     message = f"stops.txt: 65,543 records; ttm takes at most 65,535 records; {less}"
     feed.refused(message, "prepare", "--out", feed.path("out"), feed.path("in"))
     clipped(feed, "--box", SOUTH)

@@ -59,15 +59,16 @@ def test_dates_are_mended_where_all_agree_on_one_reading(feed: Room, start: str,
 
 def test_dates_of_two_readings_are_not_mended(feed: Room) -> None:
     calendar(feed, ["4/5/2026", "6/7/2026"], ["4/5/2026", "6/7/2026"])
-    message = "rule value takes 2 of 2 records of calendar.txt; calendar.txt and calendar_dates.txt have no records; "
-    message += "no trip runs on any day (--allow-loss takes what is left; --check tells all)"
+    message = "rule value removes 2 of 2 records of calendar.txt; calendar.txt and calendar_dates.txt have no records; "
+    message += "no trip runs on any day (--allow-loss writes the feed anyway; --check lists all errors)"
     feed.refused(f"{feed.path('in')}: {message}", "prepare", "--repair", "--out", feed.path("out"), feed.path("in"))
 
 
 def test_a_repair_that_takes_more_than_a_tenth_is_refused(feed: Room) -> None:
     calls: Table = [["T", "08:00:00", "08:00:00", "A", 0], ["T", "08:01:00", "08:01:00", "X", 1]]
     feed.write("in/stop_times.txt", STOP_TIMES, [*calls, ["U", "08:00:00", "08:00:00", "A", 0]])
-    message = "rule unknown takes 1 of 3 records of stop_times.txt (--allow-loss takes what is left; --check tells all)"
+    hint = "(--allow-loss writes the feed anyway; --check lists all errors)"
+    message = f"rule unknown removes 1 of 3 records of stop_times.txt {hint}"
     feed.refused(f"{feed.path('in')}: {message}", "prepare", "--repair", "--out", feed.path("out"), feed.path("in"))
     lines = prepared(feed, "--allow-loss")
     assert (
@@ -78,7 +79,7 @@ def test_a_repair_that_takes_more_than_a_tenth_is_refused(feed: Room) -> None:
 
 def test_a_record_that_is_there_twice_is_no_loss(feed: Room) -> None:
     feed.write("in/routes.txt", "route_id", [["R"], ["R"], ["R"]])
-    assert "same: routes.txt: 2 times record left out" in prepared(feed)
+    assert "same: routes.txt: 2 records removed" in prepared(feed)
 
 
 def test_a_repair_that_leaves_no_trip_on_any_day_is_refused(feed: Room) -> None:
@@ -90,14 +91,16 @@ def test_a_repair_that_leaves_no_trip_on_any_day_is_refused(feed: Room) -> None:
 
 def test_a_feed_whose_trips_run_on_no_day_is_refused_without_a_loss_of_records(feed: Room) -> None:
     calendar(feed, ["20261231", "20260504"], ["20261231", "2026-05-04"])
-    message = "no trip runs on any day (--allow-loss takes what is left; --check tells all)"
+    message = "no trip runs on any day (--allow-loss writes the feed anyway; --check lists all errors)"
     feed.refused(f"{feed.path('in')}: {message}", "prepare", "--repair", "--out", feed.path("out"), feed.path("in"))
 
 
 def test_a_feed_without_trips_on_the_date_is_refused(feed: Room) -> None:
     arguments = ["prepare", "--repair", "--date", "20270601", "--out", feed.path("out"), feed.path("in")]
-    message = "no trip runs on 2027-06-01, but from 2026-05-04 to 2026-12-31"
-    feed.refused(f"{feed.path('in')}: {message} (--allow-loss takes what is left; --check tells all)", *arguments)
+    message = "no trip runs on 2027-06-01, only from 2026-05-04 to 2026-12-31"
+    feed.refused(
+        f"{feed.path('in')}: {message} (--allow-loss writes the feed anyway; --check lists all errors)", *arguments
+    )
 
 
 def test_a_repair_tells_the_days_that_are_left(feed: Room) -> None:
@@ -114,7 +117,7 @@ def test_a_check_judges_runs_by_what_a_repair_would_leave(feed: Room) -> None:
     out, _, status = feed.ran("prepare", "--check", feed.path("in"))
     lines = out.splitlines()
     assert (status, "after --repair: no trip runs on any day" in lines) == (1, True)
-    assert "after --repair: rule value takes 2 of 2 records of calendar.txt" in lines
+    assert "after --repair: rule value removes 2 of 2 records of calendar.txt" in lines
 
 
 def test_bytes_that_are_not_utf_8_are_shown_as_windows_1252(feed: Room) -> None:

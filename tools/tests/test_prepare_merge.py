@@ -35,7 +35,7 @@ def test_identifiers_that_collide_get_a_prefix(room: Room) -> None:
     write_feed(room, "tram", "CD", "Q", "X")
     printed = merged(room, "bus", "tram")
     kinds = ("stop", "service", "trip", "agency")
-    lines = [f"tram: each {kind}'s identifier begins with tram:" for kind in kinds]
+    lines = [f"tram: the identifiers of all {kind}s begin with tram:" for kind in kinds]
     lines.insert(0, "left out, since no rule merges them: bus/fares.txt, tram/fares.txt")
     assert printed.splitlines() == [*lines, f"{room.path('out')}: 6 stops and stations, 2 trips, 4 stop times"]
     result = {path.name: path.read_text().splitlines()[1:] for path in (room.folder / "out").iterdir()}
@@ -62,7 +62,7 @@ def test_rules_name_the_feed(room: Room) -> None:
     out, errors, status = room.ran(
         "prepare", "--repair", "--out", room.path("out"), room.path("bus"), room.path("tram")
     )
-    assert status == 0 and errors.startswith("same: tram/routes.txt: 1 times record left out\n")
+    assert status == 0 and errors.startswith("same: tram/routes.txt: 1 record removed\n")
     result = (room.folder / "out" / "prepared.csv").read_text().splitlines()[1:]
     assert result == ["tram/routes.txt,3,route_id,Q,same,record left out"]
 

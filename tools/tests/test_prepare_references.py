@@ -68,8 +68,8 @@ def test_what_refers_to_what_went_goes_too(room: Room, arguments: tuple[str, str
         "attributions.txt": ["1"],
     }
     assert (
-        "left out with what they name: attributions.txt 1 records, fare_attributes.txt 1 records, fare_rules.txt 2 "
-        "records, pathways.txt 1 records, shapes.txt 1 records, stop_areas.txt 1 records, translations.txt 2 records"
+        "removed with what they name: attributions.txt 1 record, fare_attributes.txt 1 record, fare_rules.txt 2 "
+        "records, pathways.txt 1 record, shapes.txt 1 record, stop_areas.txt 1 record, translations.txt 2 records"
         in errors.splitlines()
     )
     assert "left out: stops.txt 2 of 4, routes.txt 1 of 2, trips.txt 1 of 2" in errors
@@ -112,7 +112,7 @@ def test_a_nameless_agency_is_named_where_feeds_are_merged(room: Room) -> None:
         room.write(f"{name}/agency.txt", "agency_name,agency_timezone", [[name, "Europe/Berlin"]])
         room.write(f"{name}/routes.txt", "route_id", [["R"], ["Q"]])
     _, errors, status = room.ran("prepare", "--out", room.path("out"), room.path("one"), room.path("two"))
-    assert status == 0 and "one: 6 records name its agency, one" in errors.splitlines()
+    assert status == 0 and "one: agency one added to 6 records" in errors.splitlines()
     out = Path(room.path("out"))
     assert (out / "agency.txt").read_text().splitlines()[1:] == ["one,Europe/Berlin,one", "two,Europe/Berlin,two"]
     assert (out / "routes.txt").read_text().splitlines()[1:] == ["R,one", "Q,one", "two:R,two", "two:Q,two"]

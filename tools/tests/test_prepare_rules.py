@@ -98,20 +98,21 @@ def test_what_holds_no_feed_or_several_is_told(feed: Room) -> None:
 
 def test_a_feed_with_faults_is_refused_without_repair(feed: Room) -> None:
     feed.write("in/routes.txt", "route_id", [["R"], ["R"], [""]])
-    message = "2 faults, first routes.txt: record 3: duplicate id (--check tells all, --repair mends what rules can)"
+    hint = "(--check lists all, --repair repairs what its rules cover)"
+    message = f"2 errors, the first: routes.txt: record 3: duplicate id {hint}"
     feed.refused(f"{feed.path('in')}: {message}", "prepare", "--out", feed.path("out"), feed.path("in"))
 
 
 def test_what_is_missing_is_refused_with_repair_too(feed: Room) -> None:
     (feed.folder / "in" / "trips.txt").unlink()
-    message = "1 faults, first trips.txt: missing file (--check tells all; no rule mends them)"
+    message = "1 error: trips.txt: missing file (--check lists all; no rule covers them)"
     feed.refused(f"{feed.path('in')}: {message}", "prepare", "--repair", "--out", feed.path("out"), feed.path("in"))
 
 
 def test_a_folder_that_is_not_empty_is_not_written_to(feed: Room) -> None:
     (feed.folder / "out").mkdir()
     (feed.folder / "out" / "mine").write_bytes(b"")
-    message = f"{feed.path('out')}: is there already, and isn't empty"
+    message = f"{feed.path('out')}: already exists, and isn't empty"
     feed.refused(message, "prepare", "--out", feed.path("out"), feed.path("in"))
 
 
@@ -175,7 +176,7 @@ def test_records_are_left_out(feed: Room) -> None:
         ["stop_times.txt", "7", "stop_sequence", "2", "duplicate", "record left out"],
         ["frequencies.txt", "2", "trip_id", "U", "trip", "record left out"],
     ]
-    assert lines[0] == "same: stops.txt: 1 times record left out"
+    assert lines[0] == "same: stops.txt: 1 record removed"
     assert texts(feed, "stop_times.txt")[1:] == ["T,08:00:00,08:00:00,A,1", "T,,,B,2", "T,08:10:00,08:10:00,C,3"]
 
 

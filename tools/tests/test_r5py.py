@@ -167,10 +167,10 @@ def test_the_older_names_give_the_same_and_warn(network: r5py.TransportNetwork) 
 
 
 REFUSED: list[tuple[str, Any, str]] = [
-    ("transport_modes", [r5py.TransportMode.CAR], "TransportMode.CAR isn't to be had"),
+    ("transport_modes", [r5py.TransportMode.CAR], "TransportMode.CAR isn't supported"),
     ("transport_modes", [r5py.TransportMode.TRANSIT, r5py.TransportMode.BICYCLE], "TransportMode.BICYCLE"),
     ("access_modes", [r5py.TransportMode.BICYCLE], "TransportMode.BICYCLE"),
-    ("egress_modes", [r5py.TransportMode.TRANSIT], r"one walks to and from stops: \[TransportMode.WALK\]"),
+    ("egress_modes", [r5py.TransportMode.TRANSIT], r"walk to and from stops: \[TransportMode.WALK\]"),
     ("max_bicycle_traffic_stress", 2, "leave it out"),
     ("max_time_driving", 30 * MINUTE, "leave it out"),
     ("speed_cycling", 15.0, "leave it out"),
@@ -239,10 +239,10 @@ def damage_feed(room: Room) -> str:
 def test_a_feed_with_errors_is_mended_with_a_warning(room: Room, cache: None, program: str) -> None:
     given = write_streets(room), damage_feed(room)
     for _ in range(2):  # the second time it is in the cache
-        with pytest.warns(UserWarning, match="time: stop_times.txt: 2 times mended"):
+        with pytest.warns(UserWarning, match="time: stop_times.txt: 2 fields repaired"):
             with r5py.TransportNetwork(*given, program=program) as network:
                 assert minutes(from_home(network)) == [41]
-    with pytest.raises(BadInput, match="2 faults, first stop_times.txt: record 3: bad time"):
+    with pytest.raises(BadInput, match="2 errors, the first: stop_times.txt: record 3: bad time"):
         r5py.TransportNetwork(*given, repair=False)
 
 
@@ -292,7 +292,7 @@ def test_more_places_than_ttm_takes_are_named(network: r5py.TransportNetwork, mo
         r5py.NotAvailable, match="^destinations: 3 locations of the feed and 2 points are more than the 4"
     ):
         from_home(network)
-    with pytest.raises(r5py.NotAvailable, match="^point_grid_resolution: 3 locations .*; ask for a larger one$"):
+    with pytest.raises(r5py.NotAvailable, match="^point_grid_resolution: 3 locations .*; use a larger one$"):
         r5py.Isochrones(network, degrees((0.0, 0.0)), departure=SEVEN_45, **QUARTER)
 
 

@@ -36,7 +36,7 @@ def test_each_block_of_the_page_runs(
     monkeypatch.setenv("TTM_CACHE", room.path("cache"))
     commands = re.findall(r"^    python3 (bench/.*)$", PAGE.read_text(), re.MULTILINE)
     assert [command.split()[0] for command in commands] == [f"bench/{name}" for name in MAKERS]
-    assert len(blocks) == 6
+    assert len(blocks) == 7
     names: dict[str, object] = {}
     with standing_in(room.folder):
         for command in commands:

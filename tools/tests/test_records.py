@@ -62,7 +62,7 @@ def test_a_number_that_is_none_is_told_by_its_record(room: Room) -> None:
     assert columns.numbers_of(found["b"], path, "b").tolist() == [2, 1, 3]
     with pytest.raises(BadInput) as seen:
         columns.numbers_of(found["a"], path, "a")
-    assert str(seen.value) == f"{path}: record 3: a 'x' is no number"
+    assert str(seen.value) == f"{path}: record 3: a 'x' is not a number"
 
 
 def test_lines_are_joined_of_pieces() -> None:

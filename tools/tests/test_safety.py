@@ -133,7 +133,7 @@ def test_signs_that_are_not_printed_are_shown_as_ttm_shows_them() -> None:
 def test_old_parts_are_told_and_not_left_for_a_glob(town: Town) -> None:
     arguments = ["split", "--feed", town.feed, "--out", town.path("parts")]
     assert town.ran(*arguments, "--parts", "4")[2] == 0
-    line = f"{town.path('parts')}/part_0003.csv: is of another split: name another folder, or remove it"
+    line = f"{town.path('parts')}/part_0003.csv: belongs to another split: name another folder, or remove it"
     assert town.ran(*arguments, "--parts", "2") == ("", f"ttm-tools split: {line}\n", 1)
     assert town.ran(*arguments, "--parts", "4")[2] == 0
 
@@ -214,11 +214,11 @@ def test_a_comma_for_a_point_and_formulas_are_told(room: Room) -> None:
     room.write("feed/stops.txt", "stop_id,stop_name,stop_lat,stop_lon", rows)
     out, _, status = room.ran("prepare", "--check", feed)
     assert status == 0
-    assert "stops.txt: 1 places have a comma where a point is meant, such as 50,5" in out
-    assert "stops.txt: 2 names begin as formulas of spreadsheets do, such as =HYPERLINK" in out
+    assert "stops.txt: 1 stop with a decimal comma in a coordinate, such as 50,5" in out
+    assert "stops.txt: 2 names that a spreadsheet reads as a formula, such as =HYPERLINK" in out
     points = room.write("points.csv", "id,lat,lon", [["P", "51,5", 7]])
     arguments = ["points", "--out", room.path("out"), feed, points]
-    assert "value" not in room.ran(*arguments)[1] and "'51,5' is no such number" in room.ran(*arguments)[1]
+    assert "value" not in room.ran(*arguments)[1] and "'51,5' is invalid" in room.ran(*arguments)[1]
 
 
 def test_advice_is_of_what_was_not_done_yet(room: Room, monkeypatch: pytest.MonkeyPatch) -> None:

@@ -105,7 +105,7 @@ def test_routes_and_trips_are_taken_out_and_shifted(small: Room) -> None:
 def test_trips_no_longer_call_at_a_stop(small: Room) -> None:
     feed, printed = made(small, 'do = "remove_stop"\nstop = ["A", "B"]')
     assert feed["R1"] == R1[2:] and feed["S1"] == ["D 08:10:00", "C 08:19:00 08:19:30"] and "Q1" not in feed
-    assert printed[1] == "  1 trips taken out that were left with a single call"
+    assert printed[1] == "  1 trip removed because only one call was left"
     (small.folder / "out").rename(small.folder / "before")
     feed, _ = made(small, 'do = "remove_stop"\nstop = "A"\nroute = "Q"\n', 'do = "remove_stop"\nstop = "C"')
     assert "Q1" not in feed and feed["R1"] == [R1[0], R1[1], R1[3]]
@@ -151,9 +151,9 @@ def test_departures_are_added_between_those_that_are_there(small: Room) -> None:
         ["A 08:40:00", "B 08:45:00 08:45:30", "C 08:51:00 08:51:30", "D 09:01:00"],
     ]
     assert {"R1", "R2", "R3", "S1", "Q1"} <= feed.keys()
-    assert [line for line in message if "added between" in line] == [
-        "  route R, A to D: 2 departures added between 2",
-        "  route R, D to A: 0 departures added between 1",
+    assert [line for line in message if "added to" in line] == [
+        "  route R, A to D: 2 departures added to 2",
+        "  route R, D to A: 0 departures added to 1",
     ]
     services = {row["trip_id"]: row["service_id"] for row in rows(small, "out/trips.txt")}
     assert [service for name, service in services.items() if "#" in name] == ["M", "M"]
@@ -172,8 +172,8 @@ def test_copies_of_a_typical_trip_run_every_so_often(small: Room) -> None:
     assert sorted(feed) == ["Q1", "R1#1", "R1#2", "R1#3", "R1#4", "S1#1", "S1#2", "S1#3", "S1#4"]
     assert feed["R1#2"] == ["A 08:20:00", "B 08:25:00 08:25:30", "C 08:31:00 08:31:30", "D 08:40:00"]
     assert message[1:3] == [
-        "  route R, A to D: 3 departures give way to 4, copies of trip R1 (4 calls, 00:20:00)",
-        "  route R, D to A: 1 departures give way to 4, copies of trip S1 (4 calls, 00:20:00)",
+        "  route R, A to D: 3 departures replaced by 4, copies of trip R1 (4 calls, 00:20:00)",
+        "  route R, D to A: 1 departure replaced by 4, copies of trip S1 (4 calls, 00:20:00)",
     ]
     services = {row["trip_id"]: row["service_id"] for row in rows(small, "out/trips.txt")}
     assert services["R1#4"] == "M"  # whose days are those of W too
@@ -193,7 +193,7 @@ def test_departures_by_headways_give_way_too(small: Room) -> None:
     assert feed["Q1#2"] == ["A 08:15:00", "D 08:45:00"] and "Q1" in feed
     found = [[row["trip_id"], row["start_time"], row["end_time"]] for row in rows(small, "out/frequencies.txt")]
     assert found == [["Q1", "07:40:00", "07:50:01"], ["Q1", "08:30:00", "08:50:01"]]
-    assert "3 departures give way to 2, copies of trip Q1" in message[1]
+    assert "3 departures replaced by 2, copies of trip Q1" in message[1]
 
 
 def test_run_times_by_a_factor_add_up_without_drift(small: Room) -> None:
@@ -267,7 +267,7 @@ def test_the_agency_of_a_new_line_is_told(small: Room) -> None:
     small.write("feed/routes.txt", "route_id,agency_id,route_type", [["R", "City", 3], ["Q", "Other", 3]])
     line = 'do = "add_line"\nroute = "N"\nstops = ["A", "B"]\nseconds = [60]\ndays = "daily"\n'
     line += 'departures = [{ first = "08:00", last = "08:00", every = 60 }]'
-    assert "  route N: of the agency City" in made(small, line)[1]
+    assert "  route N: agency City" in made(small, line)[1]
 
 
 def test_an_action_that_is_none_is_told_with_all_that_there_are(small: Room) -> None:
@@ -397,18 +397,18 @@ def test_the_examples_of_the_page_for_analysts(room: Room, actions: list[str], f
 FAULTS = [
     (
         'do = "remove_rout"\nroute = "R"',
-        "line 4: do 'remove_rout' is no action; the nearest is 'remove_route'; allowed: "
+        "line 4: do 'remove_rout' is not an action; the nearest is 'remove_route'; allowed: "
         "remove_route, remove_trip, remove_stop, shift_route, shift_trip, add_line, headway, speed, extend, cut",
     ),
     ('do = "remove_route"\nroutes = "R"', "line 5: routes isn't known; the nearest is 'route'; allowed: do, route"),
     (
         'do = "remove_route"\n\nroute = "13"',
-        "line 6: route '13' is no route of the feed or of the scenario; the nearest is 'R', which bears this name",
+        "line 6: route '13' is not a route of the feed or of the scenario; the nearest is 'R', which has this name",
     ),
-    ('do = "remove_trip"\ntrip = "R11"', "line 5: trip 'R11' is no trip of the feed; the nearest is 'R1'"),
+    ('do = "remove_trip"\ntrip = "R11"', "line 5: trip 'R11' is not a trip of the feed; the nearest is 'R1'"),
     (
         'do = "remove_stop"\nstop = "Delta"',
-        "line 5: stop 'Delta' is no stop of the feed or of the plan; the nearest is 'D', which bears this name",
+        "line 5: stop 'Delta' is not a stop of the feed or of the plan; the nearest is 'D', which has this name",
     ),
     (
         'do = "shift_trip"\ntrip = "R1"\nseconds = -30000',
@@ -422,11 +422,11 @@ FAULTS = [
     ('do = "speed"\nroute = "R"\nfactor = 1.0', "line 6: factor changes no time"),
     (
         'do = "speed"\nroute = "R"\nfactor = "1"',
-        "line 6: factor '1' isn't one; allowed: a number from 0 to 100, of at most six decimals",
+        "line 6: factor '1' is invalid; allowed: a number from 0 to 100, with at most six decimals",
     ),
     (
         'do = "speed"\nroute = "Q"\nfrom_stop = "B"\nfactor = 2',
-        "line 6: from_stop no trip of the route calls there and at to_stop afterwards",
+        "line 6: from_stop no trip of the route calls there and later at to_stop",
     ),
     (
         'do = "headway"\nroute = "R"\nevery = 600\nfrom = "9:00"\nto = "08:00"',
@@ -434,36 +434,36 @@ FAULTS = [
     ),
     (
         'do = "headway"\nroute = "Q"\ntimes = 2\nfrom = "08:00"\nto = "09:00"',
-        "line 6: times leaves nothing between 08:00:00 and 09:00:00 to be added to",
+        "line 6: times adds no departure between 08:00:00 and 09:00:00",
     ),
     (
         'do = "headway"\nroute = "R"\nevery = 600\ntimes = 2\nfrom = "08:00"\nto = "09:00"',
-        "line 7: times is there together with every; allowed: one of every, times",
+        "line 7: times is given together with every; allowed: one of every, times",
     ),
     (
         'do = "headway"\nroute = "R"\nevery = 600\nfrom = "9:60"\nto = "10:00"',
-        "line 7: from '9:60' is no time; allowed: HH:MM or HH:MM:SS, from 00:00 to 167:59:59",
+        "line 7: from '9:60' is not a time; allowed: HH:MM or HH:MM:SS, from 00:00 to 167:59:59",
     ),
     (
         'do = "extend"\nroute = "R"\nafter = "C"\nstops = ["B"]\nseconds = [1]',
-        "line 6: after 'C' is no stop at which trips of the route end",
+        "line 6: after 'C' is not a stop at which trips of the route end",
     ),
     (
         'do = "extend"\nroute = "R"\nafter = "D"\nstops = ["B"]\nseconds = [1, 2]',
-        "line 8: seconds '[1, 2]' isn't that; allowed: 1 whole numbers between brackets, 0 to 86,400",
+        "line 8: seconds '[1, 2]' is invalid; allowed: 1 whole number in brackets, 0 to 86,400",
     ),
     ('do = "cut"\nroute = "Q"\nafter = "C"', "line 6: after 'C' leaves all trips of the route as they are"),
     (
         'do = "cut"\nroute = "Q"\nafter = "D"\nbefore = "D"',
-        "line 7: before is there together with after; allowed: one of after, before",
+        "line 7: before is given together with after; allowed: one of after, before",
     ),
     (
         'do = "add_line"\nroute = "Q"\nstops = ["A", "B"]',
-        "line 5: route 'Q' is a route already",
+        "line 5: route 'Q' is already a route",
     ),
     (
         'do = "add_line"\nroute = "R@new"\nstops = ["A", "B"]',
-        "line 5: route 'R@new' can't be a new route's name; behind an @ stands a scenario",
+        "line 5: route 'R@new' can't be the name of a new route: a scenario's name follows an @",
     ),
     ('name = "x"', "line 3: do needed"),
 ]
@@ -482,18 +482,21 @@ def test_plans_that_are_none(small: Room) -> None:
     )
     allowed = "at most 100 bytes, no dot or space in front, none of / \\ @ # , and quotes; base and today are taken"
     for text, printed in (
-        ("[[scenario]\n", ": is no TOML file: Expected ']]' at the end of an array declaration (at line 1, column 11)"),
+        (
+            "[[scenario]\n",
+            ": is not a TOML file: Expected ']]' at the end of an array declaration (at line 1, column 11)",
+        ),
         ("# nothing\n", ": line 1: scenario needed"),
         ("[[szenario]]\n", ": line 1: szenario isn't known; the nearest is 'scenario'; allowed: scenario, stop"),
         ('[[scenario]]\nname = "x"\n', ": line 1: action needed"),
         (one.format("today"), f": line 2: name 'today' can't be a scenario's name; allowed: {allowed}"),
         (one.format("a/b"), f": line 2: name 'a/b' can't be a scenario's name; allowed: {allowed}"),
-        (2 * one.format("x"), ": line 7: name 'x' is there twice"),
+        (2 * one.format("x"), ": line 7: name 'x' occurs twice"),
         (
             "".join(one.format(f"s{number}") for number in range(15)),
             ": line 72: name 's14' is scenario 15; ttm takes 14 in addition to base and today",
         ),
-        (one.format("x") + '[[stop]]\nid = "A"\n', ": line 7: id 'A' is there already"),
+        (one.format("x") + '[[stop]]\nid = "A"\n', ": line 7: id 'A' already exists"),
     ):
         plan.write_text(text)
         small.refused(f"{plan}{printed}", "scenarios", small.path("feed"), str(plan), "--out", small.path("out"))
@@ -501,7 +504,9 @@ def test_plans_that_are_none(small: Room) -> None:
     arguments = ["scenarios", small.path("feed"), str(plan), "--out", small.path("out")]
     small.refused(f"{plan}: no scenario y", *arguments, "--only", "y")
     Path(small.path("feed/stop_times.txt")).write_text("trip_id,stop_id,stop_sequence\nR1,X,1\n")
-    printed = "2 faults, first stop_times.txt: record 2: unknown stop (ttm-tools prepare tells and mends them)"
+    printed = (
+        "2 errors, the first: stop_times.txt: record 2: unknown stop (ttm-tools prepare reports and repairs errors)"
+    )
     small.refused(f"{small.path('feed')}: {printed}", *arguments)
 
 
@@ -509,7 +514,7 @@ def test_lines_are_counted_past_comments_and_long_texts(small: Room) -> None:
     text = '# [[scenario]]\n[[scenario]]\nname = """\\\n  new"""\n[[ scenario.action ]]\n'
     text += '"do" = "cut" # [\nroute = [\n "R",\n]\nafter = "X"\n'
     Path(small.path("plan.toml")).write_text(text)
-    message = f"{small.path('plan.toml')}: line 10: after 'X' is no stop of the feed or of the plan"
+    message = f"{small.path('plan.toml')}: line 10: after 'X' is not a stop of the feed or of the plan"
     small.refused(message, "scenarios", small.path("feed"), small.path("plan.toml"), "--out", small.path("out"))
 
 
@@ -545,17 +550,19 @@ def test_walks_that_bring_old_stops_nearer_are_told(small: Room) -> None:
     made(small, f'{line}\ndepartures = [{{ first = "8:00", last = "8:00", every = 60 }}]', before=NEW_STOP)
     message = f"{small.path('out/footpaths.csv')}: {{}} footpaths; {{}}\n"
     assert small.ran("walks", "--limit", "3000", small.path("out"))[1] == message.format(
-        20, "0 stops have no coordinates"
+        20, "0 stops without coordinates"
     )
     table = [["A", "N", 290], ["N", "B", 300], ["A", "B", 590], ["B", "A", 600]]
     small.write("walks.csv", "from_stop_id,to_stop_id,seconds", table)
     arguments = ["walks", "--table", small.path("walks.csv"), small.path("out")]
-    assert small.ran(*arguments)[1] == message.format(4, "0 seconds with decimals were rounded up")
+    assert small.ran(*arguments)[1] == message.format(4, "0 times with decimals rounded up")
     small.write("walks.csv", "from_stop_id,to_stop_id,seconds", [*table[:2], ["A", "B", 591], ["B", "A", 600]])
-    nearer = "walks to new stops bring 1 pairs of old stops nearer, so today isn't as it was: A and B, "
-    assert small.ran(*arguments)[1].splitlines()[1] == f"{nearer}590 seconds apart by way of them, and 591 without"
+    nearer = (
+        "walks to new stops bring 1 pair of old stops nearer to each other, so today differs from the feed: A and B, "
+    )
+    assert small.ran(*arguments)[1].splitlines()[1] == f"{nearer}590 seconds apart by way of them, and 591 without them"
     small.write("walks.csv", "from_stop_id,to_stop_id,seconds", [*table[:2], ["B", "A", 600]])
-    assert small.ran(*arguments)[1].endswith("590 seconds apart by way of them, and out of reach without\n")
+    assert small.ran(*arguments)[1].endswith("590 seconds apart by way of them, and out of reach without them\n")
 
 
 @pytest.fixture
@@ -567,7 +574,10 @@ def with_new_stop(small: Room) -> Room:
     return small
 
 
-NEARER = "walks to new stops bring 1 pairs of old stops nearer, so today isn't as it was: A and B, 590 seconds apart"
+NEARER = (
+    "walks to new stops bring 1 pair of old stops nearer to each other, so today differs from the feed: "
+    "A and B, 590 seconds apart"
+)
 
 
 def test_walks_that_bring_old_stops_nearer_are_told_in_python(with_new_stop: Room, program: str) -> None:
@@ -614,25 +624,25 @@ def test_limits_of_ttm_are_told_before_anything_is_written(small: Room, monkeypa
         (
             "scenario_files.MOST_RECORDS",
             4,
-            ": line 2: name 'late' takes a scenario file of 5 records, and ttm 4: fewer trips, or whole routes",
+            ": line 2: name 'late' takes a scenario file of 5 records, and ttm 4: change fewer trips, or whole routes",
         ),
-        ("base.MOST_STOPS", 4, ": line 17: id makes 5 stops and stations, and ttm takes 4"),
+        ("base.MOST_STOPS", 4, ": line 17: id makes 5 stops and stations; ttm takes 4"),
     ):
         (small.folder / "plan.toml").write_text(TWO + NEW_STOP * name.endswith("STOPS"))
         with monkeypatch.context() as patch:
             patch.setattr(f"ttm_tools.plans.{name}", most)
-            small.refused(plan + printed.format("fewer scenarios, or actions on fewer trips"), *arguments)
+            small.refused(plan + printed.format("use fewer scenarios, or change fewer trips"), *arguments)
 
 
 def test_what_a_day_of_all_scenarios_has_is_told(small: Room, monkeypatch: pytest.MonkeyPatch) -> None:
     """On Monday run all five trips and another one of Q, with 20 calls, on Tuesday and Wednesday all but R3."""
     (small.folder / "plan.toml").write_text(TWO)
-    what = "all scenarios together: on a day at most 6 runs with 20 stop times (2026-05-04)"
-    more = "with a day before and one after {}: --back 0 --ahead 0, since ttm takes 1,000,000 and 20"
+    what = "all scenarios together: at most 6 runs with 20 stop times on a day (2026-05-04)"
+    more = "with the day before and after {}: use --back 0 --ahead 0, since ttm takes 1,000,000 and 20"
     for most, printed in (
         (60, what),
         (20, f"{what}; {more.format('16 runs with 52')}"),
-        (19, f"{what}, and ttm takes 1,000,000 and 19: fewer scenarios, or actions on fewer trips"),
+        (19, f"{what}, and ttm takes 1,000,000 and 19: use fewer scenarios, or change fewer trips"),
     ):
         with monkeypatch.context() as patch:
             patch.setattr("ttm_tools.plans.limits.MOST_STOP_TIMES", most)

@@ -155,7 +155,7 @@ def test_wrong_words_are_told(line: Room) -> None:
     for arguments in (["--periods", "08:00"], ["--periods", "9:00,08:00"], ["--periods", "08:00,x"], ["--by", "x"]):
         assert line.ran("service", str(line.folder), "--date", "20260504", *arguments)[2] == 2
     other = line.write("scenarios.csv", "action,id,seconds", [])
-    message = "scenario files are called by their names, each once, and none base"
+    message = "two scenario files have the same name, or one is called base"
     line.refused(f"{other}, {other}: {message}", "service", str(line.folder), other, other, "--date", "20260504")
 
 

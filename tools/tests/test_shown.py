@@ -75,7 +75,7 @@ def test_points_for_a_geographic_information_system(town: Town) -> None:
     arguments = ["gis", "--feed", town.feed, "--points", points(town), "--origin", "D", "--out", town.path("p.geojson")]
     assert (
         town.ran(*arguments, "--scenario", "cut", town.file)[1]
-        == f"{town.path('p.geojson')}: 2 stops; 0 have no coordinates\n"
+        == f"{town.path('p.geojson')}: 2 stops; 0 without coordinates\n"
     )
     features = json.loads(Path(town.path("p.geojson")).read_text())["features"]
     assert [feature["properties"] for feature in features] == [
@@ -88,7 +88,7 @@ def test_an_origin_that_is_no_column_is_drawn_too(town: Town) -> None:
     """As in a matrix whose columns are other stops than its origins."""
     town.matrix(town_matrix(True, {name: {"D": TOWN[name]["D"][:3]} for name in TOWN}, stops=("A", "B", "C")))
     arguments = ["gis", "--feed", town.feed, "--out", town.path("p.geojson"), town.file]
-    assert town.ran(*arguments)[1] == f"{town.path('p.geojson')}: 4 stops; 0 have no coordinates\n"
+    assert town.ran(*arguments)[1] == f"{town.path('p.geojson')}: 4 stops; 0 without coordinates\n"
     features = json.loads(Path(town.path("p.geojson")).read_text())["features"]
     assert [feature["properties"]["base_50_access_1800"] for feature in features] == [None, None, None, 2]
 
@@ -120,4 +120,4 @@ def test_squares_as_wide_as_the_file_says_and_marks_for_the_others(town: Town, m
     assert wide.tolist() == pytest.approx([0.4, 0.4])
     assert access.texts[0].get_text() == "Access from each point: opportunities within 30 minutes"
     classes = [text.get_text() for text in access.legends[0].get_texts()]
-    assert classes[1:] == ["no origin of the matrix  (1)", "where vehicles run"]
+    assert classes[1:] == ["not an origin of the matrix  (1)", "where vehicles run"]

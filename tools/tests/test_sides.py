@@ -34,7 +34,7 @@ def two_scenarios(access: list[list[int]]) -> str:
 def test_an_origin_that_gains_from_nothing_is_newly_reached(town: Town, monkeypatch: pytest.MonkeyPatch) -> None:
     town.matrix(two_scenarios([[0, 5, 1000, 7], [1, 0, 999, 7]]))
     texts, _, classes = figure(town, monkeypatch, "difference")
-    message = "Of 4 stops 2 lose (1 of them cut off), 1 gain (1 of them newly reached); the most: 100 %"
+    message = "Of 4 stops 2 lose (1 of them cut off), 1 gains (1 of them newly reached); the greatest loss: 100 %"
     assert texts[1].startswith(message)
     wanted = ["cut off: all of it lost  (1)", "less than 1 % either way  (2)", "newly reached: none before  (1)"]
     assert classes[:3] == wanted
@@ -61,7 +61,7 @@ def test_map_page_and_compare_count_alike(
     _, errors, _ = town.ran("compare", "--by", "origin", "--feed", town.feed, "--out", town.path("c.csv"), town.file)
     assert town.ran("page", "--feed", town.feed, "--out", town.path("p.html"), town.file)[2] == 0
     browser.open(Path(town.path("p.html")), "view=access")
-    counts = re.search(r"[0-9]+ lose( \([0-9]+ of them cut off\))?, [0-9]+ gain( \([^)]* reached\))?", errors)
+    counts = re.search(r"[0-9]+ loses?( \([0-9]+ of them cut off\))?, [0-9]+ gains?( \([^)]* reached\))?", errors)
     assert counts is not None, errors
     assert texts[1].startswith(f"Of 4 stops {counts[0]}")
     assert browser.text("told") == f"cut compared with base: of 4 places {counts[0]}."

@@ -81,8 +81,8 @@ def test_what_is_far_from_a_street_is_told_and_joined_by_a_straight_line(room: R
     streets = river(room, STREET)
     assert walked(room, "--streets", streets, detour=2)["A", "D"] == math.ceil(9.5 + 150 + 2 * 250)
     _, errors, _ = room.ran("walks", "--speed", "1", "--streets", streets, str(room.folder))
-    here = "1 stops have no coordinates; 1 are more than 100 metres from a street and joined to it by a straight line"
-    assert errors == f"{room.path('footpaths.csv')}: 2 footpaths; {here}; 1 have no street in reach\n"
+    here = "1 stop without coordinates; 1 more than 100 metres from a street, joined to it by a straight line"
+    assert errors == f"{room.path('footpaths.csv')}: 2 footpaths; {here}; 1 without a street in reach\n"
     assert walked(room, "--streets", streets, "--near", "250.5", detour=2)["A", "D"] == math.ceil(9.5 + 150 + 250)
 
 

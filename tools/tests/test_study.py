@@ -163,7 +163,7 @@ def test_the_matrix_is_that_of_one_run_and_every_result_is_there(place: Place, p
     assert files["matrix.csv"] == whole
     report = files["report.md"].decode()
     assert files["compare_cut.csv"].splitlines()[1].startswith(b"S8,Stop S8,")
-    for printed in ("Who loses if Q goes?", "18 times mended", sum_of(place.path("jobs.csv")), "proved"):
+    for printed in ("Who loses if Q goes?", "18 fields repaired", sum_of(place.path("jobs.csv")), "proved"):
         assert printed in report
     assert {"access.csv", "equity.csv", "maps/access.png", "maps/access_cut.png", "matrix.omx"} < set(files)
     # who sets out from S0 after 08:00 reaches S1 on foot and nothing else today: 0.4 and 100.4 jobs
@@ -241,7 +241,7 @@ def test_a_part_of_other_inputs_or_with_other_bytes_is_never_taken(place: Place,
     rotten = (parts / "0001/matrix.csv").read_bytes()
     (parts / "0001/matrix.csv").write_bytes(rotten.replace(b"base,S0,25,100,", b"base,S0,25,200,"))
     (place.folder / "nine/matrix.omx").unlink()
-    with pytest.raises(BadInput, match="parts/0001/matrix.csv: changed since it was made"):
+    with pytest.raises(BadInput, match="parts/0001/matrix.csv: changed since it was written"):
         make_study(study, place.folder / "nine", Means(2))
     assert computed_after(study, place) == wanted
 
@@ -263,25 +263,24 @@ def test_a_part_that_fails_is_named_and_the_others_go_on(
     bad.chmod(0o755)
     monkeypatch.setenv("TTM_PROGRAM", str(bad))
     _, errors, status = place.ran("study", path)
-    line = "parts/0002: ttm: out of memory (1 of 4 parts have no matrix; the same command tries them again)"
+    line = "parts/0002: ttm: out of memory (1 of 4 parts have no matrix; the same command retries them)"
     assert (status, errors.splitlines()[-1]) == (1, f"ttm-tools study: {line}")
     assert "part 2: ttm: out of memory" in errors.splitlines()
     there = sorted(path.parent.name for path in (place.folder / "nine/parts").glob("*/key"))
     assert there == ["0001", "0003", "0004"]
     monkeypatch.setenv("TTM_PROGRAM", program)
     _, errors, status = place.ran("study", path)
-    assert (status, "parts: 3 of 4 are there already" in errors) == (0, True)
+    assert (status, "parts: 3 of 4 already done" in errors) == (0, True)
 
 
 def test_verification_computes_rows_again_and_tells_what_was_changed(place: Place) -> None:
     make_study(read_study(place.lay_out(NO_MAPS)), place.folder / "nine", Means(2))
     folder = place.path("nine")
-    message = (
-        "sums: 21 files are as study.json says\nrows: those of 1 of 9 origins, drawn by --seed 7, have the same bytes\n"
-    )
+    rows = "rows: those of 1 of 9 origins, chosen with --seed 7, have the same bytes\n"
+    message = f"checksums: 21 files are as study.json says\n{rows}"
     assert place.ran("study", "--verify", folder, "--seed", "7") == ("", message, 0)
     (place.folder / "nine/access.csv").write_text("spoilt\n")
-    message = "ttm-tools study: access.csv: has another sum than study.json says: it was changed\n"
+    message = "ttm-tools study: access.csv: has another checksum than study.json says: it was changed\n"
     assert place.ran("study", "--verify", folder) == ("", message, 1)
 
 
@@ -320,18 +319,24 @@ def test_wrong_words_of_a_study_are_told_with_their_line_and_the_nearest_name(ba
         (
             "shares = [25, 50]",
             "shares = [50, 25]",
-        ): "line 9: shares '[50, 25]' isn't that; allowed: 1 to 8 whole numbers",
+        ): "line 9: shares '[50, 25]' is invalid; allowed: 1 to 8 whole numbers",
         ('to = "08:04"', 'to = "07:59"'): "line 8: to '07:59' is before from",
-        ('to = "08:04"', 'to = "8:04"'): "line 8: to '8:04' is no time; allowed: HH:MM between quotes, 00:00 to 23:59",
-        ("date = 2026-05-04", 'date = "20260532"'): "line 6: date '20260532' is no date; allowed: YYYY-MM-DD",
-        ("date = 2026-05-04\n", ""): "line 5: date is needed; allowed: YYYY-MM-DD, or YYYYMMDD between quotes",
-        ('files = ["jobs.csv"]', 'files = ["job.csv"]'): "line 12: files 'job.csv' isn't there; allowed: a path from",
-        ("csv = true", "csv = 1"): "line 18: csv '1' isn't one; allowed: true or false",
-        ("csv = true", "within = 900"): "line 18: within '900' is none of limits of [run]; allowed: 600, 1800",
+        (
+            'to = "08:04"',
+            'to = "8:04"',
+        ): "line 8: to '8:04' is not a time; allowed: HH:MM in quotes, 00:00 to 23:59",
+        ("date = 2026-05-04", 'date = "20260532"'): "line 6: date '20260532' is not a date; allowed: YYYY-MM-DD",
+        ("date = 2026-05-04\n", ""): "line 5: date is needed; allowed: YYYY-MM-DD, or YYYYMMDD in quotes",
+        (
+            'files = ["jobs.csv"]',
+            'files = ["job.csv"]',
+        ): "line 12: files 'job.csv' isn't there; allowed: a path, relative",
+        ("csv = true", "csv = 1"): "line 18: csv '1' is invalid; allowed: true or false",
+        ("csv = true", "within = 900"): "line 18: within '900' is not among limits of [run]; allowed: 600, 1800",
         ("csv = true", 'decay = "linear"'): "line 18: decay 'linear' needs decay_value, minutes above 0",
         ("csv = true", 'decay = "steep"'): "line 18: decay 'steep' isn't one of",
-        ("count = 4", "count = 0"): "line 21: count '0' isn't one; allowed: a whole number from 1 to 9,999",
-        ("count = 4", "count = "): "is no TOML file: Invalid value (at line 21, column 9)",
+        ("count = 4", "count = 0"): "line 21: count '0' is invalid; allowed: a whole number from 1 to 9,999",
+        ("count = 4", "count = "): "is not a TOML file: Invalid value (at line 21, column 9)",
         ("[feed]\n", "[feed]\nready = true\nrepair = true\n"): "line 5: repair doesn't go with ready; allowed: one of",
     }
     for (old, new), printed in cases.items():
@@ -407,7 +412,7 @@ def test_how_many_parts_are_done_is_told_with_the_time_that_is_left(
     clock = iter([0.0, 61.0, 122.0, 183.0])
     monkeypatch.setattr("ttm_tools.study.running.time", SimpleNamespace(monotonic=lambda: next(clock)))
     assert list(shown(iter([None] * 3), 3)) == [None] * 3
-    printed = ["parts: 1 of 3, about 0:02:02 more", "parts: 2 of 3, about 0:01:01 more"]
+    printed = ["parts: 1 of 3, about 0:02:02 left", "parts: 2 of 3, about 0:01:01 left"]
     assert capsys.readouterr().err.splitlines() == printed
 
 
@@ -420,7 +425,7 @@ def test_one_part_is_computed_where_the_folder_says_so(place: Place, monkeypatch
     study = read_study(place.lay_out(NO_MAPS.replace("count = 4", "count = 4\nkeep = true")))
     make_study(study, place.folder / "nine", Means(2))
     folder, arguments = place.folder / "nine", ["study", "--part", "3", place.path("nine")]
-    message = f"ttm-tools study: {folder}: is no folder of a study with parts to compute: no parts/run.json\n"
+    message = f"ttm-tools study: {folder}: is not the folder of a study with parts to compute: no parts/run.json\n"
     assert place.ran(*arguments) == ("", message, 1)
     inputs = {"words": json.loads((folder / "study.json").read_text())["run"]}
     part = folder / "parts/0003"
@@ -479,4 +484,4 @@ def test_a_fault_is_told_with_what_explains_it_and_without_the_report(facts: str
 
 def test_a_run_that_says_nothing_of_its_end_is_told_by_its_last_line_or_its_status() -> None:
     assert fault_of(FACTS.encode(), -9) == "ttm: rows done: 2 of 3, 66 percent, about 0:00:00 left"
-    assert fault_of(b"\n", -9) == "ttm ended with status -9 and said nothing"
+    assert fault_of(b"\n", -9) == "ttm ended with status -9 and printed nothing"

@@ -40,7 +40,7 @@ def test_the_cells_are_those_of_points_with_a_grid(place: Place) -> None:  # noq
     matrix = open_matrix(place.path("nine/matrix.omx"))
     assert matrix.origins("base", 50) == matrix.stops == [cell["id"] for cell in cells]
     report = Path(place.path("nine/report.md")).read_text()
-    assert "inputs/grid.csv" not in report.split("SHA-256 checksums")[1].split("What was done")[0]
+    assert "inputs/grid.csv" not in report.split("SHA-256 checksums")[1].split("How the inputs were prepared")[0]
     assert place.ran("study", "--verify", place.path("nine"))[2] == 0
 
 
@@ -74,7 +74,7 @@ def test_what_is_done_of_a_grid_is_not_done_again(place: Place) -> None:  # noqa
         ('[points]\ngrid_area = "region.geojson"\nfiles = ["homes.csv"]\n', "grid_area needs grid"),
         ('[points]\ngrid = 300\norigins = ["homes.csv"]\ndestinations = ["homes.csv"]\n', "cells are the other end"),
         ("[points]\ngrid = 5\n", "allowed: a number from 10 to 100,000 metres"),
-        ("[points]\ngrid = 300\n[walks]\nnone = true\n", "none doesn't go with [points], whose walks are made"),
+        ("[points]\ngrid = 300\n[walks]\nnone = true\n", "none doesn't go with [points], whose walks are computed"),
         ('[points]\ngrid = 300\ngrid_people = ["none.csv"]\n', "grid_people 'none.csv' isn't there"),
     ],
 )

@@ -19,7 +19,7 @@ from ttm_tools.files import Interrupted
 from ttm_tools.study.cutting import Part
 from ttm_tools.study.running import Pool, run_parts, tell_ending
 
-WAITED_FOR = "interrupted: the parts that run are waited for and kept; Ctrl-C again ends them"
+WAITED_FOR = "interrupted: waiting for the running parts, which will be kept; Ctrl-C again stops at once"
 
 
 def test_an_interruption_says_that_the_same_command_goes_on(place: Place) -> None:  # noqa: F811
@@ -30,7 +30,7 @@ def test_an_interruption_says_that_the_same_command_goes_on(place: Place) -> Non
     wait_until(lambda: (place.folder / "nine" / "inputs").exists() or ran.poll() is not None)
     ran.send_signal(signal.SIGINT)
     errors = ran.communicate()[1].decode().splitlines()
-    assert "what is done is kept: the same command goes on with what is missing" in errors and ran.returncode == 130
+    assert "finished parts are kept: the same command resumes the study" in errors and ran.returncode == 130
 
 
 def waiting(folder: Path) -> str:
@@ -82,7 +82,7 @@ def test_the_parts_that_run_at_ctrl_c_are_kept(room: Room, monkeypatch: pytest.M
     with pytest.raises(Interrupted):
         run_parts(Run("feed", "20260504", ("08:00", "08:00")), parts, 2, 1)
     assert [part.is_done() for part in parts] == [True, True, False]
-    assert b"interrupted: 2 parts that run are waited for and kept" in room.captured.readouterr()[1]
+    assert b"interrupted: waiting for 2 running parts, which will be kept" in room.captured.readouterr()[1]
     assert signal.getsignal(signal.SIGINT) is signal.default_int_handler
 
 
@@ -106,10 +106,12 @@ def test_ctrl_c_in_a_terminal_reaches_no_part(place: Place, program: str) -> Non
     ran = subprocess.Popen(arguments, stderr=subprocess.PIPE, preexec_fn=as_in_a_terminal, **how)
     wait_until(lambda: bool(list(place.folder.glob("nine/parts/0001/.part.*"))) or ran.poll() is not None)
     os.killpg(ran.pid, signal.SIGINT)
-    printed = lines_until(ran, "interrupted: 1 parts that run are waited for and kept; Ctrl-C again ends them")
+    printed = lines_until(
+        ran, "interrupted: waiting for 1 running part, which will be kept; Ctrl-C again stops at once"
+    )
     (place.folder / "go").touch()
     printed += lines_until(ran)
-    assert "what is done is kept: the same command goes on with what is missing" in printed and ran.returncode == 130
+    assert "finished parts are kept: the same command resumes the study" in printed and ran.returncode == 130
     assert [path.parent.name for path in place.folder.glob("nine/parts/*/key")] == ["0001"]
 
 
@@ -151,10 +153,10 @@ def test_the_parts_that_run_on_hosts_at_ctrl_c_are_kept(place: Place, program: s
     (place.folder / "go").touch()
     printed += lines_until(ran)
     assert WAITED_FOR in printed
-    assert "what is done is kept: the same command goes on with what is missing" in printed and ran.returncode == 130
+    assert "finished parts are kept: the same command resumes the study" in printed and ran.returncode == 130
     assert kept(place) == ["0001", "0002"]
     _, said, status = place.ran("study", place.path("nine.toml"))
-    assert status == 0 and "parts: 2 of 4 are there already" in said.splitlines()
+    assert status == 0 and "parts: 2 of 4 already done" in said.splitlines()
 
 
 def test_a_second_ctrl_c_ends_the_parts_on_hosts(place: Place, program: str) -> None:  # noqa: F811
@@ -163,7 +165,7 @@ def test_a_second_ctrl_c_ends_the_parts_on_hosts(place: Place, program: str) -> 
     printed = lines_until(ran, WAITED_FOR)
     os.killpg(ran.pid, signal.SIGINT)
     printed += lines_until(ran)
-    assert "what is done is kept: the same command goes on with what is missing" in printed and ran.returncode == 130
+    assert "finished parts are kept: the same command resumes the study" in printed and ran.returncode == 130
     assert kept(place) == []
     wait_until(lambda: not list(place.folder.glob("nine/parts/*/.part.*")))
 
@@ -173,4 +175,4 @@ def test_parts_that_go_on_are_told_where_there_is_no_terminal(
 ) -> None:
     monkeypatch.setattr("ttm_tools.study.running.SECONDS_BETWEEN_LINES", -1.0)
     pool = Pool(Run("feed", "20260504", ("08:00", "08:00")), [], 1, 1)
-    assert pool.over() == [] and capsys.readouterr().err == "parts: 0 go on, 0 wait\n"
+    assert pool.over() == [] and capsys.readouterr().err == "parts: 0 running, 0 waiting\n"

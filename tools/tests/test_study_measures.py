@@ -78,7 +78,7 @@ def test_areas_are_written_for_each_named_place(place: Place) -> None:  # noqa: 
     maps = {f"isochrones_{name}.png" for name in ("S0", "S4", "S0_cut", "S4_cut")}
     assert maps < {path.name for path in Path(place.path("nine/maps")).iterdir()}
     place.say(STUDY.replace("csv = true\n", 'isochrones = ["S9"]\n'))
-    assert "isochrones of [results]: S9 is no origin of the study" in place.ran("study", path)[1]
+    assert "isochrones of [results]: S9 is not an origin of the study" in place.ran("study", path)[1]
 
 
 @pytest.mark.parametrize(

@@ -63,7 +63,7 @@ def test_a_folder_with_files_of_a_person_is_refused(bare: Place, name: str) -> N
     choices: list[list[str]] = [[], ["--out", bare.path("nine")]]
     for arguments in choices:
         _, said, status = bare.ran("study", path, *arguments)
-        line = f"{bare.path('nine')}: isn't empty, and no study's folder: name a new one by --out"
+        line = f"{bare.path('nine')}: isn't empty, and isn't the folder of a study: name a new one with --out"
         assert (said, status) == (f"ttm-tools study: {line}\n", 1)
         assert contents(bare.folder) == before
 
@@ -80,7 +80,7 @@ def test_what_a_study_did_not_write_is_never_replaced(place: Place) -> None:
     place.say(STUDY.replace("csv = true", "maps = true").replace('["cut.csv"]', '["cut.csv", "more.csv"]'))
     for name in ("inputs/scenarios/mine.csv", "compare_more.csv", "maps/mine.png"):
         _, said, status = place.ran("study", path)
-        line = f"{name}: isn't this study's, which would replace it: move it elsewhere"
+        line = f"{name}: doesn't belong to this study, which would replace it: move it elsewhere"
         assert (said.splitlines()[-1], status) == (f"ttm-tools study: {line}", 1)
         assert all((folder / item).read_text() == "mine" for item in mine)
         (folder / name).unlink()
@@ -121,7 +121,7 @@ def test_what_is_put_into_a_folder_that_a_kill_left_is_never_removed(
         assert os.waitstatus_to_exitcode(os.waitpid(child, 0)[1]) == -signal.SIGKILL
         Path("maps").mkdir(exist_ok=True)
         Path("maps/mine.png").write_text("mine")
-        with pytest.raises(BadInput, match="maps/mine.png: isn't this study's"):
+        with pytest.raises(BadInput, match="maps/mine.png: doesn't belong to this study"):
             folder.do(stage("never"))
         assert Path("maps/mine.png").read_text() == "mine"
         Path("maps/mine.png").unlink()
@@ -256,7 +256,7 @@ def test_the_sums_that_are_stated_are_those_that_were_read(place: Place, monkeyp
     assert notes["sources"]["jobs.csv"] == was and "Nine stops" in notes["study_file"]
     assert was in (place.folder / "nine/report.md").read_text()
     _, said, status = place.ran("study", "--verify", place.path("nine"))
-    line = "../jobs.csv: has another sum than study.json says: it was changed since the study read it"
+    line = "../jobs.csv: has another checksum than study.json says: it was changed since the study read it"
     assert (said.splitlines()[-1], status) == (f"ttm-tools study: {line}", 1)
 
 
@@ -280,8 +280,8 @@ def test_verification_tells_files_beside_the_stated_ones_and_sources_that_are_go
     (place.folder / "people.csv").unlink()
     _, said, status = place.ran("study", "--verify", place.path("nine"), "--seed", "7")
     lines = said.splitlines()
-    assert status == 0 and "maps/mine.png: is there, and study.json doesn't state it" in lines
-    assert any(line.endswith(" files aren't there any more: ../people.csv") for line in lines)
+    assert status == 0 and "maps/mine.png: exists, and study.json doesn't list it" in lines
+    assert any(line.endswith(" files no longer exist: ../people.csv") for line in lines)
 
 
 def test_a_broken_log_is_read_as_far_as_it_is_whole(place: Place) -> None:
@@ -361,6 +361,6 @@ def test_walks_that_bring_old_stops_nearer_are_told_by_a_study(place: Place, wal
     assert status == 0, said
     line = "  walks to new stops bring "
     assert [
-        text for text in said.splitlines() if text.startswith(line) and text.endswith(" and out of reach without")
+        text for text in said.splitlines() if text.startswith(line) and text.endswith(" and out of reach without them")
     ], said
     assert line.strip() in (place.folder / "nine/report.md").read_text()

@@ -75,8 +75,13 @@ def test_people_at_points_that_are_left_out_are_told(place: Place) -> None:  # n
 @pytest.mark.parametrize(
     "name, header, rows, message",
     [
-        ("people.csv", "id,residents", [["s0", 3]], "people.csv: record 2: s0 is no point at which journeys begin"),
-        ("jobs.csv", "id,jobs", [["S0", 3]], "jobs.csv: record 2: S0 is no point of the study"),
+        (
+            "people.csv",
+            "id,residents",
+            [["s0", 3]],
+            "people.csv: record 2: no point at which journeys begin is called s0",
+        ),
+        ("jobs.csv", "id,jobs", [["S0", 3]], "jobs.csv: record 2: no point of the study is called S0"),
         ("jobs.csv", "id,shops", [["h0", 3]], "nine.toml: [opportunities] names a column jobs"),
     ],
 )
@@ -112,7 +117,7 @@ def test_a_plan_of_one_scenario_neither_warns_nor_runs_base(place: Place) -> Non
     assert place.ran("study", planned(place))[2] == 0
     report = report_of(place)
     assert "Warnings: none." in report
-    assert "the rows of tram are those of base, as its file takes nothing out" in report
+    assert "the rows of tram are those of base, as its file removes nothing" in report
     assert open_matrix(place.path("nine/matrix.omx")).scenarios == ["today", "tram"]
     errors = place.ran("study", "--verify", place.path("nine"))
     assert errors[2] == 0, errors
@@ -139,14 +144,14 @@ def test_walks_longer_than_ttm_takes_are_refused_and_shorter_ones_told(place: Pl
     assert errors[2] == 1 and "limit '700' is more than walk of [run], 600" in errors[1]
     place.say(STUDY + "[walks]\nlimit = 500\n")
     assert place.ran("study", path)[2] == 0
-    sentence = "a single walk takes 500 seconds at most ([walks] limit), one of several in turn 600 ([run] walk)"
+    sentence = "a single walk takes 500 seconds at most ([walks] limit), several in a row 600 ([run] walk)"
     assert sentence.replace("[", "\\[").replace("]", "\\]") in report_of(place)
 
 
 def test_a_date_without_trips_is_refused(place: Place) -> None:  # noqa: F811
     path = place.lay_out(STUDY.replace("2026-05-04", "2027-05-04"))
     _, errors, status = place.ran("study", path)
-    assert status == 1 and "no trip runs on 2027-05-04, but from 2026-05-04 to 2026-05-31" in errors
+    assert status == 1 and "no trip runs on 2027-05-04, only from 2026-05-04 to 2026-05-31" in errors
     assert (
         place.ran(
             "study",

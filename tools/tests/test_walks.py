@@ -42,7 +42,7 @@ def test_stops_at_one_place_are_0_seconds_apart(room: Room) -> None:
 def test_a_stop_without_coordinates_has_no_footpath_and_is_counted(room: Room) -> None:
     room.stops(("A", 0, 0), ("B", None, None), ("C", 10, 0))
     assert set(found(room)) == {("A", "C"), ("C", "A")}
-    message = f"{room.path('footpaths.csv')}: 2 footpaths; 1 stops have no coordinates\n"
+    message = f"{room.path('footpaths.csv')}: 2 footpaths; 1 stop without coordinates\n"
     assert room.ran("walks", str(room.folder)) == ("", message, 0)
 
 
@@ -58,7 +58,7 @@ def test_0_and_0_and_what_is_no_place_on_earth_are_missing_coordinates(room: Roo
     ]
     room.write("stops.txt", "stop_id,stop_lat,stop_lon", [*places, ["H", 9, 0], ["I", 9, 0]])
     assert found(room) == both(("H", "I", 0))
-    assert room.ran("walks", str(room.folder))[1].endswith("2 footpaths; 7 stops have no coordinates\n")
+    assert room.ran("walks", str(room.folder))[1].endswith("2 footpaths; 7 stops without coordinates\n")
 
 
 def test_names_in_windows_1252_do_not_stop_it_and_identifiers_keep_their_bytes(room: Room) -> None:
@@ -127,14 +127,14 @@ def test_walks_of_the_first_stops_are_those_among_all(room: Room, first: int) ->
 def test_a_table_of_walks_is_rounded_up_and_counted(room: Room) -> None:
     room.stops(("A", 0, 0), ("B", 99.5, 0), ("C", 0, 600))
     table = room.write("osrm.csv", "from_stop_id,to_stop_id,seconds", [["A", "B", 120.2], ["B", "A", "119.0"]])
-    message = f"{room.path('footpaths.csv')}: 2 footpaths; 1 seconds with decimals were rounded up\n"
+    message = f"{room.path('footpaths.csv')}: 2 footpaths; 1 time with decimals rounded up\n"
     assert room.ran("walks", "--table", table, str(room.folder)) == ("", message, 0)
     assert (room.folder / "footpaths.csv").read_text() == "from_stop_id,to_stop_id,seconds\nA,B,121\nB,A,119\n"
     (room.folder / "footpaths.csv").unlink()
     bad: list[tuple[list[Any], str]] = [
-        (["A", "Z", 1], f"record 2: to_stop_id 'Z' is no stop of {room.path('stops.txt')}"),
-        (["A", "B", "-1"], "record 2: seconds '-1' is no such number; allowed: a number from 0 to 4294967295"),
-        (["A", "B", "nan"], "record 2: seconds 'nan' is no such number; allowed: a number from 0 to 4294967295"),
+        (["A", "Z", 1], f"record 2: to_stop_id 'Z' is not a stop of {room.path('stops.txt')}"),
+        (["A", "B", "-1"], "record 2: seconds '-1' is invalid; allowed: a number from 0 to 4294967295"),
+        (["A", "B", "nan"], "record 2: seconds 'nan' is invalid; allowed: a number from 0 to 4294967295"),
     ]
     for row, message in bad:
         room.write("osrm.csv", "from_stop_id,to_stop_id,seconds", [row])
@@ -162,4 +162,4 @@ def test_a_folder_without_stops_is_told(room: Room) -> None:
     room.refused(f"{room.path('stops.txt')}: No such file or directory", "walks", str(room.folder))
     zipped = Path(room.path("feed.zip"))
     zipped.write_bytes(b"")
-    room.refused(f"{zipped}: no folder of a feed (unzip it first)", "walks", str(zipped))
+    room.refused(f"{zipped}: not the folder of a feed (unzip it first)", "walks", str(zipped))

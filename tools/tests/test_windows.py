@@ -210,17 +210,17 @@ DAYS_OF_MONTHS = "[" + ", ".join(f"2026-{month:02}-{day:02}" for month in (1, 2)
         (f"date = 2026-05-04\ndates = [2026-05-04]\n{WINDOWS}", "dates doesn't go with date"),
         (
             f"dates = [2026-05-05, 2026-05-04]\n{WINDOWS}",
-            "dates '2026-05-04' isn't after the date before it (item 2 of 2); allowed: 1 to 31 dates between brackets",
+            "dates '2026-05-04' isn't after the date before it (item 2 of 2); allowed: 1 to 31 dates in brackets",
         ),
         (
             f'dates = ["2026-05-04", "2026-05-40"]\n{WINDOWS}',
-            "dates '2026-05-40' is no date (item 2 of 2); allowed: YYYY-MM-DD, or YYYYMMDD between quotes",
+            "dates '2026-05-40' is not a date (item 2 of 2); allowed: YYYY-MM-DD, or YYYYMMDD in quotes",
         ),
         (f"dates = {DAYS_OF_MONTHS}\n{WINDOWS}", "dates '2026-02-04' is one date too many (item 32 of 56); allowed: 1"),
-        (f"dates = []\n{WINDOWS}", "allowed: 1 to 31 dates between brackets, ascending"),
+        (f"dates = []\n{WINDOWS}", "allowed: 1 to 31 dates in brackets, ascending"),
         ('date = 2026-05-04\nwindows = [{ name = "a b", from = "08:00", to = "08:00" }]', "can't be a window's name"),
         ('date = 2026-05-04\nwindows = [{ name = "a", from = "08:01", to = "08:00" }]', "to '08:00' is before from"),
-        ('date = 2026-05-04\nwindows = [{ name = "a", from = "8", to = "08:00" }]', "from '8' is no time"),
+        ('date = 2026-05-04\nwindows = [{ name = "a", from = "8", to = "08:00" }]', "from '8' is not a time"),
         ('date = 2026-05-04\nwindows = [{ name = "a", end = "8" }]', "end isn't known"),
         ('date = 2026-05-04\nfrom = "08:00"', "to is needed"),
         (f"{WINDOWS}", "date is needed"),
@@ -236,9 +236,7 @@ def test_a_date_that_does_not_fit_is_named_with_its_own_line(bare: Place) -> Non
     days = 'dates = [ # "several", [one] a line\n  2026-05-04,\n\n  "4 May",\n  2026-05-06,\n]'
     text = STUDY.replace(ONE, f"{days}\n{WINDOWS}\n")
     line = text.split("\n").index('  "4 May",') + 1
-    message = (
-        f"nine.toml: line {line}: dates '4 May' is no date (item 2 of 3); allowed: YYYY-MM-DD, or YYYYMMDD between"
-    )
+    message = f"nine.toml: line {line}: dates '4 May' is not a date (item 2 of 3); allowed: YYYY-MM-DD, or YYYYMMDD in"
     assert message in bare.ran("study", bare.lay_out(text))[1]
 
 
@@ -311,7 +309,7 @@ def test_pictures_name_days_windows_and_scenarios() -> None:
     shown = [axes for axes in figure.axes if axes.get_visible()]
     assert [axes.get_title() for axes in shown] == ["2026-05-04", "2026-05-09"]
     labels = [line.get_label() for line in shown[0].get_lines()]
-    assert labels == ["base", "base, tenth that has least", "cut", "cut, tenth that has least"]
+    assert labels == ["base", "base, tenth with the least", "cut", "cut, tenth with the least"]
     assert [line.get_ydata().tolist() for line in shown[0].get_lines()][:2] == [[3.0, 3.0], [1.0, 1.0]]
     assert shown[0].get_lines()[0].get_xdata().tolist() == [8.0, 21.5]
     heat = figure_of_heat(columns, 0, printed)

@@ -148,7 +148,7 @@ fn a_trip_every_minute(rt: HostRuntime) -> Result<(), Fail> {
 }
 
 /// Whether this is the duration to a stop for a minute.
-fn is_at(found: &Option<Durations>, stop: u32, minute: u32, expected: Option<u32>) -> bool {
+fn is_at(found: &Option<Box<Durations>>, stop: u32, minute: u32, expected: Option<u32>) -> bool {
     match found {
         Some(found) if stop < found.stops() && minute < found.minutes() => {
             found.at(StopNo(stop), minute) == expected

@@ -368,7 +368,7 @@ fn finds_in_chain(alloc: Global, search: &mut Search) -> Result<bool, AllocError
 #[test]
 fn one_search_by_both_widths(rt: HostRuntime) -> Result<(), Fail> {
     let alloc = rt.alloc();
-    let mut search = Search::new(alloc);
+    let mut search = Box::new(alloc, Search::new(alloc))?;
     for turn in 0..12u32 {
         assert!(rt;
             finds_tomorrow(alloc, &mut search, 0, &[0, 4_200, 72_000])?

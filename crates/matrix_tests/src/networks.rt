@@ -1,9 +1,9 @@
 //! Worked examples of footpaths and networks, their refusals and their limits.
 
-use crate::small_networks::{Footpath, at, lists_of};
+use crate::small_networks::{Footpath, at, lists_of, trips_with};
 use std::alloc::{AllocError, Global};
 use std::test::Fail;
-use timetable::{Event, Events, Feet, NetFault, Network, StopNo, Trip};
+use timetable::{Event, Feet, NetFault, Network, StopNo, Trip};
 
 /// Why footpaths are refused, if they are, with how many lists were handed back.
 fn feet_fault(
@@ -19,16 +19,29 @@ fn feet_fault(
     }
 }
 
-/// Footpaths among these stops, at which no change takes time, if they are accepted.
-fn feet_of(alloc: Global, stops: u32, footpaths: &[Footpath]) -> Result<Option<Feet>, AllocError> {
+/// Feet, if they are accepted.
+///
+/// They stand in a box: whoever holds it drops it in one step.
+type SomeFeet = Option<Box<Feet>>;
+
+/// Footpaths among these stops, of these change times.
+fn feet_with(
+    alloc: Global,
+    stops: u32,
+    footpaths: &[Footpath],
+    changes: Vec<u32>,
+) -> Result<SomeFeet, AllocError> {
+    let lists = lists_of(alloc, stops as usize, footpaths)?;
+    match Feet::new(alloc, stops, lists, changes) {
+        Ok(feet) => Ok(Some(Box::new(alloc, feet)?)),
+        Err(_) => Ok(None),
+    }
+}
+
+/// Footpaths among these stops, at which no change takes time.
+fn feet_of(alloc: Global, stops: u32, footpaths: &[Footpath]) -> Result<SomeFeet, AllocError> {
     let changes = vec![in alloc; 0; stops as usize]?;
-    Ok(Feet::new(
-        alloc,
-        stops,
-        lists_of(alloc, stops as usize, footpaths)?,
-        changes,
-    )
-    .ok())
+    feet_with(alloc, stops, footpaths, changes)
 }
 
 /// Why a footpath from the first of two stops to the second is refused with these change times, if it is, with how many
@@ -46,17 +59,12 @@ fn change_fault(
 
 /// Two trips, of which the first has two events and the second one.
 fn trips_of(alloc: Global, [first, second, third]: [Event; 3]) -> Result<Vec<Trip>, AllocError> {
-    let long = Trip {
-        route: 0,
-        name: 0,
-        events: Events::new(vec![in alloc; first, second]?),
-    };
-    let short = Trip {
-        route: 1,
-        name: 1,
-        events: Events::new(vec![in alloc; third]?),
-    };
-    Ok(vec![in alloc; long, short]?)
+    let mut trips = trips_with(alloc, &[&[first, second], &[third]])?;
+    if let Some(short) = trips.get_mut(1) {
+        short.route = 1;
+        short.name = 1;
+    }
+    Ok(trips)
 }
 
 /// Why a network is refused, if it is, with how many trips were handed back.
@@ -167,7 +175,7 @@ fn change_times_are_refused(rt: HostRuntime) -> Result<(), Fail> {
 fn each_stop_has_its_change_time(rt: HostRuntime) -> Result<(), Fail> {
     let alloc = rt.alloc();
     let times = Vec::from_slice(alloc, &[300, 0, 16_777_216])?;
-    let Some(feet) = Feet::new(alloc, 3, lists_of(alloc, 3, &[])?, times).ok() else {
+    let Some(feet) = feet_with(alloc, 3, &[], times)? else {
         assert!(rt; false);
         return Ok(());
     };

@@ -24,21 +24,36 @@ pub(crate) fn at(stop: u32, arrive: u32, depart: u32) -> Event {
     }
 }
 
-/// So many lists of footpaths, with these in them.
-pub(crate) fn lists_of(
-    alloc: Global,
-    lists: usize,
-    footpaths: &[Footpath],
-) -> Result<Vec<Vec<(StopNo, u32)>>, AllocError> {
-    let mut all = Vec::with_capacity(alloc, lists)?;
+/// A list for each stop: the stops to which footpaths lead, with their seconds.
+type Lists = Vec<Vec<(StopNo, u32)>>;
+
+/// Adds so many empty lists.
+fn push_lists(alloc: Global, all: &mut Lists, lists: usize) -> Result<(), AllocError> {
     for _ in 0..lists {
         all.push(Vec::new(alloc))?;
     }
+    Ok(())
+}
+
+/// Adds each footpath to the list of its first stop.
+fn push_footpaths(all: &mut Lists, footpaths: &[Footpath]) -> Result<(), AllocError> {
     for (from, to, seconds) in footpaths {
         if let Some(list) = all.get_mut(*from) {
             list.push((StopNo(*to), *seconds))?;
         }
     }
+    Ok(())
+}
+
+/// So many lists of footpaths, with these in them.
+pub(crate) fn lists_of(
+    alloc: Global,
+    lists: usize,
+    footpaths: &[Footpath],
+) -> Result<Lists, AllocError> {
+    let mut all = Vec::with_capacity(alloc, lists)?;
+    push_lists(alloc, &mut all, lists)?;
+    push_footpaths(&mut all, footpaths)?;
     Ok(all)
 }
 
@@ -81,7 +96,7 @@ pub(crate) fn network_over(
 }
 
 /// Trips with these events.
-fn trips_with(alloc: Global, trips: &[&[Event]]) -> Result<Vec<Trip>, AllocError> {
+pub(crate) fn trips_with(alloc: Global, trips: &[&[Event]]) -> Result<Vec<Trip>, AllocError> {
     let mut all = Vec::with_capacity(alloc, trips.len())?;
     for events in trips {
         all.push(trip_of(alloc, events)?)?;
@@ -176,20 +191,21 @@ pub(crate) fn are(found: &Option<Vec<u32>>, expected: &[u32]) -> bool {
     }
 }
 
-/// The durations of a window, where origin and window are in range.
+/// The durations of a window, where origin and window are in range, in a box, as networks are.
 pub(crate) fn of_window(
     alloc: Global,
     network: &SmallNetwork,
     origin: u32,
     window: Window,
     rides: u32,
-) -> Result<Option<Durations>, AllocError> {
+) -> Result<Option<Box<Durations>>, AllocError> {
     if let Some(network) = network
         && origin < network.stops()
         && window.fits()
         && rides <= MOST_RIDES
     {
-        return Ok(Some(durations(alloc, network, StopNo(origin), window, rides)?));
+        let found = durations(alloc, network, StopNo(origin), window, rides)?;
+        return Ok(Some(Box::new(alloc, found)?));
     }
     Ok(None)
 }

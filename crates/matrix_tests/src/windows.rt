@@ -317,7 +317,7 @@ fn agrees_in_turn(alloc: Global, search: &mut Search) -> Result<bool, AllocError
 #[test]
 fn one_search_for_two_networks(rt: HostRuntime) -> Result<(), Fail> {
     let alloc = rt.alloc();
-    let mut search = Search::new(alloc);
+    let mut search = Box::new(alloc, Search::new(alloc))?;
     assert!(rt; agrees_in_turn(alloc, &mut search)?);
     Ok(())
 }

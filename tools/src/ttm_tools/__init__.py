@@ -15,7 +15,7 @@ __all__ = ["BadInput", "EngineFault", "Network", "Result", "Run", "WrongWords", 
 
 
 def __getattr__(name: str) -> object:
-    """Names of the package that need numpy, from it only when they are asked for."""
+    """Names of the package that need numpy, from it only when they are used."""
     from importlib import import_module
 
     if name in __all__:
@@ -24,5 +24,5 @@ def __getattr__(name: str) -> object:
 
 
 def __dir__() -> list[str]:
-    """All public names, also those that weren't asked for yet."""
+    """All public names, also those that weren't used yet."""
     return sorted({*globals(), *__all__})

@@ -1,7 +1,7 @@
 """A process of `ttm --ask`: it keeps a network, reads questions from its standard input, and answers each of them.
 
 A question is a block of words, one on each line, ended by an empty line. An answer is a line `answer STATUS LENGTH`
-and so many bytes: the matrix where the status is 0, else the line that a run would print.
+and as many bytes: the matrix where the status is 0, else the line that a run would print.
 """
 
 import os
@@ -92,8 +92,8 @@ class Conversation:
         if status >= 0:
             return EngineFault("\n".join(refusal_of(text, status)), status)
         name = signal.Signals(-status).name
-        last = refusal_of(text, status)[0] if text else "it said nothing"
-        return EngineFault(f"ttm: ended by {name}, its last line: {last.removeprefix('ttm: ')}", 128 - status)
+        last = refusal_of(text, status)[0] if text else "nothing"
+        return EngineFault(f"ttm: ended by {name}, last line: {last.removeprefix('ttm: ')}", 128 - status)
 
     def end(self, seconds: float) -> int:
         """Ends the process, after some seconds by force, and gives its exit status."""

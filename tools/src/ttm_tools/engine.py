@@ -64,14 +64,14 @@ def refusal_of(errors: bytes, status: int) -> list[str]:
     """The line that says why a run ended, and those that explain it, behind those of its report."""
     lines = [line for line in errors.decode("utf-8", "replace").splitlines() if line]
     if not lines:
-        return [f"ttm ended with status {status} and said nothing"]
+        return [f"ttm ended with status {status} and printed nothing"]
     ahead = max((place for place, line in enumerate(lines, 1) if AHEAD.fullmatch(line)), default=0)
     return lines[ahead:] or lines[-1:]
 
 
 @dataclass(frozen=True)
 class Run:
-    """What is asked of `ttm`; docs/reference/options.md says what each argument means."""
+    """The arguments of a run of `ttm`; docs/reference/options.md says what each one means."""
 
     feed: Pathlike  # the folder of an unpacked feed
     date: str | datetime.date  # as a text YYYYMMDD or YYYY-MM-DD
@@ -114,13 +114,13 @@ def program_at(path: Pathlike | None) -> str:
         named = BUILT
     if named is None or shutil.which(str(named)) is None:
         raise Lacking(
-            f"no program ttm {named or ''}: put it on the PATH, name it by TTM_PROGRAM, or by program=".strip()
+            f"no program ttm {named or ''}: put it on the PATH, name it with TTM_PROGRAM, or with program=".strip()
         )
     return str(named)
 
 
 def run(task: Run, out: Pathlike, program: Pathlike | None = None) -> None:
-    """Runs `ttm`; the matrix gets its name when it is whole, and a fault leaves none. The report is asked for, as it
+    """Runs `ttm`; the matrix gets its name when it is complete, and an error leaves none. The run has `--report`, as it
     explains a refusal. A warning says where walks to a plan's new stops bring old stops nearer.
     """
     with output(str(out)) as file:
@@ -183,11 +183,11 @@ class Result:
         """A scenario and a share that are there; the share needs to be named only where there are several."""
         scenario = self.base if named is None else named
         if share is None and len(self.shares) > 1:
-            raise WrongWords(f"the matrix has the shares {', '.join(map(str, self.shares))}: name one")
+            raise WrongWords(f"the matrix has the percentiles {', '.join(map(str, self.shares))}: name one")
         key = (scenario, self.shares[0] if share is None else share)
         if key not in self.seconds:
             names, shares = ", ".join(self.scenarios), ", ".join(map(str, self.shares))
-            raise WrongWords(f"no scenario {scenario} with the share {key[1]}: it has {names} with {shares}")
+            raise WrongWords(f"no scenario {scenario} with the percentile {key[1]}: it has {names} with {shares}")
         return key
 
 

@@ -1,4 +1,4 @@
-"""The journey behind a cell, and the travel time of `ttm` beside it: they are the same, or it is reported."""
+"""The journey behind a cell, compared with the travel time of `ttm`: if they differ, an error says so."""
 
 import contextlib
 import datetime
@@ -31,8 +31,8 @@ def found_of(
     program: Pathlike | None = None,
     matrix: str | None = None,
 ) -> tuple[ExplainOptions, list[Found]]:
-    """What is found for the base and each scenario. The travel times beside are those of a matrix, or of a run of the
-    program.
+    """What is found for the base and each scenario. The travel times for comparison are those of a matrix, or of a run
+    of the program.
     """
     (found,) = all_found(task, date, [(origin, destination)], program=program, matrix=matrix)
     return found
@@ -93,8 +93,8 @@ def scenarios_of(files: Sequence[Pathlike]) -> dict[str, Pathlike | None]:
 
 
 def told_of(task: Run, date: datetime.date) -> str:
-    """What was asked for."""
-    days = f"days before {task.back} and after {task.ahead}"
+    """The date, days, departures and limits of a search."""
+    days = f"service days: {task.back} before and {task.ahead} after"
     limits = f"at most {task.trips} rides, walks up to {task.walk} seconds"
     return f"{date:%Y-%m-%d}, {days}; departures {task.window[0]} to {task.window[1]}, {limits}"
 
@@ -180,5 +180,5 @@ def tell_difference(found: Found, seconds: int | None, origin: str, destination:
         one, other = ("none" if value is None else f"{value} seconds" for value in (seconds, found.cell))
         ends = f"from {shown(origin)} to {shown(destination)}, {shown(found.name)}"
         raise BadInput(
-            "the travel times differ", f"{ends}: ttm has {one}, and this search, which isn't proved, {other}"
+            "the travel times differ", f"{ends}: ttm has {one}, and this search, which isn't proved, has {other}"
         )

@@ -71,7 +71,7 @@ def needs(*packages: str) -> None:
         debian = " ".join(f"python3-{DEBIAN.get(name, name)}" for name in lacking)
         raise Lacking(
             f"this Python, {sys.executable}, has no {' and no '.join(lacking)}: "
-            f"apt-get install {debian} and take /usr/bin/python3, or pip install {' '.join(lacking)}"
+            f"apt-get install {debian} and use /usr/bin/python3, or pip install {' '.join(lacking)}"
         )
 
 
@@ -79,6 +79,11 @@ def needs_program(program: str, package: str) -> None:
     """Reports in one line which program isn't there, and which package of Debian has it."""
     if shutil.which(program) is None:
         raise Lacking(f"no program {program}: apt-get install {package}")
+
+
+def quantity(count: int, noun: str) -> str:
+    """A number and its noun, in the plural if the number isn't one: `1 stop`, `2,000 stops`."""
+    return f"{count:,} {noun}{'' if count == 1 else 's'}"
 
 
 def some(names: Sequence[str], most: int = 4) -> str:

@@ -142,7 +142,7 @@ def short_name(name: str) -> str:
 
 
 def aside_name(path: Path) -> Path:
-    """Where a file is written until it is whole: beside it, under a name with this process' number."""
+    """Where a file is written until it is complete: next to it, under a name with this process' number."""
     return path.with_name(f".part.{os.getpid()}.{short_name(path.name)}")
 
 
@@ -164,7 +164,7 @@ def remove(path: Path) -> None:
 
 
 def remove_leavings(path: Path) -> None:
-    """Removes what runs that were killed at once (SIGKILL, a power cut) left beside a file."""
+    """Removes what runs that were killed at once (SIGKILL, a power cut) left next to a file."""
     form = re.compile(r"\.part\.([0-9]+)\." + re.escape(short_name(path.name)))
     for other in path.parent.iterdir() if path.parent.is_dir() else ():
         found = form.fullmatch(other.name)
@@ -231,7 +231,7 @@ def scratch(what: str) -> Iterator[Path]:
 def is_free(out: Path) -> None:
     """Refuses a folder that isn't empty, in which files of two runs would lie side by side."""
     if out.exists() and (not out.is_dir() or any(out.iterdir())):
-        raise BadInput(out, "is there already, and isn't empty")
+        raise BadInput(out, "already exists, and isn't empty")
 
 
 @contextlib.contextmanager

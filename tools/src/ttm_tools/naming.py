@@ -41,4 +41,4 @@ def file_names(names: Sequence[str], ends: Sequence[str] = ("",), taken: Iterabl
 
 def sentences_on_names(names: dict[str, str]) -> list[str]:
     """Which names files don't have as they are."""
-    return [f"files of {shown(name)} are called {file}" for name, file in names.items() if shown(name) != file]
+    return [f"files of {shown(name)} are named {file}" for name, file in names.items() if shown(name) != file]

@@ -1,4 +1,4 @@
-"""A network that is kept, and asked many questions: `with Network(feed, date) as network: network.matrix(..)`."""
+"""A network in memory, for many questions: `with Network(feed, date) as network: network.matrix(..)`."""
 
 import contextlib
 import datetime
@@ -37,7 +37,7 @@ def command_of(program: str, arguments: Sequence[str]) -> list[str]:
 
 
 class Processes:
-    """Some processes with the same network, each asked by one thread at a time; they begin when they are needed, in a
+    """Some processes with the same network, each used by one thread at a time; they start when they are needed, in a
     folder, or where this process works.
     """
 
@@ -69,7 +69,7 @@ class Processes:
             return held.ask(arguments)
         except EngineFault:
             if self.closed:
-                raise WrongWords("the network was closed while it was asked") from None
+                raise WrongWords("the network was closed during a question") from None
             raise
         finally:
             self.free.put(held)
@@ -90,13 +90,13 @@ class Processes:
 
 
 class Network:
-    """The network of a feed on a date, which `matrix(..)` asks questions.
+    """The network of a feed on a date, which answers questions by `matrix(..)`.
 
     A process of `ttm --ask` reads the feed once and keeps the network.
 
     Feed, date, walk, scenarios, footpaths, back and ahead are as for `ttm_tools.matrix`; the first question raises what
     is wrong with them. `workers` is how many processes keep the network, and so how many threads are answered at once.
-    You may ask it from several threads. It ends with its block, by `close()`, or with the interpreter.
+    Several threads may use it. It ends with its block, by `close()`, or with the interpreter.
     """
 
     def __init__(
@@ -113,7 +113,7 @@ class Network:
         program: Pathlike | None = None,
     ) -> None:
         if workers < 1:
-            raise WrongWords(f"workers={workers}: at least one process keeps the network")
+            raise WrongWords(f"workers={workers}: at least one process is needed")
         named, self.rounded = program_at(program), Rounded()
         self.folder = Path(tempfile.mkdtemp(prefix=f"ttm-tools-network.{os.getpid()}."))
         try:
@@ -171,10 +171,10 @@ class Network:
         except OSError:  # the folder goes with the network
             if self.closing.alive:
                 raise
-            raise WrongWords("the network was closed while it was asked") from None
+            raise WrongWords("the network was closed during a question") from None
 
     def close(self) -> None:
-        """Ends the processes; what is asked afterwards is refused."""
+        """Ends the processes; later questions are refused."""
         self.closing()
 
     def __enter__(self) -> "Network":

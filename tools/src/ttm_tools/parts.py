@@ -23,7 +23,7 @@ def origins_in(path: str) -> list[str]:
     named: dict[str, None] = {}
     for number, (stop,) in rows(path, ["stop_id"]):
         if stop in named:
-            raise BadInput(path, f"{shown(stop)} is there twice", record=number)
+            raise BadInput(path, f"{shown(stop)} occurs twice", record=number)
         named[stop] = None
     return list(named)
 
@@ -53,7 +53,7 @@ def write_parts(origins: Sequence[str], parts: int, folder: str) -> int:
     own = {f"part_{number:04}.csv" for number in range(1, len(cut) + 1)}
     for other in sorted(Path(folder).glob("part_[0-9]*.csv")):
         if other.name not in own:
-            raise BadInput(other, "is of another split: name another folder, or remove it")
+            raise BadInput(other, "belongs to another split: name another folder, or remove it")
     with many_written_aside(folder) as aside:
         for name, stops in [
             ("origins.csv", origins),
@@ -90,14 +90,14 @@ class PartMatrix:
         """Reads all records behind the header, the shares of each origin together."""
         layout = layout_of(fields_of(self.header))
         if layout is None or not self.header.endswith(b"\n"):
-            raise BadInput(self.path, "not a matrix" if layout is None else "cut short")
+            raise BadInput(self.path, "not a matrix" if layout is None else "truncated")
         begin, last, shares = file.tell(), ("", ""), list[str]()
         for record in records_of(file):
             line = content(record)
             heads, first = head_of(line, layout.first_cell)
             count = len(heads) + count_of_fields(line, first)
             if count != layout.width or len(line) == len(record):
-                raise BadInput(self.path, "cut short")
+                raise BadInput(self.path, "truncated")
             place = (heads[0], heads[1])
             if place != last or not self.scenarios:
                 self.take_shares(last, shares)
@@ -112,7 +112,7 @@ class PartMatrix:
     def begin_origin(self, scenario: str, origin: str, begin: int) -> None:
         """Takes the first row of an origin, which begins at a place in the file."""
         if scenario in self.scenarios and scenario != next(reversed(self.scenarios)):
-            raise BadInput(self.path, f"the rows of {shown(scenario)} don't stand together")
+            raise BadInput(self.path, f"the rows of {shown(scenario)} aren't consecutive")
         self.scenarios.setdefault(scenario, Scenario(begin, begin)).origins.append(origin)
 
     def take_shares(self, place: tuple[str, str], shares: list[str]) -> None:
@@ -121,7 +121,7 @@ class PartMatrix:
             self.shares = shares if self.shares is None else self.shares
             if shares != self.shares:
                 scenario, origin = map(shown, place)
-                raise BadInput(self.path, f"{origin} has other shares in {scenario} than the first origin")
+                raise BadInput(self.path, f"{origin} has other percentiles in {scenario} than the first origin")
 
     @property
     def first(self) -> list[str]:
@@ -136,7 +136,7 @@ def are_alike(part: PartMatrix, first: PartMatrix) -> None:
     if list(part.scenarios) != list(first.scenarios):
         raise BadInput(part.path, f"its scenarios aren't those of {first.path}")
     if part.shares != first.shares:
-        raise BadInput(part.path, f"its shares aren't those of {first.path}")
+        raise BadInput(part.path, f"its percentiles aren't those of {first.path}")
     for name, scenario in part.scenarios.items():
         if scenario.origins != part.first:
             raise BadInput(part.path, f"{shown(name)} has other origins than the first scenario")
@@ -159,7 +159,7 @@ def in_order(parts: Sequence[PartMatrix], origins: Sequence[str], origins_file: 
         raise BadInput(origins_file, f"{len(lost)} origins are in no part: {some(lost, 1)}")
     ordered = sorted(parts, key=lambda part: place[part.first[0]] if part.first else -1)
     if [origin for part in ordered for origin in part.first] != list(origins):
-        raise BadInput(origins_file, "the parts aren't stretches of the study's origins in their order")
+        raise BadInput(origins_file, "the parts aren't consecutive origins of the study")
     return ordered
 
 

@@ -113,7 +113,7 @@ def fields_as_texts(values: Iterable[object], before: bytes = b"", after: bytes 
 
 
 def joined(pieces: Sequence[bytes | Texts], count: int) -> bytes:
-    """The text of so many lines: of each piece in turn the one text that all lines have, or the line's own."""
+    """The text of some lines: of each piece in turn the one text that all lines have, or the line's own."""
     texts = np.empty((count, len(pieces)), dtype=object)
     for place, piece in enumerate(pieces):
         texts[:, place] = piece
@@ -185,7 +185,7 @@ class Rounded:
         number = number_of(text.strip())
         if not 0 <= number < 1 << 32:
             allowed = "a number from 0 to 4294967295"
-            raise BadInput(path, "is no such number", record=record, column=column, value=text, allowed=allowed)
+            raise BadInput(path, "is invalid", record=record, column=column, value=text, allowed=allowed)
         rounded = math.ceil(number) if up else math.floor(number + 0.5)
         self.count += rounded != number
         return rounded

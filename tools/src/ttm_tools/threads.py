@@ -8,7 +8,7 @@ from typing import Callable, Iterable, Iterator, TypeVar
 
 Item = TypeVar("Item")
 Made = TypeVar("Made")
-AHEAD = 2  # pieces of each thread that are made, or being made, before they are asked for
+AHEAD = 2  # pieces of each thread that are computed, or being computed, before they are needed
 
 
 def processors() -> int:

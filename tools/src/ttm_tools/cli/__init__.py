@@ -1,5 +1,5 @@
-"""`ttm-tools COMMAND ..`: one module for each command, which says its options and calls the rooms. No logic of its own,
-and no package before it is needed.
+"""`ttm-tools COMMAND ..`: one module for each command, which defines its options and calls the other packages. It has
+no logic of its own, and imports no package before it is needed.
 """
 
 import argparse
@@ -53,7 +53,7 @@ def parser_of() -> argparse.ArgumentParser:
     for name in COMMANDS:
         module = importlib.import_module(f".{name}", __package__)
         form = argparse.RawDescriptionHelpFormatter
-        command = commands.add_parser(name, help=module.TOLD, description=module.HELP, formatter_class=form)
+        command = commands.add_parser(name, help=module.SUMMARY, description=module.HELP, formatter_class=form)
         module.describe(command)
         setattr(command, "_negative_number_matcher", NEGATIVE)  # a value such as -0.1,51.5,0.1,51.6 is no option
         command.set_defaults(run=module.run, command=name, parser=command)
@@ -61,10 +61,10 @@ def parser_of() -> argparse.ArgumentParser:
 
 
 def status_of(args: argparse.Namespace) -> int:
-    """Runs a command; what ends it is reported in one line, with a status of its own."""
+    """Runs a command. An error is reported in one line, and has a status of its own."""
     begin = f"ttm-tools {args.command}: "
     try:
-        with contextlib.nullcontext() if args.command == "study" else inputs_noted():  # it owns its folder
+        with contextlib.nullcontext() if args.command == "study" else inputs_noted():  # it locks its own folder
             status = int(args.run(args))
         sys.stdout.flush()
         return status
@@ -87,15 +87,15 @@ def status_of(args: argparse.Namespace) -> int:
 
 
 def of_its_own(fault: Exception) -> str:
-    """Writes a log of an error that no input explains, and says where it is."""
-    message = f"an error of its own, {type(fault).__name__}: {one_line(fault)[:200]}"
+    """Writes a log of an internal error, and says where the log is."""
+    message = f"internal error, {type(fault).__name__}: {one_line(fault)[:200]}"
     try:
         handle, path = tempfile.mkstemp(prefix="ttm-tools-", suffix=".log")
         with open(handle, "w", encoding="utf-8", errors="backslashreplace") as file:
             file.write(f"ttm-tools {__version__}, Python {sys.version}\n")
             file.write("".join(traceback.format_exception(fault)))
     except OSError as full:
-        return f"{message}; no log could be written: {full.strerror}"
+        return f"{message}; the log could not be written: {full.strerror}"
     return f"{message}; please report it with the log {path}"
 
 
@@ -108,6 +108,6 @@ def main(arguments: Sequence[str] | None = None) -> int:
         args.parser.error(f"unrecognized arguments: {' '.join(unknown)}")
     if arguments is None:
         unwind_on_signals()
-        logging.disable(logging.CRITICAL)  # libraries say in lines of their own what is reported in one
+        logging.disable(logging.CRITICAL)  # libraries would report again what one line reports
         warnings.simplefilter("ignore")
     return status_of(args)

@@ -25,54 +25,56 @@ if TYPE_CHECKING:
     from ..matrices import Matrix, Share
     from ..measures.opportunities import Counts
 
-TOLD = "opportunities within limits, weighted by travel time, and the time to the nearest"
+SUMMARY = "opportunities within limits, weighted by travel time, and the time to the nearest"
 HELP = """\
-Measures what is reached from each origin of a matrix: of each column of each file of opportunities the sum at all stops
-within each cutoff (--decay step), or the sum weighted by travel time (linear, exponential, logistic), as r5r does; or,
-with --nearest, the time to the nearest of them. --interval 15,45 takes the mean of the sums within 15, 16, .. 45
-minutes. With --competition opportunities are shared out among the people of --demand who reach them, by the weights of
---decay: what each of them has (floating, balanced), or what all people of an origin have (availability).
-docs/reference/measures.md has each formula and its source.
+Measures what is reached from each origin of a matrix. For each column of each file of opportunities, this is the sum
+over all stops within each cutoff (--decay step), or the sum weighted by travel time (linear, exponential, logistic), as
+r5r does it. With --nearest it is the time to the nearest opportunities. --interval 15,45 takes the mean of the sums
+within 15, 16, .. 45 minutes. With --competition, the people of --demand who reach an opportunity share it, with the
+weights of --decay: the result is what each person has (floating, balanced) or what all people of an origin have
+(availability). docs/reference/measures.md has each formula and its source.
 
-A file of opportunities has the column stop_id (or id) and one or more columns of numbers from 0 on, with decimals or
-without; a stop that it doesn't name has none. Names and places (stop_name, stop_lat, stop_lon, name, lat, lon) don't
-count; a column `opportunities` is called as its file. A stop that the matrix hasn't is refused.
+A file of opportunities has the column stop_id (or id) and one or more columns of numbers from 0 on, with or without
+decimals; a stop that is not in the file has none. The columns stop_name, stop_lat, stop_lon, name, lat and lon are not
+counted; a column `opportunities` takes the name of its file. A stop that is not in the matrix is an error.
 
-The long form has a line for each number: scenario, id (of the origin), opportunity, percentile (the share of
-departures), cutoff (minutes) and accessibility; with --nearest the last two are nearest and seconds, empty where so
-many aren't reached. With --scenario the column scenario is left out, and the columns are those of r5r. The wide form
-has a line for each origin and share, and a column for each opportunity and cutoff. A travel time of just the cutoff
-counts, as it does for ttm: --cutoffs 30 is its --within 1800. Memory: some 300 MB, and 8 bytes for each number."""
+The long form has a line for each number: scenario, id (of the origin), opportunity, percentile, cutoff (minutes) and
+accessibility; with --nearest the last two are nearest and seconds, which is empty if fewer are reached. With --scenario
+there is no column scenario, and the columns are those of r5r. The wide form has a line for each origin and percentile,
+and a column for each opportunity and cutoff. A travel time equal to the cutoff counts, as it does for ttm: --cutoffs 30
+is its --within 1800. Memory: some 300 MB, and 8 bytes for each number."""
 
 
 def describe(parser: argparse.ArgumentParser) -> None:
     what = "a file with what each stop has; may be given more than once (needed)"
     parser.add_argument("--opportunities", metavar="FILE", action="append", required=True, help=what)
-    add_several(parser, "--column", "NAME", "a column that is taken", without="all")
-    what = "how weights fall with travel time: at the cutoff, on a line round it, with it as half-life, on a sigmoid"
+    add_several(parser, "--column", "NAME", "a column to count", without="all")
+    what = (
+        "how weights fall with travel time: at the cutoff, in a line around it, with it as half-life, or in a sigmoid"
+    )
     parser.add_argument("--decay", choices=[*DECAYS], default="step", help=f"{what} (default step)")
     what = "the limits, between commas; decimals are rounded to whole seconds"
     add_cutoffs(parser, what, (0, 10000), "30")
-    what = "how wide the linear fall is, or the standard deviation of the logistic one"
+    what = "the width of the linear fall, or the standard deviation of the logistic one"
     add_number(
-        parser, "--decay-value", what, Range("minutes", 0, 10000, whole=False), without="none, which these two need"
+        parser, "--decay-value", what, Range("minutes", 0, 10000, whole=False), without="none; these two need it"
     )
     what = "instead of access, the time within which this many are reached, between commas"
     add_numbers(parser, "--nearest", what, Range("", 0, 1e15, whole=False), without="access is measured")
-    what = "the mean over all limits of whole minutes from one to another, such as 15,45"
+    what = "the mean over all cutoffs of whole minutes from one number to the other, such as 15,45"
     add_numbers(
         parser, "--interval", what, Range("minutes", 0, 1000, whole=False), without="one number for each of --cutoffs"
     )
     what = "access where people compete: a floating catchment, a balanced one, or spatial availability; needs --demand"
-    parser.add_argument("--competition", choices=[*COMPETITIONS], help=f"{what} (without it, nobody does)")
+    parser.add_argument("--competition", choices=[*COMPETITIONS], help=f"{what} (without it, nobody competes)")
     add_text(parser, "--demand", "FILE", "how many people are at each origin, for --competition", without="none")
     add_text(parser, "--demand-column", "NAME", "its column of people", without="the only one")
-    add_text(parser, "--scenario", "NAME", "the scenario that is taken", without="all")
+    add_text(parser, "--scenario", "NAME", "the scenario to measure", without="all")
     add_points(parser, "all origins and stops")
     add_share(parser, without="all")
     what = "a line for each number, or a column (default long)"
     parser.add_argument("--form", choices=("long", "wide"), default="long", help=what)
-    add_out(parser, "where the table is written")
+    add_out(parser, "the file of the table")
     add_matrix(parser)
 
 
@@ -113,7 +115,7 @@ def refuse_together(args: argparse.Namespace) -> None:
         raise WrongWords("--nearest needs numbers above 0")
     others = [name for name in ("nearest", "competition", "interval") if getattr(args, name)]
     if len(others) > 1:
-        raise WrongWords(f"--{others[0]} and --{others[1]} are two measures: take one")
+        raise WrongWords(f"--{others[0]} and --{others[1]} are two measures: choose one")
     if bool(args.competition) != bool(args.demand) or args.demand_column and not args.demand:
         raise WrongWords("--competition and --demand go together")
     if args.interval and (len(args.interval) != 2 or not all(minutes.is_integer() for minutes in args.interval)):
@@ -148,5 +150,5 @@ def demand_of(args: argparse.Namespace, matrix: "Matrix") -> dict[str, float]:
     known, columns = matrix.stops_and_origins(), [args.demand_column] if args.demand_column else []
     found = read_counts([args.demand], known, "stop of the matrix", columns)
     if len(found.names) > 1:
-        raise BadInput(args.demand, f"it has the columns {some(found.names)}: name one by --demand-column")
+        raise BadInput(args.demand, f"it has the columns {some(found.names)}: choose one with --demand-column")
     return dict(zip(known, found.numbers[:, 0].tolist()))

@@ -4,30 +4,32 @@ import argparse
 
 from .options import Range, add_number, add_numbers, add_out, add_people, add_text
 
-TOLD = "how many people have at least so many opportunities, or the nearest within so many minutes"
+SUMMARY = "the number of people in bands of access, or of the time to the nearest opportunities"
 HELP = """\
-Counts how many people are within bands of access: from a table of `ttm-tools access` in its long form, and the people
-at each of its origins. A line for each opportunity, percentile, cutoff, group of people, scenario and band: how many
-people have at least so many opportunities, and what percent of the group they are. Of a table of `ttm-tools access
---nearest` bands are minutes: how many people have the nearest within so many.
+Counts the people in each band of access, from a table of `ttm-tools access` in its long form and the people at each of
+its origins. There is a line for each opportunity, percentile, cutoff, group of people, scenario and band: how many
+people have at least the number of opportunities at which the band begins, and what percentage of the group they are.
+For a table of `ttm-tools access --nearest`, bands are minutes: how many people have the nearest within them.
 
-Groups are the columns of numbers of --people: a file with the column stop_id (or id). With --picture there is a bar for
-each group and scenario as PNG, of one opportunity, percentile and cutoff; that needs matplotlib. Memory: some 100 MB,
-and 300 bytes for each line of the table."""
+Groups are the columns of numbers of --people: a file with the column stop_id (or id). --picture draws a bar for each
+group and scenario as PNG, for one opportunity, percentile and cutoff; it needs matplotlib. Memory: some 100 MB, and 300
+bytes for each line of the table."""
 
 
 def describe(parser: argparse.ArgumentParser) -> None:
     parser.add_argument("access", metavar="ACCESS", help="a table of ttm-tools access in its long form")
     add_people(parser)
-    what = "where bands begin: opportunities, or minutes of a table of the nearest; ascending"
-    add_numbers(parser, "--bands", what, Range("", 0, 1e15, whole=False), without="there are none, which is refused")
-    add_text(parser, "--opportunity", "NAME", "the opportunity that is taken", without="all")
-    add_number(parser, "--percentile", "the percentile that is taken", Range("percent", 1, 100), without="all")
-    what = "the cutoff that is taken, or how many of the nearest"
+    what = "where bands begin, ascending: opportunities, or minutes for a table of the nearest"
+    add_numbers(parser, "--bands", what, Range("", 0, 1e15, whole=False), without="an error")
+    add_text(parser, "--opportunity", "NAME", "the opportunity to count", without="all")
+    add_number(parser, "--percentile", "the percentile to count", Range("percent", 1, 100), without="all")
+    what = "the cutoff to count, or the number of nearest opportunities"
     add_number(parser, "--cutoff", what, Range("", 0, 1e15, whole=False), without="all")
-    parser.add_argument("--form", choices=("csv", "markdown"), default="csv", help="how it is written (default csv)")
-    add_text(parser, "--picture", "FILE", "where a picture is written", without="none is drawn")
-    add_out(parser, "where the table is written")
+    parser.add_argument(
+        "--form", choices=("csv", "markdown"), default="csv", help="the format of the table (default csv)"
+    )
+    add_text(parser, "--picture", "FILE", "the file of a picture", without="none is drawn")
+    add_out(parser, "the file of the table")
 
 
 def run(args: argparse.Namespace) -> int:

@@ -16,26 +16,26 @@ from .options import (
     opened,
 )
 
-TOLD = "who loses and who gains between two scenarios"
+SUMMARY = "who loses and who gains between two scenarios"
 HELP = """\
 Lists who loses and who gains between two scenarios of a matrix: a table of pairs, or of origins.
 
 By pair, a line for each origin and destination whose travel time differs from the base's by more than the limit:
 origin, destination, what (cut off, slower, new or faster), before and after in seconds, and change, which is after
-minus before. `cut off` is reached in the base and not in the scenario, `new` only in the scenario; these have no
-change, and count whatever the limit is. Losers come first: those cut off, then the slower; then the winners: the new,
-then the faster; each by the size of the change, the greatest first.
+minus before. `cut off` is reached only in the base, `new` only in the scenario; these have no change, and count
+whatever the limit is. Losers come first: those cut off, then the slower. Winners follow: the new, then the faster. Each
+group is sorted by the size of the change, the greatest first.
 
 By origin, a line for each origin that has such a pair or whose access differs: access_before, access_after, change,
 percent (of access_before), and to how many destinations it is cut_off, slower, new and faster. Losers of access come
-first, then winners, each by the size of the change; then origins whose access is the same.
+first, then winners, both sorted by the size of the change; then origins whose access is the same.
 
-Travel times and access have thresholds of their own: --limit says by how many seconds a pair differs, --least by how
-much access does. Access can change if a travel time crossed its limit by less than --limit; --listed times leaves out
+Travel times and access have separate thresholds: --limit for the seconds by which a pair differs, --least for the
+change of access. Access can change if a travel time crossed its limit by less than --limit; --listed times leaves out
 an origin for which nothing else differs. --sort and --top write the greatest changes alone.
 
 If one scenario lacks origins that the other has, as in a truncated matrix, a line names them, and the exit status is 1
-unless --partial is given. A line on standard error sums up. Memory: by origin some 100 MB, by pair 60 bytes more for
+unless --partial is given. A summary goes to standard error. Memory: by origin some 100 MB, by pair 60 bytes more for
 each pair that differs."""
 
 
@@ -44,13 +44,15 @@ def describe(parser: argparse.ArgumentParser) -> None:
     parser.add_argument("--by", choices=("pair", "origin"), default="pair", help=what)
     what = "travel times that differ by more than this count as slower or faster"
     add_number(parser, "--limit", what, Range("seconds", 0, 604800), default=60)
-    what = "access that differs by so much or more counts as lost or gained"
+    what = "access that differs by this or more counts as lost or gained"
     add_number(parser, "--least", what, Range("opportunities", 1, 4294967295), default=1)
     what = "why an origin is listed: a pair that differs, its access, or either (default both)"
     parser.add_argument("--listed", choices=("both", "times", "access"), default="both", help=what)
     what = "how lines are sorted: the greatest loss or gain first, or by percent (without it, losers, then winners)"
     parser.add_argument("--sort", choices=("loss", "gain", "relative"), help=what)
-    add_number(parser, "--top", "how many lines the table has at most", Range("lines", 1, 1000000000), without="all")
+    add_number(
+        parser, "--top", "the maximum number of lines of the table", Range("lines", 1, 1000000000), without="all"
+    )
     add_base(parser)
     add_text(parser, "--scenario", "NAME", "the scenario that is compared with the base", without="the only other one")
     add_share(parser)
@@ -59,7 +61,7 @@ def describe(parser: argparse.ArgumentParser) -> None:
     add_points(parser)
     what = "if one scenario lacks origins, compare the others (without it, that is an error)"
     parser.add_argument("--partial", action="store_true", help=what)
-    add_out(parser, "where the table is written")
+    add_out(parser, "the file of the table")
     add_matrix(parser)
 
 

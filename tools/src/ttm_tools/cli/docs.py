@@ -6,7 +6,7 @@ import webbrowser
 from pathlib import Path
 from typing import Iterator
 
-TOLD = "the documentation, in a browser"
+SUMMARY = "the documentation, in a browser"
 HELP = """\
 Opens the documentation in a browser, and prints where it is. It needs no network, and its search works offline. The
 Debian package, the tar file and the wheel contain it; in a clone, packaging/build.sh writes it."""
@@ -31,7 +31,7 @@ def run(args: argparse.Namespace) -> int:
 
     index = next((place / INDEX for place in places() if (place / INDEX).is_file()), None)
     if index is None:
-        raise Lacking("the documentation isn't installed: packaging/build.sh writes it where Sphinx and MyST are")
+        raise Lacking("the documentation isn't installed: packaging/build.sh writes it, with Sphinx and MyST")
     print(index)
     if not args.path:
         webbrowser.open(index.as_uri())

@@ -10,47 +10,50 @@ if TYPE_CHECKING:
     from ..measures.access_table import AccessTable, AccessKind
     from ..measures.opportunities import Counts
 
-TOLD = "how access is spread over people, by group and scenario"
+SUMMARY = "the distribution of access among people, by group and scenario"
 HELP = """\
-Measures how access is spread over people: from a table of `ttm-tools access` in its long form, and the people at each
-of its origins. A line for each opportunity, percentile, cutoff, group of people and scenario: people, mean and median
-access by people, losers_percent (of the people, who lose --lose percent of the base's access or more), gini, palma (the
-mean of the tenth with the most access, as a multiple of that of the two fifths with the least), least_tenth (the mean
-of the tenth with the least access) and least_tenth_change (the mean change of those who are that tenth in the base).
-Gini and Palma also fall if the well served lose: read them together with mean and losers. docs/reference/measures.md
-has each formula, its source, and what can mislead.
+Measures how access is distributed among people, from a table of `ttm-tools access` in its long form and the people at
+each of its origins. There is a line for each opportunity, percentile, cutoff, group of people and scenario. Its columns
+are people; mean and median access by people; losers_percent (the percentage of people who lose --lose percent of the
+base's access or more); gini; palma (the mean of the tenth with the most access, as a multiple of that of the two fifths
+with the least); least_tenth (the mean of the tenth with the least access); and least_tenth_change (the mean change of
+the people who are that tenth in the base). Gini and Palma also fall if the well served lose: read them together with
+mean and losers. docs/reference/measures.md has each formula, its source, and what can mislead.
 
-Of a table of `ttm-tools access --nearest` the line has people, reached_percent (who reach that number), the mean
-time of these, median_minutes and nine_tenths_minutes (the least time that is enough for half of all people, for nine of
-ten), and losers_percent (who need --lose percent longer or more, or don't reach them any more); --cutoff says how many.
+For a table of `ttm-tools access --nearest` the columns are people; reached_percent (those who reach the number of
+opportunities); their mean time; median_minutes and nine_tenths_minutes (the least time within which half, and nine
+tenths, of all people reach it); and losers_percent (those who need --lose percent longer or more, or no longer reach
+it). --cutoff chooses the number of opportunities.
 
---measure theil prints Theil's T of each group and of all together, with its parts within groups and between them;
-concentration the concentration index by --rank, such as the mean income of an origin; poverty the measures of Foster,
-Greer and Thorbecke (fgt0, fgt1, fgt2) of those below --line.
+--measure theil prints Theil's T of each group and of all together, with its parts within and between groups;
+concentration prints the concentration index by --rank, such as the mean income of an origin; poverty prints the
+measures of Foster, Greer and Thorbecke (fgt0, fgt1, fgt2) for people below --line.
 
-Groups are the columns of numbers of --people: a file with the column stop_id (or id). With --picture Lorenz curves and
-the mean change of each tenth of the people are drawn as PNG, of one opportunity, percentile, cutoff and group; that
-needs matplotlib. Memory: some 100 MB, and 300 bytes for each line of the table."""
+Groups are the columns of numbers of --people: a file with the column stop_id (or id). --picture draws Lorenz curves and
+the mean change of each tenth of the people as PNG, for one opportunity, percentile, cutoff and group; it needs
+matplotlib. Memory: some 100 MB, and 300 bytes for each line of the table."""
 
 
 def describe(parser: argparse.ArgumentParser) -> None:
     parser.add_argument("access", metavar="ACCESS", help="a table of ttm-tools access in its long form")
     add_people(parser)
-    add_text(parser, "--opportunity", "NAME", "the opportunity that is taken", without="all")
-    add_number(parser, "--percentile", "the percentile that is taken", Range("percent", 1, 100), without="all")
-    add_number(parser, "--cutoff", "the cutoff that is taken", Range("minutes", 0, 1e15, whole=False), without="all")
+    add_text(parser, "--opportunity", "NAME", "the opportunity to measure", without="all")
+    add_number(parser, "--percentile", "the percentile to measure", Range("percent", 1, 100), without="all")
+    add_number(parser, "--cutoff", "the cutoff to measure", Range("minutes", 0, 1e15, whole=False), without="all")
     add_base(parser)
-    what = "of the base's access, from which on somebody counts as a loser"
+    what = "the loss, in percent of the base's access, from which people count as losers"
     add_number(parser, "--lose", what, Range("percent", 0, 100, whole=False), default=10)
-    what = "in place of all this Theil's T, the concentration index, or poverty of access"
+    what = "print Theil's T, the concentration index, or poverty of access instead"
     parser.add_argument("--measure", choices=[*FAIRNESS], help=f"{what} (without it, none)")
-    what = "a file with a column such as income, by which concentration ranks the origins; it needs one"
+    what = "a file with a column such as income, which ranks the origins; concentration needs it"
     add_text(parser, "--rank", "FILE", what, without="none")
     what = "the access below which people are poor; poverty needs it"
     add_number(parser, "--line", what, Range("", 1e-9, 1e15, whole=False), without="none")
-    parser.add_argument("--form", choices=("csv", "markdown"), default="csv", help="how it is written (default csv)")
-    add_text(parser, "--picture", "FILE", "where a picture is written", without="none is drawn")
-    add_out(parser, "where the table is written")
+    parser.add_argument(
+        "--form", choices=("csv", "markdown"), default="csv", help="the format of the table (default csv)"
+    )
+    add_text(parser, "--picture", "FILE", "the file of a picture", without="none is drawn")
+    add_out(parser, "the file of the table")
 
 
 def run(args: argparse.Namespace) -> int:
@@ -60,7 +63,7 @@ def run(args: argparse.Namespace) -> int:
     if any((args.measure == name) != (value is not None) for name, value in needed.items()):
         raise WrongWords("--measure concentration needs --rank, and poverty --line; no other measure takes them")
     if args.measure and args.picture:
-        raise WrongWords("--picture goes without --measure")
+        raise WrongWords("--picture does not go with --measure")
     needs("numpy", *(["matplotlib"] if args.picture else []))
     from ..files import output, write_picture
     from ..matrices.beside import labels_of
@@ -102,12 +105,12 @@ def further(args: argparse.Namespace, table: "AccessTable", people: "Counts", ki
     if args.rank:
         found = read_counts([args.rank], table.origins, f"origin of {args.access}")
         if len(found.names) > 1:
-            raise BadInput(args.rank, f"it has the columns {some(found.names)}: a rank is one")
+            raise BadInput(args.rank, f"it has the columns {some(found.names)}: a rank has one")
         rank = found.numbers[:, 0]
         named = {name for _, (name,) in rows(args.rank, [identifier_of(args.rank)])}
         lost = [shown(name) for name in table.origins if name not in named]
         if lost:
-            raise BadInput(args.rank, f"has no rank of {len(lost):,} origins of {args.access}: {some(lost)}")
+            raise BadInput(args.rank, f"ranks are missing for {len(lost):,} origins of {args.access}: {some(lost)}")
     with output(args.out) as file:
         write_fairness(
             file,

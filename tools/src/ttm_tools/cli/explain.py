@@ -10,19 +10,19 @@ if TYPE_CHECKING:
     from ..engine import Run
 
 UNUSED = ("within", "workers", "tries", "origins", "opportunities", "destinations")
-TOLD = "the journey behind a cell, leg by leg, and all departures"
+SUMMARY = "the journey behind a travel time of the matrix, leg by leg, and the durations of all departures"
 HELP = """\
-Shows the journey behind a cell of the matrix: that of the first departure whose duration is the cell's, leg by leg,
-with stops, route, trip, times, waits, changes and walks, for the feed as it is and for each scenario side by side; then
-the durations of all departures (minutes and seconds; a star at the departure of the journey, - if it never arrives).
---picture draws these, minute by minute. With --pairs a table has a line for each pair and scenario: travel time,
-departure, and its parts in seconds (access, wait, ride, change, walk between rides, egress), the number of rides, and
-their routes and trips.
+Shows the journey behind a travel time of the matrix, leg by leg, with stops, route, trip, times, waits, transfers and
+walks. It is the journey of the first departure that has exactly this duration, for the feed as it is and for each
+scenario. The durations of all departures follow (minutes and seconds; a star marks the departure of the journey, - one
+that never arrives); --picture draws them, minute by minute. With --pairs a table has a line for each pair and scenario:
+travel time, departure, its parts in seconds (access, wait, ride, change, walk between rides, egress), the number of
+rides, and their routes and trips.
 
 A second search, in Python, finds the journey by the definitions of docs/explanation/definitions.md. This search isn't
-proved; ttm runs too (or --matrix gives the cell), and if the travel times differ an error prints both. A time of
-24:00:00 or more is of the day after the date. The arguments are those of ttm; scenario files follow the feed directly,
-or come at the end with the feed. Memory: some 200 MB, and 200 bytes for each stop time of the days that count."""
+proved; ttm runs too (or --matrix has the travel time), and if the travel times differ an error prints both. A time of
+24:00:00 or more is on the day after the date. The arguments are those of ttm; scenario files follow the feed directly,
+or stand with it at the end. Memory: some 200 MB, and 200 bytes for each stop time of the days that count."""
 
 
 def clock(text: str) -> str:
@@ -35,10 +35,10 @@ def describe(parser: argparse.ArgumentParser) -> None:
     parser.add_argument("feed", metavar="FEED", help="the folder of an unpacked feed")
     what = "scenario files, each compared with the feed as it is"
     parser.add_argument("scenarios", metavar="SCENARIO", nargs="*", help=what)
-    for name, what in (("--origin", "where the journey begins"), ("--destination", "and where it ends")):
+    for name, what in (("--origin", "where the journey begins"), ("--destination", "where it ends")):
         parser.add_argument(name, metavar="STOP", help=f"the stop {what} (without it, --pairs is needed)")
-    what = "many of these, a file with the columns origin and destination: a table of their journeys as CSV"
-    add_text(parser, "--pairs", "FILE", what, without="one is told leg by leg")
+    what = "a file with the columns origin and destination: write a table of their journeys as CSV"
+    add_text(parser, "--pairs", "FILE", what, without="one journey is printed leg by leg")
     what = "the day of the departures, YYYYMMDD or YYYY-MM-DD, of the years 1 to 9999 (needed)"
     parser.add_argument("--date", metavar="DATE", type=day, required=True, help=what)
     for name, what in (("--from", "first"), ("--to", "last")):
@@ -46,24 +46,26 @@ def describe(parser: argparse.ArgumentParser) -> None:
         parser.add_argument(name, dest=what, metavar="HH:MM", type=clock, required=True, help=help)
     add_number(parser, "--trips", "the maximum number of vehicles of a journey", Range("", 1, 8), default=4)
     add_number(parser, "--walk", "the longest walk", Range("seconds", 0, 7200), default=600)
-    add_number(parser, "--share", "the percentile of the departures, one", Range("percent", 1, 100), default=50)
+    add_number(parser, "--share", "the percentile of the departures", Range("percent", 1, 100), default=50)
     add_number(parser, "--back", "service days before the date that count", Range("days", 0, 6), default=1)
     add_number(parser, "--ahead", "service days after the date that count", Range("days", 0, 6), default=1)
     add_text(parser, "--footpaths", "FILE", "walks in addition to those of the feed", without="there are none")
-    what = "a matrix that has the cell, instead of a run of ttm"
-    add_text(parser, "--matrix", "FILE", what, without="ttm is run")
+    what = "a matrix that has the travel time, instead of a run of ttm"
+    add_text(parser, "--matrix", "FILE", what, without="ttm runs")
     what = "the program ttm"
-    add_text(parser, "--program", "PATH", what, without="TTM_PROGRAM, or that on the path, or the one built here")
+    add_text(
+        parser, "--program", "PATH", what, without="TTM_PROGRAM, else the one on the PATH, else the one built here"
+    )
     what = "a picture of the durations by departure, as PNG; needs matplotlib"
     add_text(parser, "--picture", "FILE", what, without="none is drawn")
     add_out(parser, "the file of the text")
     for name in UNUSED:
-        what = "an option of ttm that changes no journey (without it, nothing changes)"
+        what = "an option of ttm that changes no journey, and is ignored (without it, the same)"
         parser.add_argument(f"--{name}", metavar="VALUE", help=what)
 
 
 def run_of(args: argparse.Namespace) -> "Run":
-    """The run of `ttm` that these arguments ask for."""
+    """The run of `ttm` with these arguments."""
     from ..engine import Run
     from ..faults import WrongWords
 

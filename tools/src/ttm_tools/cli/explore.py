@@ -9,64 +9,66 @@ from .options import Range, add_number, add_text, day
 if TYPE_CHECKING:
     from ..explore.options import ExploreOptions
 
-TOLD = "a page on this machine: click, see travel times, change the network, see again"
+SUMMARY = "a page on this machine: click to see travel times, change the network, and compare"
 HELP = """\
-Serves a page on this machine alone and opens it in the browser: a map of the network that answers at once. Click on a
+Serves a page for this machine alone and opens it in the browser: a map of the network that answers at once. Click on a
 stop, or search for it, to see travel times and isochrones from there, with sliders for minutes, percentile, window,
-trips and walking, and a curve of the opportunities that are reached by minutes. Choose where a journey ends to see it
-leg by leg, and its duration by departure. Take routes out, change how often or how fast they run, end them earlier,
-extend them or draw a new line: each change is an action of a plan, and the changed network is compared with today. The
-address holds the view; the page saves pictures, numbers, and a study that computes all of it.
+trips and walking, and a curve of the opportunities reached by minutes. Choose a destination to see the journey leg by
+leg, and its duration by departure. Remove routes, change how often or how fast they run, end them earlier, extend them
+or draw a new line: each change is an action of a plan, and the changed network is compared with today. The address
+holds the view; the page saves pictures, numbers, and a study that computes all of it.
 
-With --grid the places are cells as well as stops: one walks from the middle of a cell, as ttm-tools points makes it.
-With --streets walks go along streets. Such walks take at most --walk; they are made at the start, and a study that is
-saved has copies of them.
+With --grid the places are cells as well as stops, and walks begin in the middle of a cell, as with ttm-tools points.
+With --streets walks go along streets. Such walks take at most --walk; they are computed at the start, and a saved study
+has copies of them.
 
-`ttm` keeps the network and answers the page. The page asks nobody else, and only this machine can ask: the address has
-a token that changes with each start. Ctrl-C ends it. Files are written into --out alone. Needs flask, jinja2, pandas
-and Leaflet from Debian's libjs-leaflet. Memory: that of a run of ttm, 120 MB, and 30 bytes for each stop time; a
-journey takes 30 bytes more for each, and 55 bytes in a network with changes. While a changed network begins, there are
-two of them."""
+`ttm` keeps the network in memory and answers the page. The page sends requests to nobody else, and only this machine
+can send requests to it: the address has a token that changes with each start. Ctrl-C ends it. Only --out is written to.
+Needs flask, jinja2, pandas and Leaflet from Debian's libjs-leaflet. Memory: that of a run of ttm, 120 MB, and 30 bytes
+for each stop time; a journey takes 30 bytes more for each, and 55 bytes in a network with changes. While a changed
+network starts, there are two networks."""
 
 
 def describe(parser: argparse.ArgumentParser) -> None:
-    meaning = (
-        "the folder of an unpacked feed that ttm takes; or a study's file, whose feed, day, window and plan are taken"
-    )
+    meaning = "the folder of an unpacked feed that ttm accepts; or a study's file, for its feed, day, window and plan"
     parser.add_argument("feed", metavar="FEED", help=meaning)
     meaning = (
         "the day of the departures, YYYYMMDD or YYYY-MM-DD, of the years 1 to 9999 (without it, that of the study)"
     )
     parser.add_argument("--date", metavar="DATE", type=day, help=meaning)
     for name, meaning, at in (("--from", "first", "07:30"), ("--to", "last", "08:29")):
-        help = f"the {meaning} departure at first, one each minute, 00:00 to 23:59 (default {at})"
+        help = f"the {meaning} departure at the start, one each minute, 00:00 to 23:59 (default {at})"
         parser.add_argument(name, dest=meaning, metavar="HH:MM", type=clock, default=at, help=help)
-    add_number(parser, "--trips", "the most vehicles of a journey at first", Range("", 1, 8), default=4)
-    add_number(parser, "--walk", "the longest walk at first", Range("seconds", 0, 7200), default=600)
+    add_number(
+        parser, "--trips", "the maximum number of vehicles of a journey at the start", Range("", 1, 8), default=4
+    )
+    add_number(parser, "--walk", "the longest walk at the start", Range("seconds", 0, 7200), default=600)
     add_number(parser, "--back", "service days before the date that count", Range("days", 0, 6), default=1)
     add_number(parser, "--ahead", "service days after the date that count", Range("days", 0, 6), default=1)
     add_text(parser, "--footpaths", "FILE", "walks in addition to those of the feed", without="there are none")
     meaning = "make walks along the streets of a file of OpenStreetMap (.osm.pbf, .osm); needs pyosmium and scipy"
     add_text(parser, "--streets", "FILE", meaning, without="--footpaths, or straight lines to cells")
-    meaning = "square cells wherever a stop is within a walk, each of them a place to click on; their side"
+    meaning = "square cells wherever a stop is within a walk, as places to click on; their side"
     add_number(parser, "--grid", meaning, Range("metres", 10, 100000, whole=False), without="stops alone")
     add_text(parser, "--plan", "FILE", "a plan whose scenarios are compared with today", without="there is none")
     meaning = (
         "a file with what each stop has, whose columns are counted; may be given more than once (without it, stops)"
     )
     parser.add_argument("--opportunities", metavar="FILE", action="append", default=[], help=meaning)
-    add_text(parser, "--title", "TEXT", "what stands above the page", without="the feed's name")
+    add_text(parser, "--title", "TEXT", "the title of the page", without="the feed's name")
     add_text(parser, "--out", "FOLDER", "where studies are saved", default="explored")
-    add_number(parser, "--port", "where the page is served; 0 takes a free one", Range("", 0, 65535), default=0)
+    add_number(parser, "--port", "the port of the page; 0 takes a free one", Range("", 0, 65535), default=0)
     meaning = "print the address alone (without it, a browser opens it)"
     parser.add_argument("--no-browser", action="store_true", help=meaning)
     meaning = "the program ttm"
-    add_text(parser, "--program", "PATH", meaning, without="TTM_PROGRAM, or that on the path, or the one built here")
-    add_text(parser, "--leaflet", "FOLDER", "where Leaflet lies", default="/usr/share/javascript/leaflet")
+    add_text(
+        parser, "--program", "PATH", meaning, without="TTM_PROGRAM, else the one on the PATH, else the one built here"
+    )
+    add_text(parser, "--leaflet", "FOLDER", "the folder of Leaflet", default="/usr/share/javascript/leaflet")
 
 
 def options_of(args: argparse.Namespace) -> "ExploreOptions":
-    """What these arguments ask for."""
+    """The options of these arguments."""
     from datetime import date
 
     from ..explore.of_study import options_of_study

@@ -15,34 +15,34 @@ from .options import (
     scenarios_of,
 )
 
-TOLD = "stops with access and travel times, for a geographic information system"
+SUMMARY = "stops with access and travel times, for a geographic information system"
 HELP = """\
 Writes the stops of a matrix for a geographic information system, with their access, and with --origin their travel
-times from there: a column for each scenario, share and limit, such as base_50_access_1800 and base_50_seconds, empty
-where a stop is no origin or isn't reached. With --opportunities and --nearest there are the seconds within which so
-many are reached, such as base_50_schools_nearest_1. A name that ends in .geojson or .json writes GeoJSON, one in .gpkg
-a GeoPackage (needs geopandas). Stops are points. Cells are polygons: squares where their file says how wide they are,
-and areas where it has these; in a GeoPackage all polygons are of the kind MultiPolygon. Stops without coordinates are
+times from there. There is a column for each scenario, percentile and limit, such as base_50_access_1800 and
+base_50_seconds, empty if the stop is not an origin or is not reached. --opportunities and --nearest add the seconds
+within which that number is reached, such as base_50_schools_nearest_1. If --out ends in .geojson or .json it is
+GeoJSON, if in .gpkg a GeoPackage (needs geopandas). Stops are points. Cells are polygons: squares if their file has a
+width, areas if it has areas; in a GeoPackage all polygons are of the kind MultiPolygon. Stops without coordinates are
 left out, and counted. Memory: some 100 MB."""
 
 
 def describe(parser: argparse.ArgumentParser) -> None:
     parser.add_argument("--feed", metavar="FOLDER", required=True, help="the unpacked feed of the matrix (needed)")
     add_points(parser)
-    add_text(parser, "--origin", "STOP", "the stop whose travel times are written", without="access alone")
+    add_text(parser, "--origin", "STOP", "the stop from which travel times are written", without="access alone")
     add_several(parser, "--opportunities", "FILE", "a file with what each stop has, for --nearest", without="none")
-    what = "how many of them are to be reached, between commas; needs --opportunities"
+    what = "the numbers of opportunities to reach, between commas; needs --opportunities"
     add_numbers(parser, "--nearest", what, Range("", 1e-9, 1e15, whole=False), without="no such columns")
-    what = "a scenario that is taken; may be given several times (without it, all are)"
+    what = "a scenario to write; may be given more than once (without it, all)"
     parser.add_argument("--scenario", metavar="NAME", action="append", help=what)
     add_share(parser, without="all")
-    what = "where the points are written: .geojson, .json or .gpkg; the file gets its name when it is whole (needed)"
+    what = "the file of the points: .geojson, .json or .gpkg, which appears only when it is complete (needed)"
     parser.add_argument("--out", metavar="FILE", required=True, help=what)
     add_matrix(parser)
 
 
 def run(args: argparse.Namespace) -> int:
-    from ..faults import WrongWords, needs, say
+    from ..faults import WrongWords, needs, quantity, say
 
     kind = gis_kind(args.out)
     if bool(args.opportunities) != bool(args.nearest):
@@ -67,5 +67,5 @@ def run(args: argparse.Namespace) -> int:
         with output(args.out) as file:
             write_geojson(file, features)
     lost = len(matrix.stops_and_origins()) - len(features.stops.identifiers)
-    say(f"{args.out}: {len(features.stops.identifiers)} stops; {lost} have no coordinates")
+    say(f"{args.out}: {quantity(len(features.stops.identifiers), 'stop')}; {lost:,} without coordinates")
     return 0

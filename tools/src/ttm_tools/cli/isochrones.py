@@ -17,15 +17,15 @@ from .options import (
     scenarios_of,
 )
 
-TOLD = "areas that an origin reaches within some minutes"
+SUMMARY = "the areas that can be reached from an origin within given minutes"
 HELP = """\
-Writes the areas that can be reached from an origin within some numbers of minutes: one shape for each band, scenario
+Writes the areas that can be reached from an origin within given numbers of minutes: one shape for each band, scenario
 and percentile, as GeoJSON (.geojson, .json) or GeoPackage (.gpkg, needs geopandas). A point that has a shape, the
-square of its width or the polygon of its file, counts whole where its travel time is within the band. From any other
-point or stop you walk on for the time that is left, up to --walk: as the crow flies, or with --streets along the ways
-of a file of OpenStreetMap, with 50 metres on both sides. Each shape has its area in square kilometres, how many stops
-or points are reached, and with --people the sums of the columns of a file over these. Needs shapely; with --streets
-scipy and osmium."""
+square of its width or the polygon of its file, counts as a whole if its travel time is within the band. From any other
+point or stop you walk on for the remaining time, up to --walk: as the crow flies, or with --streets along the ways of a
+file of OpenStreetMap, with 50 metres on both sides. Each shape has its area in square kilometres, the number of stops
+or points reached, and with --people the sums of a file's columns over them. Needs shapely; with --streets scipy and
+osmium."""
 
 
 def describe(parser: argparse.ArgumentParser) -> None:
@@ -39,22 +39,22 @@ def describe(parser: argparse.ArgumentParser) -> None:
         Range("minutes", 1, 10000, whole=False),
         default="15,30,45,60",
     )
-    about = "a scenario that is taken; may be given several times (without it, all are)"
+    about = "a scenario to write; may be given more than once (without it, all)"
     parser.add_argument("--scenario", metavar="NAME", action="append", help=about)
     add_share(parser, without="all")
-    what = "another matrix, whose base's areas are written too"
+    what = "another matrix, for whose base areas are written too"
     add_text(parser, "--base", "FILE", what, without="none")
     add_base_scenario(parser)
     add_walking(parser)
-    about = "numbers that are summed within each band, such as people: a column stop_id or id, and columns of numbers"
+    about = "numbers to sum within each band, such as people: a column stop_id or id, and columns of numbers"
     add_text(parser, "--people", "FILE", about, without="nothing is summed")
-    about = "where the areas are written: .geojson, .json or .gpkg; the file gets its name when it is whole (needed)"
+    about = "the file of the areas: .geojson, .json or .gpkg, which appears only when it is complete (needed)"
     parser.add_argument("--out", metavar="FILE", required=True, help=about)
     add_matrix(parser)
 
 
 def run(args: argparse.Namespace) -> int:
-    from ..faults import WrongWords, needs, say
+    from ..faults import WrongWords, needs, quantity, say
 
     kind = gis_kind(args.out)
     streets = ["osmium", "scipy"] if args.streets else []
@@ -65,7 +65,7 @@ def run(args: argparse.Namespace) -> int:
     from ..views import isochrones as areas
 
     if args.base is not None and not os.path.isfile(args.base):
-        raise WrongWords(f"--base {args.base} is no file")
+        raise WrongWords(f"--base {args.base} is not a file")
     matrix, stops = shown_of(opened(args), args.feed, args.points)
     assert stops is not None
     there = stops.of(matrix.stops)
@@ -83,5 +83,5 @@ def run(args: argparse.Namespace) -> int:
         with output(args.out) as file:
             areas.write_geojson(file, found, args.origin)
     lost = int((~ground.placed).sum())
-    say(f"{args.out}: {len(found)} areas; {lost} stops have no coordinates")
+    say(f"{args.out}: {quantity(len(found), 'area')}; {quantity(lost, 'stop')} without coordinates")
     return 0

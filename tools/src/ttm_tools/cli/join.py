@@ -4,12 +4,12 @@ import argparse
 
 from .options import add_out
 
-TOLD = "the whole matrix from the matrices of parts"
+SUMMARY = "the whole matrix from the matrices of parts"
 HELP = """\
-Joins the matrices of the parts of a study, in any order: the bytes are those of one run over all origins. All have one
-header; each origin is in exactly one of them, with the same scenarios, one after another, and a line for every
-percentile. Otherwise nothing is written, and the exit status is 1: a line names the part that differs, is truncated or
-repeated, or the origins that are in no part. Memory: the names of the origins."""
+Joins the matrices of the parts of a study, in any order: the bytes are those of one run over all origins. All parts
+must have the same header; each origin must be in exactly one part, with the same scenarios, one after another, and a
+line for every percentile. Otherwise nothing is written, and the exit status is 1: an error names the part that differs,
+is truncated or repeated, or the origins that are in no part. Memory: the names of the origins."""
 
 
 def describe(parser: argparse.ArgumentParser) -> None:

@@ -11,7 +11,7 @@ if TYPE_CHECKING:
     from ..matrices import Matrix
     from ..views.long import TableChoice
 
-TOLD = "a line for each pair, with names and coordinates"
+SUMMARY = "the matrix in long form: a line for each pair, with names and coordinates"
 HELP = """\
 Turns a matrix from wide to long: a line for each origin and destination. A line has scenario, share (the percentile, if
 the matrix names it), origin, destination and seconds: the travel time, empty if too few departures reach the
@@ -23,37 +23,37 @@ matrix names it) and access.
 travel_time for the median alone, in minutes to the nearest hundredth. If --out ends in .parquet it is Parquet (with
 pyarrow or fastparquet), otherwise CSV. Spreadsheets show at most 1,048,576 lines; a CSV with more is written, with a
 warning. --csvt writes a second file with the type of each column, so that QGIS keeps leading zeros of identifiers;
-spreadsheets drop these unless you import the column as text. A spreadsheet takes a name that begins with =, +, - or @
-for a formula: --safe writes an apostrophe before it. Rows are converted in blocks, so a matrix may be larger than the
+spreadsheets drop these unless you import the column as text. A spreadsheet reads a name that begins with =, +, - or @
+as a formula: --safe writes an apostrophe before it. Rows are converted in blocks, so a matrix may be larger than the
 memory. Memory: some 100 MB."""
 
 
 def describe(parser: argparse.ArgumentParser) -> None:
     add_feed(parser, "an unpacked feed, for names and coordinates", "there are none")
     add_points(parser)
-    add_text(parser, "--origins", "FILE", "the origins that are taken, a file with the column stop_id", without="all")
+    add_text(parser, "--origins", "FILE", "the origins to write, a file with the column stop_id", without="all")
     add_text(
         parser,
         "--destinations",
         "FILE",
-        "the destinations that are taken, a file with the column stop_id",
+        "the destinations to write, a file with the column stop_id",
         without="all",
     )
-    what = "a scenario that is taken; may be given several times (without it, all are)"
+    what = "a scenario to write; may be given more than once (without it, all)"
     parser.add_argument("--scenario", metavar="NAME", action="append", help=what)
     add_share(parser, without="all")
     add_within(parser, without="all; goes with --access")
     what = "leave out the pairs without a travel time (without it, their seconds are empty)"
     parser.add_argument("--reached", action="store_true", help=what)
-    what = "access of the origins in place of travel times (without it, travel times)"
+    what = "write the access of the origins instead of travel times (without it, travel times)"
     parser.add_argument("--access", action="store_true", help=what)
-    what = "which names the columns have (default ttm); r5py's have one scenario and minutes"
+    what = "the names of the columns (default ttm); r5py's are for one scenario, in minutes"
     parser.add_argument("--names", choices=("ttm", "r5py"), default="ttm", help=what)
     what = "also write the types of the columns, to a file that ends in .csvt, for QGIS (without it, none)"
     parser.add_argument("--csvt", action="store_true", help=what)
-    what = "write an apostrophe before names that a spreadsheet takes for formulas (without it, as they are)"
+    what = "write an apostrophe before names that a spreadsheet reads as formulas (without it, none)"
     parser.add_argument("--safe", action="store_true", help=what)
-    add_out(parser, "where the lines are written, as CSV or, where it ends in .parquet, as Parquet")
+    add_out(parser, "the file of the lines: Parquet if it ends in .parquet, otherwise CSV")
     add_matrix(parser)
 
 
@@ -92,7 +92,7 @@ def run(args: argparse.Namespace) -> int:
         with output(f"{args.out}t") as file:
             file.write((",".join(f'"{long.type_of(name)}"' for name in header) + "\n").encode("ascii"))
     if count > long.MOST_LINES:
-        sentence = f"{count:,} lines, of which a spreadsheet shows {long.MOST_LINES:,}: take some by --origins"
+        sentence = f"{count:,} lines, of which a spreadsheet shows {long.MOST_LINES:,}: choose some with --origins"
         print(f"{args.out or 'standard output'}: {sentence}", file=sys.stderr)
     return 0
 
@@ -107,7 +107,8 @@ def choice_of(args: argparse.Namespace, matrix: "Matrix") -> "TableChoice":
     scenarios = [name for name in matrix.scenarios if name in named]
     if args.names == "r5py" and len(scenarios) > 1:
         raise BadInput(
-            args.matrix, f"r5py's columns name no scenario, and it has {', '.join(scenarios)}: name one by --scenario"
+            args.matrix,
+            f"r5py's columns name no scenario, and it has {', '.join(scenarios)}: choose one with --scenario",
         )
     shares = matrix.shares if args.share is None else [matrix.share(args.share)]
     known = [name for scenario in matrix.scenarios for name in matrix.origins(scenario, shares[0])]

@@ -25,71 +25,71 @@ if TYPE_CHECKING:
     from ..views.nearest import Nearest
     from ..views.pictures import PictureOptions
 
-TOLD = "a picture of travel times, of access, or of a difference"
+SUMMARY = "a map of travel times, of access, or of the difference between scenarios"
 HELP = """\
-Draws a map of a matrix, a PNG file: travel times from an origin (times), access over all origins (access), or who loses
-and who gains in a scenario compared with the base (difference): access at each origin, or with --origin the travel time
-to each stop. Who is cut off is a class of its own: a stop that isn't reached any more, an origin that loses all access.
-So is who is newly reached: a stop that wasn't reached before, an origin that had no access before. With nearest each
-origin shows the travel time within which this number of --opportunities is reached; a difference shows how that changes
-if --nearest says how many. With isochrones the areas are drawn that are reached from --origin within the minutes of
---breaks, with their square kilometres: cells whole, and from stops on by walking, as the crow flies or along --streets.
+Draws a map of a matrix as PNG: travel times from an origin (times), access of all origins (access), or who loses and
+who gains in a scenario compared with the base (difference), by the access of each origin, or with --origin by the
+travel time to each stop. A stop that is no longer reached, and an origin that loses all access, are in a class of their
+own, cut off; a stop that was not reached before, and an origin that had no access, are in another, new. With nearest,
+each origin shows the travel time within which --nearest opportunities are reached; with --nearest, a difference shows
+how that time changes. With isochrones, the map shows the areas reached from --origin within the minutes of --breaks,
+and their square kilometres: cells as a whole, and the walks from stops, as the crow flies or along --streets.
 
-Points are drawn alone where the matrix has them: as squares where the file of points says how wide they are, and as
-areas where it has these.
-Stops are drawn where the feed's stops.txt has them, over the lines of its shapes.txt, or over straight ones from stop
-to stop where it has none. With --edits the lines of the trips that a scenario file removes are drawn black; in a
-difference from a base that has a scenario file of its own, name both files, and the trips that the base lacks and the
-scenario has are drawn as added. Of a feed that ttm-tools scenarios wrote its own scenario files are taken: new lines
-are drawn as added, and lines whose trips are others as changed. Needs matplotlib. Memory: some 150 MB, and 110 bytes
-for each stop time of the feed."""
+If the matrix has points, only these are drawn: as squares if the file of points has a width, as areas if it has areas.
+Stops are drawn at their place in stops.txt, over the lines of shapes.txt, or over straight lines from stop to stop if
+there is no such file. --edits draws the lines of the trips that a scenario file removes in black. For a difference from
+a base that has a scenario file itself, name both files: the trips that only the scenario has are drawn as added. For a
+feed of ttm-tools scenarios, its own scenario files are the default: new lines are drawn as added, and lines with other
+trips as changed. Needs matplotlib. Memory: some 150 MB, and 110 bytes for each stop time of the feed."""
 
 
 def breaks_of(text: str) -> tuple[float, ...]:
-    """Numbers that grow."""
+    """Ascending numbers between commas."""
     try:
         numbers = [float(part) for part in text.split(",")]
     except ValueError:
         numbers = [math.nan]
     grows = all(low < high for low, high in zip(numbers, numbers[1:]))
     if not (numbers[0] > 0 and grows and math.isfinite(numbers[-1])):
-        raise argparse.ArgumentTypeError(f"{text!r} is not numbers above 0 that grow, parted by commas")
+        raise argparse.ArgumentTypeError(f"{text!r} is not ascending numbers above 0, between commas")
     return tuple(int(number) if number.is_integer() else number for number in numbers)
 
 
 def describe(parser: argparse.ArgumentParser) -> None:
     parser.add_argument(
-        "picture", choices=("times", "access", "nearest", "isochrones", "difference"), help="what is drawn"
+        "picture", choices=("times", "access", "nearest", "isochrones", "difference"), help="what the map shows"
     )
     add_matrix(parser)
     parser.add_argument("--feed", metavar="FOLDER", required=True, help="the unpacked feed of the matrix (needed)")
     add_points(parser)
-    add_text(parser, "--origin", "STOP", "the stop from which one starts", without="access is drawn; times needs it")
-    missing = "the base, in a difference the only other one"
-    add_text(parser, "--scenario", "NAME", "the scenario that is drawn", without=missing)
+    add_text(parser, "--origin", "STOP", "the origin of the journeys", without="access; times and isochrones need it")
+    missing = "the base; in a difference the only other one"
+    add_text(parser, "--scenario", "NAME", "the scenario to draw", without=missing)
     add_base(parser)
     what = "a file with what each stop has, for nearest: a column stop_id (or id), and columns of numbers"
-    add_text(parser, "--opportunities", "FILE", what, without="nearest isn't drawn")
-    add_text(parser, "--column", "NAME", "the column of it that is looked for", without="the only one")
-    what = "how many of these are to be reached"
-    add_number(parser, "--nearest", what, Range("", 1e-9, 1e15, whole=False), without="1, and in a difference access")
+    add_text(parser, "--opportunities", "FILE", what, without="an error for nearest")
+    add_text(parser, "--column", "NAME", "the column of this file to look for", without="the only one")
+    what = "the number of these opportunities to reach"
+    add_number(
+        parser, "--nearest", what, Range("", 1e-9, 1e15, whole=False), without="1; in a difference, access is compared"
+    )
     add_share(parser)
     add_within(parser)
-    what = "a scenario file, named as its scenario, whose trips are drawn"
+    what = "a scenario file, named as its scenario, whose trips to draw"
     add_several(parser, "--edits", "FILE", what, without="none")
     add_walking(parser, ", in isochrones", " there")
-    add_text(parser, "--unit", "WORD", "what is counted as access, such as jobs", default="opportunities")
-    what = "where classes begin, ascending numbers above 0 between commas: of minutes, of access, or of percent"
+    add_text(parser, "--unit", "WORD", "what access counts, such as jobs", default="opportunities")
+    what = "where classes begin, ascending numbers above 0 between commas: minutes, access, or percent"
     missing = (
-        "default 10,20,30,45,60,90 minutes, of isochrones 15,30,45,60; in a difference 1,5,15 minutes or 1,5,10,25 %%; "
-        "of access round numbers"
+        "default 10,20,30,45,60,90 minutes, for isochrones 15,30,45,60, for a difference 1,5,15 minutes or "
+        "1,5,10,25 %%, for access round numbers"
     )
     parser.add_argument("--breaks", metavar="N,N..", type=breaks_of, help=f"{what} ({missing})")
-    add_text(parser, "--title", "TEXT", "what stands above the map", without="what is drawn")
+    add_text(parser, "--title", "TEXT", "the title of the map", without="what it shows")
     add_text(parser, "--note", "TEXT", "what else a reader needs to know", without="nothing")
-    add_number(parser, "--width", "how wide the picture is", Range("pixels", 300, 10000), default=1350)
+    add_number(parser, "--width", "the width of the picture", Range("pixels", 300, 10000), default=1350)
     add_text(
-        parser, "--out", "FILE", "where the picture is written; it gets its name when it is whole", default="map.png"
+        parser, "--out", "FILE", "the file of the picture, which appears only when it is complete", default="map.png"
     )
 
 
@@ -154,5 +154,5 @@ def sought_of(args: argparse.Namespace, matrix: "Matrix") -> "Nearest":
     columns = [args.column] if args.column else []
     counts = read_counts([args.opportunities], matrix.stops, "stop of the matrix", columns)
     if len(counts.names) > 1:
-        raise BadInput(args.opportunities, f"it has the columns {some(counts.names)}: name one by --column")
+        raise BadInput(args.opportunities, f"it has the columns {some(counts.names)}: choose one with --column")
     return Nearest(counts.names[0], counts.numbers[:, 0], args.nearest or 1.0)

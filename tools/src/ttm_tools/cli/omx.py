@@ -4,13 +4,13 @@ import argparse
 
 from .options import add_points, add_text, scenarios_of
 
-TOLD = "an Open Matrix file"
+SUMMARY = "an Open Matrix file"
 HELP = """\
 Writes a matrix as an Open Matrix file (OMX, an HDF5 file), which AequilibraE, Visum, Emme and TransCAD load: a matrix
 for each scenario and percentile, such as base_50, in seconds, NaN where a stop isn't reached; lookups with the
 identifiers of origins and destinations and with numbers from 1 on; and the sums of access. All scenarios and
-percentiles have the same origins. Every command of ttm-tools takes such a file instead of the matrix, so a large one is
-read once. Needs h5py. Memory: some 100 MB."""
+percentiles have the same origins. Every command of ttm-tools accepts such a file instead of the matrix, so that a large
+matrix is read once. Needs h5py. Memory: some 100 MB."""
 
 
 def describe(parser: argparse.ArgumentParser) -> None:

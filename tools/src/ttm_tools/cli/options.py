@@ -59,7 +59,7 @@ def day(text: str) -> "datetime.date":
     try:
         return day_of(text)
     except ValueError:
-        raise argparse.ArgumentTypeError(f"{text!r} is no day, {ALLOWED}") from None
+        raise argparse.ArgumentTypeError(f"{text!r} is not a date, {ALLOWED}") from None
 
 
 def add_number(
@@ -103,8 +103,8 @@ def add_matrix(parser: argparse.ArgumentParser) -> None:
 
 
 def opened(args: argparse.Namespace) -> "Matrix":
-    """The matrix that a command names, with the greatest travel time that it names, and beside the base of another file
-    where --base names one.
+    """The matrix that a command names, with the greatest travel time that it names, and compared with the base of
+    another file where --base names one.
     """
     from ..matrices import Beside, capped, open_matrix
 
@@ -141,9 +141,7 @@ def add_within(parser: argparse.ArgumentParser, without: str = "the only one") -
         metavar="MINUTES",
         help=what,
     )
-    add_number(
-        parser, "--within", "the same in seconds, as ttm has it", Range("seconds", 0, MOST_LIMIT), without=without
-    )
+    add_number(parser, "--within", "the same in seconds, as for ttm", Range("seconds", 0, MOST_LIMIT), without=without)
 
 
 def add_cutoffs(parser: argparse.ArgumentParser, what: str, bounds: tuple[float, float], default: str) -> None:
@@ -160,7 +158,7 @@ def add_cutoffs(parser: argparse.ArgumentParser, what: str, bounds: tuple[float,
         metavar="N,N..",
         help=f"{what}: {minutes} (default {default})",
     )
-    text = f"the same in seconds, as ttm has them: {seconds}"
+    text = f"the same in seconds, as for ttm: {seconds}"
     parser.add_argument(
         "--within",
         dest="cutoffs",
@@ -172,14 +170,14 @@ def add_cutoffs(parser: argparse.ArgumentParser, what: str, bounds: tuple[float,
 
 
 def add_base(parser: argparse.ArgumentParser) -> None:
-    what = "base, or today of a plan"
-    about = "the scenario to compare others with, or a file of the same kind with whose base they are compared"
+    what = "base, or today for a plan"
+    about = "the scenario to compare with, or another file of the same kind, whose base to compare with"
     add_text(parser, "--base", "NAME|FILE", about, without=what)
     add_base_scenario(parser)
 
 
 def add_base_scenario(parser: argparse.ArgumentParser) -> None:
-    what = "the scenario of a file that --base names"
+    what = "the scenario of the file that --base names"
     add_text(parser, "--base-scenario", "NAME", what, without="its base, or today")
 
 
@@ -209,14 +207,12 @@ def add_pace(parser: argparse.ArgumentParser) -> None:
 
 
 def add_walking(parser: argparse.ArgumentParser, of: str = "", there: str = "", along: str = "") -> None:
-    """How areas go on from a stop; the texts say of what picture."""
-    add_number(
-        parser, "--walk", f"how long you walk on from a stop at most{of}", Range("seconds", 0, 7200), default=600
-    )
-    add_number(parser, "--speed", f"how fast you walk{there}", Range("m/s", 0.01, 100, whole=False), default=1.33)
-    what = "metres of way for a metre of straight line"
+    """The options of walks on from a stop in areas; the texts name the picture."""
+    add_number(parser, "--walk", f"the longest walk on from a stop{of}", Range("seconds", 0, 7200), default=600)
+    add_number(parser, "--speed", f"the walking speed{there}", Range("m/s", 0.01, 100, whole=False), default=1.33)
+    what = "length of a walk, as a multiple of the straight line"
     add_number(parser, "--detour", what, Range("", 1, 100, whole=False), default=1.3)
-    what = f"a file of OpenStreetMap, along whose ways you walk on{along}"
+    what = f"a file of OpenStreetMap, along whose ways walks go{along}"
     add_text(parser, "--streets", "FILE", what, without="circles")
     what = "the greatest distance of a stop from a way"
     add_number(parser, "--near", what, Range("metres", 0, 10000, whole=False), default=100)
@@ -245,6 +241,6 @@ def scenarios_of(matrix: "Matrix", named: Sequence[str] | None) -> list[str]:
 
 def add_people(parser: argparse.ArgumentParser) -> None:
     """The files with how many people are at each origin, and which of their columns count."""
-    what = "a file with how many people are at each origin; may be given more than once (needed)"
+    what = "a file with the number of people at each origin; may be given more than once (needed)"
     parser.add_argument("--people", metavar="FILE", action="append", required=True, help=what)
     add_several(parser, "--column", "NAME", "a group of people, a column of these files", without="all")

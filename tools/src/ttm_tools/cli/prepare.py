@@ -6,12 +6,12 @@ import datetime
 from ..prepare.rules import help_table
 from .options import Range, add_number, add_several, add_text, day
 
-TOLD = "a folder that ttm reads, from published feeds: checked, repaired, clipped, merged"
+SUMMARY = "a feed that ttm reads, from published feeds: checked, repaired, clipped, merged"
 HELP = """\
-Writes a folder that ttm reads from published feeds, zip files or folders, also with a folder inside.
+Writes a folder that ttm reads, from published feeds: zip files or folders, with the files in it or one folder below.
 
---check reports all errors for which ttm would refuse the feed, in ttm's order, and writes no folder: for each check
-that fails the line that ttm would print, then the value, what is allowed, and how often. A field that fails several
+--check reports all errors for which ttm would refuse the feed, in ttm's order, and writes no folder. For each check
+that fails it prints ttm's line, then the value, what is allowed, and how often it fails. A field that fails several
 checks is reported once; references to a missing file are not checked. Warnings follow: the days on which trips run,
 misspelt columns, stops without coordinates or at 0 and 0, trips of a single stop, speeds over 300 km/h, stations used
 as stops, transfers that aren't used. For a feed with errors, the days are those that --repair would leave, with what it
@@ -28,8 +28,8 @@ folder anyway.
 Several feeds are merged: each is checked and repaired by itself. If identifiers of one kind (stops, routes, trips,
 services, agencies, shapes, fares, zones ..) collide with those of an earlier feed, all those of the later feed begin
 with its name and a colon. Agencies, shapes, fares, pathways, levels, translations, attributions, areas and networks are
-merged too; feed_info.txt has one record of all; other files are left out, and named. Routes of a feed with one agency
-name it. Feeds of several time zones are refused without --same-clock.
+merged too; feed_info.txt has one record for all; other files are left out and listed. Routes of a feed with one agency
+get its name. Feeds of several time zones are refused without --same-clock.
 
 --box, --area, --routes, --agency and --date clip the feed. Stops outside the region are removed with all that belongs
 to them; a trip keeps its calls inside, two at least. Journeys through a place outside are lost; all others stay. Of
@@ -48,20 +48,20 @@ def describe(parser: argparse.ArgumentParser) -> None:
     parser.add_argument("--check", action="store_true", help=only)
     add_text(parser, "--faults", "FILE", "with --check, a line for each single error, as CSV", without="none")
     add_text(parser, "--out", "FOLDER", "the folder to write; it must be new or empty", without="--check is needed")
-    parser.add_argument("--repair", action="store_true", help="repair errors (without it, they are refused)")
-    what = "write what a repair leaves even if it removes much of a file, or if no trip runs (without it, refused)"
+    parser.add_argument(
+        "--repair", action="store_true", help="repair errors (without it, they are reported and nothing is written)"
+    )
+    what = "write the feed even if a repair removes much of a file, or if no trip runs (without it, an error)"
     parser.add_argument("--allow-loss", action="store_true", help=what)
-    what = "merge feeds of several time zones, and treat their times as those of one (without it, refused)"
+    what = "merge feeds of several time zones, and treat their times as those of one (without it, an error)"
     parser.add_argument("--same-clock", action="store_true", help=what)
     what = "west, south, east, north in degrees, -180 to 180 and -90 to 90: keep the stops inside (without it, all)"
     parser.add_argument("--box", type=box, metavar="W,S,E,N", help=what)
     add_text(parser, "--area", "FILE", "GeoJSON polygons: keep the stops inside; needs shapely", without="all")
     add_several(parser, "--routes", "ROUTE_ID", "a route to keep", without="all")
-    what = "an agency whose routes are kept; several by several times --agency (without it, all)"
+    what = "an agency whose routes to keep; may be given more than once (without it, all)"
     parser.add_argument("--agency", action="append", default=[], metavar="AGENCY_ID", help=what)
-    what = (
-        "YYYYMMDD or YYYY-MM-DD: services that run --back days before it to --ahead after it are kept (without it, all)"
-    )
+    what = "YYYYMMDD or YYYY-MM-DD: keep services that run --back days before it to --ahead after (without it, all)"
     parser.add_argument("--date", type=day, metavar="DATE", help=what)
     add_number(parser, "--back", "days before the date, as for ttm", Range("days", 0, 6), default=1)
     add_number(parser, "--ahead", "days after the date, as for ttm", Range("days", 0, 6), default=1)
@@ -97,7 +97,7 @@ def run(args: argparse.Namespace) -> int:
     try:
         days = [args.date + datetime.timedelta(number) for number in span]
     except OverflowError:
-        raise WrongWords("--date with --back and --ahead is no date") from None
+        raise WrongWords("--date with --back and --ahead goes beyond the calendar") from None
     clip = Clip(args.box, args.area, args.routes, args.agency, days)
     with scratch("feed") as room:
         day = args.date if args.repair else None
@@ -108,7 +108,7 @@ def run(args: argparse.Namespace) -> int:
 
 
 def check_feeds(args: argparse.Namespace) -> int:
-    """Reports the faults of each feed."""
+    """Reports the errors of each feed."""
     from ..column_list import ERRORS, names_of
     from ..faults import as_line
     from ..files import output, scratch
@@ -124,7 +124,7 @@ def check_feeds(args: argparse.Namespace) -> int:
             feed = read_feed(path, room)
             faults = check(feed)
             rows.extend(report.fault_rows(faults))
-            lines = [*(report.fault_lines(faults) if faults else ["no faults"]), *sentences(feed, bool(faults))]
+            lines = [*(report.fault_lines(faults) if faults else ["no errors"]), *sentences(feed, bool(faults))]
             print("\n".join(map(as_line, [f"{path}:"] * (len(args.feeds) > 1) + lines)))
     if args.faults:
         with output(args.faults) as file:

@@ -7,25 +7,25 @@ import sys
 from ..plans.action_list import help_table
 from .options import add_text
 
-TOLD = "a feed with scenario files, from a plan of new lines, headways and speeds"
+SUMMARY = "a feed with scenario files, from a plan of new lines, headways and speeds"
 HELP = """\
 Writes a feed with the trips of all scenarios of a plan, and for each scenario a file that removes what it lacks, so
 that one run of ttm compares them. FOLDER is a feed by the GTFS reference. It also has scenarios/NAME.csv and
 scenarios/today.csv, the feed as it was; scenarios.words, the arguments of the run, which are printed too; scenarios.md,
-what each action did; actions.csv, changes.csv and new_stops.csv, the same as lists.
+what each action did; actions.csv, changes.csv and new_stops.csv, the same as tables.
 
 A plan is a TOML file. Each [[scenario]] has a name, and [[scenario.action]] tables, carried out in their order; `do` is
 one of:
 
 {actions}
 
-"route .." is a route or several, of which direction (0 or 1, as the feed states it), pattern (a trip: those that call
-at its stops) and service select some trips. Times are "HH:MM" or "HH:MM:SS". A [[stop]] with id, name, lat and lon is
-new. An action that changes nothing, names something unknown, or lets times go back is an error with the plan's line.
+"route .." is a route or several; direction (0 or 1, as in the feed), pattern (a trip: selects those that call at its
+stops) and service select some of their trips. Times are "HH:MM" or "HH:MM:SS". A [[stop]] with id, name, lat and lon is
+new. An action that changes nothing, names something unknown, or makes times go back is an error with the plan's line.
 
-The feed must be one that ttm takes (ttm-tools prepare writes one). compare, map, long and others leave out ttm's
-scenario `base`, which has everything at once, and take `today` for it. Memory: some 200 bytes for each stop time that
-is written."""
+The feed must be one that ttm accepts (ttm-tools prepare writes one). compare, map, long and others leave out ttm's
+scenario `base`, which has the trips of all scenarios at once, and use `today` as the base. Memory: some 200 bytes for
+each stop time that is written."""
 
 
 def describe(parser: argparse.ArgumentParser) -> None:

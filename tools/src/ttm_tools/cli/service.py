@@ -9,25 +9,25 @@ from .options import add_out, add_text, day
 if TYPE_CHECKING:
     from ..views.service import Day
 
-TOLD = "what runs: departures, headways, speeds, vehicles, hours and kilometres"
+SUMMARY = "the service: departures, headways, speeds, vehicles, hours and kilometres"
 HELP = """\
-Shows what runs on a service day, by route, direction and period, for the feed as it is and for each scenario file, one
-below the other: departures, the median headway and the greatest gap (minutes, at the stop at which most vehicles of the
-direction call; none of both directions together), first departure, last arrival, kilometres an hour, the most vehicles
-under way at once, vehicle hours and vehicle kilometres (straight from stop to stop). A departure counts in the period
-in which it leaves its first stop, with all its time and way; trips after midnight are of the day on which their service
-runs. --by says what a line is: a direction of a route, a route, all, or a stop, with its departures an hour. Of a feed
-that ttm-tools scenarios wrote its own scenario files are taken where none is named. A line on standard error
-compares each scenario's totals with the first's.
+Shows what runs on a service day, by route, direction and period, for the feed as it is and for each scenario file:
+departures, the median headway and the greatest gap (minutes, at the stop at which most vehicles of the direction call;
+empty for both directions together), first departure, last arrival, kilometres an hour, the maximum number of vehicles
+under way at once, vehicle hours and vehicle kilometres (in straight lines from stop to stop). A departure counts in the
+period in which it leaves its first stop, with its whole time and distance; trips after midnight belong to the day of
+their service. --by chooses what a line stands for: a direction of a route, a route, everything, or a stop with its
+departures an hour. For a feed of ttm-tools scenarios, its own scenario files are the default. A line on standard error
+compares the totals of each scenario with those of the first.
 
 --page writes an HTML page like a timetable at a stop: minutes of departure by hour, scenarios side by side. --picture
-draws a map, where a wider line has more vehicles an hour; needs matplotlib. docs/reference/measures.md says how each is
-counted. Needs pandas. Memory: some 150 MB, and 300 bytes for each stop time of the day and scenario."""
+draws a map on which a wider line has more vehicles an hour; needs matplotlib. docs/reference/measures.md defines each
+number. Needs pandas. Memory: some 150 MB, and 300 bytes for each stop time of the day and scenario."""
 CLOCK = re.compile(r"([0-9]{1,3}):([0-5][0-9])")
 
 
 def times(text: str) -> list[int]:
-    """Times of a day that grow, in seconds."""
+    """Ascending times of a day, in seconds."""
     found = [CLOCK.fullmatch(part) for part in text.split(",")]
     seconds = [int(match[1]) * 3600 + int(match[2]) * 60 for match in found if match]
     grows = all(low < high for low, high in zip(seconds, seconds[1:]))
@@ -42,14 +42,16 @@ def describe(parser: argparse.ArgumentParser) -> None:
     parser.add_argument("scenarios", metavar="SCENARIO", nargs="*", help=what)
     what = "the service day, YYYYMMDD or YYYY-MM-DD, of the years 1 to 9999 (needed)"
     parser.add_argument("--date", metavar="DATE", type=day, required=True, help=what)
-    what = "where periods begin, and the last one ends: 00:00 to 168:00 between commas (default 00:00,48:00)"
+    what = (
+        "the times at which periods begin and the last one ends: 00:00 to 168:00 between commas (default 00:00,48:00)"
+    )
     parser.add_argument("--periods", metavar="TIMES", type=times, default=[0, 48 * 3600], help=what)
     what = "what a line stands for (default direction)"
     parser.add_argument("--by", choices=("direction", "route", "all", "stop"), default="direction", help=what)
-    add_text(parser, "--page", "FILE", "where a page like a timetable is written, as HTML", without="none is")
-    what = "where a map of the last scenario and the first period is drawn, as PNG"
-    add_text(parser, "--picture", "FILE", what, without="none is")
-    add_out(parser, "where the table is written")
+    add_text(parser, "--page", "FILE", "the file of a page like a timetable, as HTML", without="none is written")
+    what = "the file of a map of the last scenario in the first period, as PNG"
+    add_text(parser, "--picture", "FILE", what, without="none is drawn")
+    add_out(parser, "the file of the table")
 
 
 def run(args: argparse.Namespace) -> int:
@@ -95,7 +97,7 @@ def day_of(args: argparse.Namespace) -> "Day":
     files = args.scenarios or sorted(map(str, folder.glob("*.csv")), key=lambda path: Path(path).stem != TODAY)
     names = [Path(path).name.removesuffix(".csv") for path in files]
     if len(set(names)) < len(names) or BASE in names:
-        raise BadInput(", ".join(files), "scenario files are called by their names, each once, and none base")
+        raise BadInput(", ".join(files), "two scenario files have the same name, or one is called base")
     stops = read_stops(args.feed)
     timetable = read_timetable(stops)
     own = stops.of(timetable.stops)

@@ -4,7 +4,7 @@ import argparse
 
 from .options import Range, add_number, add_text
 
-TOLD = "the origins of a study in parts"
+SUMMARY = "the origins of a study, cut into parts"
 HELP = """\
 Cuts the origins of a study into parts, one for each process, processor or machine. With --feed the origins are all
 stops of the feed. The files part_0001.csv .. have the origins in their order, in a column stop_id; sizes differ by one
@@ -24,12 +24,12 @@ def describe(parser: argparse.ArgumentParser) -> None:
 
 
 def run(args: argparse.Namespace) -> int:
-    from ..faults import needs, say
+    from ..faults import needs, quantity, say
 
     needs("numpy")
     from ..parts import origins_in, origins_of_feed, write_parts
 
     origins = origins_in(args.origins) if args.origins else origins_of_feed(args.feed)
     parts = write_parts(origins, args.parts or 1, args.out)
-    say(f"{len(origins)} origins in {parts} parts")
+    say(f"{quantity(len(origins), 'origin')} in {quantity(parts, 'part')}")
     return 0

@@ -64,7 +64,7 @@ def answered(answer: Callable[[Exploration], Answer], exploration: Exploration, 
     except MemoryError:
         return {"fault": "out of memory"}, REFUSED
     except Exception as fault:  # an error of its own ends no other answer
-        message = one_line(f"an error of its own, {type(fault).__name__}: {fault}")[:LONGEST]
+        message = one_line(f"internal error, {type(fault).__name__}: {fault}")[:LONGEST]
         say(f"ttm-tools explore: {message}")
         return {"fault": message}, OF_ITS_OWN
 

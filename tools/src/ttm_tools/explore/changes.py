@@ -30,7 +30,7 @@ def actions_of(body: Any) -> list[Values]:
     """The actions that the page sends, each of a kind with its values, which the plan looks at further."""
     found = body.get("actions") if isinstance(body, dict) else None
     if not isinstance(found, list) or len(found) > MOST_ACTIONS:
-        raise WrongWords(f"actions are no list of at most {MOST_ACTIONS}")
+        raise WrongWords(f"actions is not a list of at most {MOST_ACTIONS}")
     for action in found:
         kind = action.get("do") if isinstance(action, dict) else None
         if not isinstance(kind, str) or kind not in KINDS:
@@ -58,7 +58,7 @@ def decimal(value: Any, name: str) -> Decimal:
     except InvalidOperation:
         number = Decimal("NaN")
     if not number.is_finite() or abs(number) > MOST or number != round(number, 6):
-        raise WrongWords(f"{name} is {str(value)[:60]!r}, no number of at most six decimals")
+        raise WrongWords(f"{name} is {str(value)[:60]!r}, not a number with at most six decimals")
     return number
 
 
@@ -74,7 +74,7 @@ class Namer:
 
     def several(self, value: Any) -> list[str]:
         if not isinstance(value, list) or not 0 < len(value) <= MOST_STOPS:
-            raise WrongWords(f"stops are no list of 1 to {MOST_STOPS}")
+            raise WrongWords(f"stops is not a list of 1 to {MOST_STOPS}")
         return [self.stop(place) for place in value]
 
     def action(self, change: Values) -> Values:
@@ -100,7 +100,7 @@ class Namer:
     def new_line(self, change: Values) -> Values:
         name = change["name"]
         if not isinstance(name, str) or not 0 < len(name) <= LONGEST or not name.isprintable():
-            raise WrongWords(f"name is no text of 1 to {LONGEST} printed letters")
+            raise WrongWords(f"name is not a text of 1 to {LONGEST} printable characters")
         departures: Values = {"first": change["first"], "last": change["last"]}
         departures["every"] = number(change["every"], "every", 1, 86_400)
         ends = {"stops": self.several(change["stops"]), **pace(change), "both": change["both"] is True}
@@ -123,7 +123,7 @@ def in_toml(value: Any) -> str:
         return "{ " + ", ".join(f"{key} = {in_toml(item)}" for key, item in value.items()) + " }"
     if isinstance(value, list):
         return "[" + ", ".join(in_toml(item) for item in value) + "]"
-    raise WrongWords(f"{str(value)[:60]!r} is no text and no number")
+    raise WrongWords(f"{str(value)[:60]!r} is neither a text nor a number")
 
 
 def scenario_text(name: str, actions: Sequence[Values]) -> str:
@@ -135,7 +135,7 @@ def scenario_text(name: str, actions: Sequence[Values]) -> str:
 
 
 def name_among(names: Sequence[str]) -> str:
-    """What the scenario of a person's changes is called beside those of a plan."""
+    """The name of the scenario of a person's changes, which none of a plan has."""
     number, name = 1, NAME
     while name in names:
         number += 1

@@ -24,7 +24,7 @@ MINUTES = 30  # at which the slider stands first
 
 
 def kind_of(exploration: Exploration) -> page.PageKind:
-    """The files of the page, with those that ask the server."""
+    """The files of the page, with those that send requests to the server."""
     scripts = [name for name in page.SCRIPTS if name not in ("cells.js", "bands.js")]
     scripts[1:1] = [LIVE[0]]
     scripts[-1:-1] = LIVE[1:]
@@ -60,7 +60,7 @@ def frame_of(exploration: Exploration) -> page.Frame:
         standing.scenarios,
         list(options.shares),
         [sources.meaning(share, arguments) for share in options.shares],
-        [("Feed", name), ("Date", options.date.isoformat()), ("Made by", "ttm-tools explore")],
+        [("Feed", name), ("Date", options.date.isoformat()), ("Written by", "ttm-tools explore")],
         [],
         MINUTES,
         leaflet=options.leaflet,

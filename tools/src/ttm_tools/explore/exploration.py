@@ -42,7 +42,7 @@ class Times:
 
 
 class Exploration:
-    """A network that a person holds in the hand. Several threads may ask it."""
+    """A network that a person explores. Several threads may use it."""
 
     def __init__(self, options: ExploreOptions, room: Path) -> None:
         self.options, self.room = options, room
@@ -51,7 +51,7 @@ class Exploration:
         if self.plan_text:
             self.begun(
                 0, Plan(options.feed, [], options.walk, [], "", [], None)
-            ).close()  # tells what is wrong with the feed
+            ).close()  # reports what is wrong with the feed
         self.standing = self.begun(1, self.planned([], options.walk))
         self.ground = ground_of(stops_of(self.standing.plan.folder, points_in(options.feed)))
         self.counts: Counts = read_counts(options.opportunities, self.ground.places.identifiers, "stop of the feed")
@@ -92,7 +92,7 @@ class Exploration:
         return thread
 
     def begun(self, version: int, plan: Plan) -> Standing:
-        """A network that has answered its first question, so that a fault of the feed is told."""
+        """A network that has answered its first question, so that an error of the feed is reported."""
         standing = Standing(version, plan, self.options)
         try:
             standing.network.matrix((self.options.window[0],) * 2, origins=self.first_stop(plan.folder))
@@ -133,7 +133,7 @@ class Exploration:
     def change(self, actions: list[Values], walk: int) -> dict[str, Any]:
         """Begins another network, which answers from the moment on at which it can."""
         if self.options.generated and walk > self.options.most_walk:
-            raise WrongWords(f"walk is {walk}; walks were made up to {self.options.most_walk} seconds")
+            raise WrongWords(f"walk is {walk}; walks were computed up to {self.options.most_walk} seconds")
         with self.changing:
             version = self.standing.version + 1
             standing = self.begun(version, self.planned(actions, walk))
@@ -200,7 +200,7 @@ def stops_of(folder: str, points: str | None) -> Stops:
 def ground_of(stops: Stops) -> Ground:
     """All stops at which vehicles may call, each of which is an origin and a destination."""
     if not stops.placed.any():
-        raise BadInput(stops.path, "none of the stops has a place, so there is nothing to show")
+        raise BadInput(stops.path, "none of the stops has coordinates, so there is nothing to show")
     names = [name for name, kind in zip(stops.identifiers, stops.kinds.tolist()) if kind == 0]
     places = places_of(stops, names).in_order()
     return Ground(places, places.identifiers, places.identifiers, places.identifiers)

@@ -1,4 +1,4 @@
-"""Who may ask: a page of this server in a browser of this machine, that knows the token of the address."""
+"""Who may send requests: a page of this server in a browser of this machine that knows the token of the address."""
 
 import hmac
 import secrets

@@ -1,4 +1,4 @@
-"""Makes what an exploration begins with where its command asks for it: walks along streets, and cells of a grid."""
+"""Computes what an exploration begins with if its options say so: walks along streets, and cells of a grid."""
 
 import os
 import shutil
@@ -24,7 +24,7 @@ def with_generated(options: ExploreOptions, room: Path) -> tuple[ExploreOptions,
     if options.grid is None and options.streets is None:
         return options, []
     if options.footpaths is not None:
-        raise WrongWords("--footpaths names walks, --streets and --grid make some: one of them")
+        raise WrongWords("--footpaths has walks, and --streets and --grid compute them: choose one")
     name = options.name or os.path.basename(os.path.abspath(options.feed))
     own = replace(options, most_walk=options.walk, name=name, generated=True)
     return with_walks(own, room) if options.grid is None else with_cells(own, room, options.grid)

@@ -9,14 +9,14 @@ from .options import ExploreOptions
 
 
 def options_of_study(path: str, options: ExploreOptions) -> ExploreOptions:
-    """What a study's file says, in place of the words of the command; a feed that has to be made first is refused."""
+    """The options of a study's file, instead of the command's; a study whose feed must be prepared first is refused."""
     study = read_study(path)
     run, walks = study.run, study.walks
     if not study.feed.ready or study.points.are_any:
-        message = "its feed has to be prepared first: explore the folder of a feed, as the study's own folder has it"
+        message = "needs a prepared feed: explore the folder of a feed, such as the one in the study's folder"
         raise BadInput(path, message, column="ready", allowed="true, and no [points]")
     if walks.table is None and not walks.none:
-        message = "its walks have to be made first: ttm-tools walks, then table of [walks]"
+        message = "must be computed first: run ttm-tools walks, then set table of [walks]"
         raise BadInput(path, message, column="walks", allowed="table, or none = true")
     table, plan = (None if path is None else study.at(path) for path in (walks.table, study.scenarios.plan))
     return replace(

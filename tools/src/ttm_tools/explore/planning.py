@@ -49,7 +49,7 @@ def carried(base: Base, lines: FeedLines, text: str, room: Path, walk: int, acti
     try:
         path.write_text(text, encoding="utf-8")
     except UnicodeEncodeError:
-        raise BadInput("the plan", "a name in it is no text of UTF-8") from None
+        raise BadInput("the plan", "a name in it is not UTF-8") from None
     plan = read_plan(str(path))
     finished = [carried_out(base, scenario) for scenario in plan.scenarios]
     refuse_limits(str(path), base, [scenario.state for scenario in finished])

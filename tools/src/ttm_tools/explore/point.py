@@ -60,7 +60,7 @@ def walks_from(point: Point, stops: Stops, pace: Pace, streets: Streets | None) 
 
 
 def stops_near(point: Point, stops: Stops, metres: float) -> Stops:
-    """The stops at most so many metres from a point, with the entrances of their stations."""
+    """The stops within a distance in metres of a point, with the entrances of their stations."""
     here = points_of(np.array([point.latitude]), np.array([point.longitude]))
     placed = np.flatnonzero(stops.placed)
     away = distances(np.repeat(here, len(placed), axis=0), points_of(stops.latitudes[placed], stops.longitudes[placed]))
@@ -88,7 +88,7 @@ def with_point(stops: Stops, point: Point) -> Stops:
 
 
 def streets_around(point: Point, streets: Streets, metres: float) -> Streets:
-    """The pieces of streets that have a part within so many metres of a point to the north, south, east or west."""
+    """The pieces of streets with a part within a distance of a point to the north, south, east or west."""
     up = np.degrees(metres / 6_371_000) * 1.01
     right = up / max(np.cos(np.radians(point.latitude)), 1e-6)
     kept = np.ones(len(streets.begin), dtype=np.bool_)
@@ -115,7 +115,9 @@ def write_feed(folder: Path, feed: str, point: Point, name: str) -> None:
 
 
 def laid_out(folder: Path, feed: str, footpaths: str | None, point: Point, walks: list[Walk]) -> tuple[str, Path, Path]:
-    """Writes the feed with the point, and its walks beside those of a file; gives its name, and where both are."""
+    """Writes the feed with the point, and its walks in addition to those of a file; returns its name, and where both
+    are.
+    """
     name = point.name_among(read_stops(feed))
     write_feed(folder / FEED, feed, point, name)
     write_walks(folder / WALKS, footpaths, name, walks)

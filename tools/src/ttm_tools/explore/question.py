@@ -1,4 +1,4 @@
-"""What the page asks, each value looked at before it goes on."""
+"""What the page requests, each value checked before it is used."""
 
 import re
 from dataclasses import dataclass
@@ -20,7 +20,7 @@ class Question:
     origin: int | Point  # the number of a place of the page, or any point
     window: tuple[str, str]
     trips: int
-    tab: str  # of the browser, which asks one question after another
+    tab: str  # of the browser, which sends one question after another
     turn: int  # the number of the question in this tab
 
 
@@ -57,16 +57,16 @@ def degrees(args: Mapping[str, str], name: str, most: int) -> float:
 
 
 def origin_of(args: Mapping[str, str], places: int) -> int | Point:
-    """One of so many places, or a point."""
+    """One of the places, or a point."""
     if "lat" in args or "lon" in args:
         return Point(degrees(args, "lat", 90), degrees(args, "lon", 180))
     return whole(args, "origin", 0, places - 1)
 
 
 def question_of(args: Mapping[str, str], places: int) -> Question:
-    """A question about one of so many places, or about any point."""
+    """A question about one of the places, or about any point."""
     tab = args.get("tab", "")
     if not TAB.fullmatch(tab):
-        raise WrongWords("tab is no name of a tab")
+        raise WrongWords("tab is not the name of a tab")
     origin, trips = origin_of(args, places), whole(args, "trips", 1, 8)
     return Question(origin, window_of(args), trips, tab, whole(args, "turn", 0, 1 << 53))

@@ -34,7 +34,7 @@ def bound(port: int) -> socket.socket:
     except OSError as fault:
         listening.close()
         message = "is in use" if fault.errno == errno.EADDRINUSE else fault.strerror or str(fault)
-        raise BadInput(f"port {port}", f"{message}: name another by --port, or 0 for a free one") from None
+        raise BadInput(f"port {port}", f"{message}: name another with --port, or 0 for a free one") from None
     return listening
 
 

@@ -69,7 +69,7 @@ class ConsecutiveRecords:
         return bool(((is_new | ascends) & (trip >= 0) & (stated.stop != NO_STOP)).all())
 
     def numbers(self, stated: Stated, count: int) -> CallNumbers | None:
-        """The calls of so many trips; None where a trip has several runs."""
+        """The calls of the trips; None where a trip has several runs."""
         trips, begins = np.concatenate(self.trips), np.concatenate([*self.begins, [self.count]])
         lengths = np.zeros(count, np.int64)
         lengths[trips] = np.diff(begins)
@@ -179,7 +179,7 @@ def narrow(numbers: npt.NDArray[Any]) -> Narrow:
 
 
 def in_order(stated: Stated, count: int) -> CallNumbers:
-    """The calls of so many trips in their order, without the trips that are set aside."""
+    """The calls of the trips in their order, without the trips that are set aside."""
     aside = np.zeros(count + 1, dtype=np.bool_)
     aside[stated.trip[stated.stop == NO_STOP]] = True
     aside[-1] = True  # of records whose trip isn't there

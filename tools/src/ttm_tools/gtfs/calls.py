@@ -111,5 +111,5 @@ def in_order(trip: Whole, sequence: Whole) -> bool:
 
 
 def begins_of(calls: Calls, count: int) -> Whole:
-    """Where the calls of each of so many trips begin, and behind the last one how many there are."""
+    """Where the calls of each trip begin, and behind the last one how many there are."""
     return np.concatenate([[0], np.cumsum(np.bincount(calls.trip, minlength=count))])

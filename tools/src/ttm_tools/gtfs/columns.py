@@ -151,7 +151,7 @@ def numbers_of(column: Column, path: object, name: str) -> Floats:
     bad = np.flatnonzero(np.isnan(found[column.codes]))
     if len(bad):
         value = column.categories[column.codes[bad[0]]]
-        raise BadInput(path, "is no number", record=int(bad[0]) + 2, column=name, value=value)
+        raise BadInput(path, "is not a number", record=int(bad[0]) + 2, column=name, value=value)
     return np.asarray(found[column.codes], dtype=np.float64)
 
 

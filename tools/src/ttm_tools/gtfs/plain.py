@@ -98,7 +98,7 @@ class Fields:
 
 
 def fields_of(block: bytes, count: int) -> Fields:
-    """The fields of a block whose lines have so many each."""
+    """The fields of a block whose lines have this many each."""
     data = np.frombuffer(block, np.uint8)
     signs = np.flatnonzero(data <= COMMA)  # few other bytes are as small
     kinds = data[signs]
@@ -156,7 +156,7 @@ def firsts_of(columns: Sequence[Words]) -> Places:
 
 
 def drawers(columns: Sequence[Words], drawn: Words, bits: int) -> Places:
-    """Numbers of so many bits, which depend on all words of a row."""
+    """Numbers of this many bits, which depend on all words of a row."""
     sums = np.zeros(len(columns[0]), np.uint64)
     for word, factor in zip(columns, drawn | np.uint64(1)):
         sums = (sums ^ word) * factor

@@ -19,7 +19,7 @@ from .fields import Mask, Whole
 from .plain import BLOCK, Piece, plain_pieces, together
 
 ROWS_AT_ONCE = 1_000_000
-BYTES_AT_ONCE = 50 * ROWS_AT_ONCE  # of a file of so many records, about
+BYTES_AT_ONCE = 50 * ROWS_AT_ONCE  # of a file with this many records, about
 LITTLE = 1 << 20  # bytes of a plain file at once, where memory counts more than a fifth of the time
 SMALL = 1 << 24  # bytes of a file that is read record by record where it isn't plain
 BLANKS = re.compile(rb"(?:^|[\r\n])[ \t]+[\r\n]")
@@ -73,7 +73,7 @@ def pieces(path: str | Path, needed: Sequence[str]) -> Iterator[Columns]:
 
 
 def chunks(path: str | Path, needed: Sequence[str], rows_at_once: int) -> Iterator[Columns]:
-    """The needed columns of a file of many records, so many records at a time, as pandas reads them."""
+    """The needed columns of a file of many records, a number of records at a time, as pandas reads them."""
     import pandas
 
     how = {"dtype": "category", "keep_default_na": False, "index_col": False, "chunksize": rows_at_once}

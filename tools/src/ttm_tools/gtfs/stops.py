@@ -42,7 +42,7 @@ class Stops:
         """These stops alone, in this order, which are all there."""
         lost = [name for name in identifiers if name not in self.places]
         if lost:
-            raise BadInput(self.path, f"no stop {shown(lost[0])}, which the matrix has: is it of another feed?")
+            raise BadInput(self.path, f"no stop {shown(lost[0])}, which the matrix has: is it from another feed?")
         chosen = np.array([self.places[name] for name in identifiers], dtype=np.intp)
         names, stations = ([texts[place] for place in chosen] for texts in (self.names, self.stations))
         places = (self.latitudes[chosen], self.longitudes[chosen])
@@ -68,7 +68,7 @@ class Stops:
 
 def in_folder(folder: str, name: str) -> str:
     if not os.path.isdir(folder):
-        raise BadInput(folder, "no folder of a feed (unzip it first)")
+        raise BadInput(folder, "not the folder of a feed (unzip it first)")
     return os.path.join(folder, name)
 
 
@@ -99,7 +99,7 @@ def read_stops(folder: str) -> Stops:
     names, places, kinds, stations = [], [], [], []
     for number, (stop, name, latitude, longitude, kind, station) in rows(path, ["stop_id"], WANTED):
         if stop in identifiers:
-            raise BadInput(path, f"{shown(stop)} is there twice", record=number)
+            raise BadInput(path, f"{shown(stop)} occurs twice", record=number)
         identifiers[stop] = None
         names.append(shown(name.strip() or stop))
         places.append(place_of(latitude, longitude))
@@ -114,7 +114,7 @@ def read_list(path: str, known: Sequence[str], kind: str) -> list[str]:
     among, named = set(known), []
     for number, (stop,) in rows(path, ["stop_id"]):
         if stop not in among:
-            raise BadInput(path, f"{shown(stop)} is no {kind} of the matrix", record=number)
+            raise BadInput(path, f"the matrix has no {kind} {shown(stop)}", record=number)
         named.append(stop)
     return named
 
@@ -138,7 +138,7 @@ class Projection:
         return (latitudes - self.latitude) * self.degree
 
     def longitudes(self, east: Floats) -> Floats:
-        """The degrees of places so many kilometres east."""
+        """The degrees of places at these kilometres east."""
         return (east / (self.degree * self.narrow) + self.longitude + 180) % 360 - 180
 
     def latitudes(self, north: Floats) -> Floats:

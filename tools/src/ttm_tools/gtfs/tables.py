@@ -1,7 +1,7 @@
 """A file of a feed as its columns, with the number of each record.
 
-A table that nothing changed is copied byte for byte. A column takes one to four bytes for each record beside its texts,
-each of which is kept once.
+A table that nothing changed is copied byte for byte. A column takes one to four bytes for each record, in addition to
+its texts, each of which is kept once.
 """
 
 from dataclasses import dataclass
@@ -98,7 +98,7 @@ class Table:
 
 
 def unnumbered(count: int) -> Whole:
-    """The numbers of so many records where nobody asks for them: they take no memory."""
+    """The numbers of records that nobody needs: they take no memory."""
     return np.broadcast_to(np.zeros(1, np.int64), (count,))
 
 

@@ -154,7 +154,7 @@ class Runs:
 
 
 def runs_of(timetable: Timetable, date: datetime.date, days: tuple[int, int], edits: Edits) -> Runs:
-    """The runs that a scenario keeps, from so many days before a date to so many after it; the axis begins at midnight
+    """The runs that a scenario keeps, from some days before a date to some after it; the axis begins at midnight
     of the first day.
     """
     kept = trips_that_run(timetable, edits)

@@ -1,4 +1,4 @@
-"""Two matrices on the disk as one: the base of another file beside the scenarios of this one, matched by
+"""Two matrices on the disk as one: the base of another file with the scenarios of this one, matched by
 identifiers.
 """
 
@@ -139,7 +139,7 @@ def labels_of(own: str, other: str) -> tuple[str, str]:
 
 
 def shares_of(own: Matrix, other: Matrix) -> dict[Share, Share]:
-    """The percentiles that both have; or the only ones, one beside the other."""
+    """The percentiles that both have; or the only ones, side by side."""
     both: dict[Share, Share] = {share: share for share in own.shares if share in other.shares}
     if both:
         return both

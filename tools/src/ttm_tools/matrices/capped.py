@@ -36,10 +36,10 @@ class Capped(Matrix):
     def limit(self, seconds: int | None) -> tuple[int, int | None]:
         if not self.layout.limits or seconds is not None and seconds > self.end:
             message = "access of the matrix counts pairs that take longer than the greatest travel time"
-            raise BadInput(self.path, f"{message}, {self.end:g} seconds: take ttm-tools access")
+            raise BadInput(self.path, f"{message}, {self.end:g} seconds: use ttm-tools access")
         return super().limit(seconds)
 
 
 def capped(matrix: Matrix, minutes: float | None) -> Matrix:
-    """A matrix whose travel times end at so many minutes, where some are named."""
+    """A matrix whose travel times end at a number of minutes, if one is given."""
     return matrix if minutes is None else Capped(matrix, round(60 * minutes))

@@ -62,6 +62,6 @@ def chunk_at(data: Any, place: int) -> Seconds:
     try:
         values: Seconds = unpacked(chunk, rows, columns) if skipped == 0 else data[place : place + rows]
     except (zlib.error, ValueError) as fault:
-        message = f"{data.name}: the piece that begins with row {place + 1} can't be read: {fault}"
+        message = f"{data.name}: the chunk that begins with row {place + 1} can't be read: {fault}"
         raise BadInput(data.file.filename, message) from None
     return values

@@ -1,4 +1,4 @@
-"""Matrices as `ttm` prints them. A first pass notes where each line's cells stand; cells are read when they are asked
+"""Matrices as `ttm` prints them. A first pass notes where each line's cells stand; cells are read when they are needed
 for.
 """
 
@@ -73,7 +73,7 @@ class CsvMatrix(Matrix):
         if found is None:
             raise BadInput(self.path, NO_MATRIX, record=1)
         if not record.endswith(b"\n"):
-            raise BadInput(self.path, "cut short: the last line has no end")
+            raise BadInput(self.path, "truncated: the last line has no end")
         return found
 
     def read_lines(self, file: BinaryIO) -> None:
@@ -83,7 +83,7 @@ class CsvMatrix(Matrix):
         for record in progress.shown(records_of(file), rows, "reading", "rows"):
             line = content(record)
             if len(line) == len(record):
-                raise BadInput(self.path, "cut short: the last line has no end")
+                raise BadInput(self.path, "truncated: the last line has no end")
             if line:
                 number += 1
                 self.read_line(line, number, begin)
@@ -102,13 +102,15 @@ class CsvMatrix(Matrix):
         share = numbers.pop(0) if layout.names_share else None
         index = self.index.setdefault((heads[0], share), Index())
         if heads[1] in index.places:
-            raise BadInput(self.path, f"{shown(heads[1])} is there twice in {shown(heads[0])}", record=number)
+            raise BadInput(self.path, f"{shown(heads[1])} occurs twice in {shown(heads[0])}", record=number)
         index.places[heads[1]] = len(index.lines)
         index.lines.append(MatrixLine(number, numbers, begin + first, begin + len(line)))
 
     def number(self, record: int, column: str, text: str) -> int:
         if not (text.isascii() and text.isdigit() and len(text) <= 18):
-            raise BadInput(self.path, "is no number", record=record, column=column, value=text, allowed="whole numbers")
+            raise BadInput(
+                self.path, "is not a number", record=record, column=column, value=text, allowed="whole numbers"
+            )
         return int(text)
 
     def of(self, scenario: str, share: Share) -> Index:
@@ -138,4 +140,6 @@ class CsvMatrix(Matrix):
     def tell_bad(self, cells: bytes, record: int) -> None:
         place, text = first_bad(cells)
         column = shown(self.stops[place]) if place < len(self.stops) else None
-        raise BadInput(self.path, "is no travel time", record=record, column=column, value=text, allowed=TRAVEL_TIMES)
+        raise BadInput(
+            self.path, "is not a travel time", record=record, column=column, value=text, allowed=TRAVEL_TIMES
+        )

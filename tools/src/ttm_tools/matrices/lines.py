@@ -73,7 +73,7 @@ def count_of_fields(line: bytes, begin: int) -> int:
 
 
 def seconds_of(cells: bytes, count: int) -> Seconds | None:
-    """The travel times of a line's cells, or None where they aren't so many whole numbers or empty fields up to
+    """The travel times of a line's cells, or None where they aren't this number of whole numbers or empty fields up to
     MOST.
     """
     if count == 0:

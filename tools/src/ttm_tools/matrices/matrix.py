@@ -40,8 +40,8 @@ class Matrix(ABC):
     scenarios: list[str]  # in the file's order
     shares: list[Share]  # ascending
     greatest: float | None = None  # seconds above which a pair counts as not reached
-    heading: str = ""  # what stands above it where it is two files, one beside the other
-    files: tuple[str, ...] = ()  # those that it has beside its own
+    heading: str = ""  # the heading if it is two files, side by side
+    files: tuple[str, ...] = ()  # those in addition to its own
 
     @abstractmethod
     def origins(self, scenario: str, share: Share) -> list[str]:
@@ -104,24 +104,24 @@ class Matrix(ABC):
         """The travel times of one origin, which the scenario has."""
         names = self.origins(scenario, share)
         if origin not in names:
-            raise BadInput(self.path, f"{shown(origin)} is no origin of the scenario {shown(scenario)}")
+            raise BadInput(self.path, f"the scenario {shown(scenario)} has no origin {shown(origin)}")
         place = names.index(origin)
         row: Seconds = self.rows(scenario, share, place, place + 1)[0]
         return row
 
     def share(self, percent: int | None) -> Share:
-        """The share that is asked for, which needs to be named only where there are several."""
+        """The chosen percentile, which needs to be named only if there are several."""
         percentiles = ", ".join(map(str, self.shares))
         if percent is not None and not self.layout.names_share:
-            raise BadInput(self.path, "it names no share; leave --share out")
+            raise BadInput(self.path, "it has no percentiles: leave out --share")
         if percent is not None and percent not in self.shares:
-            raise BadInput(self.path, f"no line of the share {percent}; it has {percentiles}")
+            raise BadInput(self.path, f"no rows for the percentile {percent}; it has {percentiles}")
         if percent is None and self.layout.names_share and len(self.shares) > 1:
-            raise BadInput(self.path, f"it has lines of the shares {percentiles}: name one by --share")
+            raise BadInput(self.path, f"it has rows for the percentiles {percentiles}: choose one with --share")
         return self.shares[0] if percent is None else percent
 
     def limit(self, seconds: int | None) -> tuple[int, int | None]:
-        """The place of a limit among the columns of access, and the limit in seconds: the one asked for, or the only
+        """The place of a limit among the columns of access, and the limit in seconds: the chosen one, or the only
         one.
         """
         limits = self.layout.limits
@@ -129,21 +129,21 @@ class Matrix(ABC):
             return 0, seconds
         seconds_stated = ", ".join(map(str, limits))
         if seconds is None and len(limits) > 1:
-            raise BadInput(self.path, f"it has access within {seconds_stated} seconds: name one by --within")
+            raise BadInput(self.path, f"it has access within {seconds_stated} seconds: choose one with --within")
         if seconds is not None and seconds not in limits:
             raise BadInput(self.path, f"no access within {seconds} seconds, but within {seconds_stated}")
         place = 0 if seconds is None else limits.index(seconds)
         return place, limits[place]
 
     def scenario(self, name: str) -> str:
-        """A scenario that is asked for by its name."""
+        """A scenario by its name."""
         if name not in self.scenarios:
             raise BadInput(self.path, f"no scenario {shown(name)}; it has {', '.join(map(shown, self.scenarios))}")
         return name
 
     @property
     def greatest_stated(self) -> str:
-        """What is reported beside the percentile where travel times have an end."""
+        """What is reported with the percentile if travel times have a maximum."""
         return "" if self.greatest is None else f"pairs beyond {self.greatest / 60:g} minutes count as not reached"
 
     @property
@@ -153,14 +153,14 @@ class Matrix(ABC):
         return "" if self.compared == self.scenarios else sentence
 
     def other(self, base: str, wanted: str | None) -> str:
-        """The scenario beside the base, which needs to be named only where there are several."""
+        """The scenario other than the base, which needs to be named only if there are several."""
         self.scenario(base)
         if wanted is not None:
             return self.scenario(wanted)
         others = [name for name in (self.scenarios if base == BASE else self.compared) if name != base]
         if len(others) > 1:
             names = f"{shown(others[0])} and {shown(others[1])}"
-            raise BadInput(self.path, f"it has the scenarios {names} besides {shown(base)}: name one by --scenario")
+            raise BadInput(self.path, f"it has the scenarios {names} besides {shown(base)}: choose one with --scenario")
         if not others:
             raise BadInput(
                 self.path, f"no scenario other than {shown(base)}; it has {', '.join(map(shown, self.scenarios))}"
@@ -200,7 +200,7 @@ class Pair:
 
 
 def pair_of(matrix: Matrix, base: str | None, compared: str | None, share: int | None) -> Pair:
-    """Two scenarios of a matrix, of one share; beside its own base where none is named."""
+    """Two scenarios of a matrix, of one percentile; compared with its own base if none is named."""
     base = base or matrix.base
     other, chosen = matrix.other(base, compared), matrix.share(share)
     first, second = (matrix.origins(name, chosen) for name in (base, other))

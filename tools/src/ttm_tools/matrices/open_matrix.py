@@ -57,14 +57,14 @@ def write_open_matrix(matrix: Matrix, path: str, threads: int | None = None) -> 
     import h5py
 
     if not matrix.stops:
-        message = "has no columns, as a run whose --destinations are a header alone: there is nothing to write"
+        message = "has no columns, as after a run whose --destinations has only a header: there is nothing to write"
         raise BadInput(matrix.path, message)
     layouts = [(scenario, share) for scenario in matrix.compared for share in matrix.shares]
     first = matrix.origins(*layouts[0])
     for scenario, share in layouts:
         names = matrix.origins(scenario, share)
         if names != first:
-            what = f"{scenario}, share {share}" if share is not None else scenario
+            what = f"{scenario}, percentile {share}" if share is not None else scenario
             lost = lacking((layouts[0][0], first), (what, names)) or f"{what} has them in another order"
             raise BadInput(matrix.path, f"an Open Matrix file has one list of origins: {lost}")
     refuse_twice(first, "origin", matrix.path)
@@ -133,7 +133,7 @@ def fill_data(data: Any, matrix: Matrix, key: tuple[str, Share], threads: int) -
 
 
 def padded(matrix: Matrix, key: tuple[str, Share], rows: range, room: int) -> Seconds:
-    """Some rows of a scenario and a share, and zeros behind them up to so many."""
+    """Some rows of a scenario and a share, and zeros behind them up to this number."""
     cells = np.zeros((room, len(matrix.stops)), np.float32)
     for first in rows[:: matrix.rows_at_once()]:
         last = min(first + matrix.rows_at_once(), rows.stop)
@@ -151,7 +151,7 @@ class OpenMatrix(Matrix):
         self.path = path
         regular(path)
         self.names: dict[tuple[str, Share], str] = {}
-        with as_one_line(path, "no whole HDF5 file"):
+        with as_one_line(path, "not a complete HDF5 file"):
             self.file: Any = h5py.File(path, "r")
             refuse_shapes(self.file, path)
             for name, data in sorted(self.file["data"].items(), key=lambda item: int(item[1].attrs.get("place", 0))):
@@ -164,7 +164,7 @@ class OpenMatrix(Matrix):
             raise BadInput(self.path, f"matrix {name} names no scenario")
         key = decoded([scenario])[0], None if share is None else int(share)
         if not key[0] or share is not None and int(share) not in SHARES:
-            raise BadInput(self.path, f"matrix {name} names no scenario, or a share that isn't 1 to 100")
+            raise BadInput(self.path, f"matrix {name} names no scenario, or a percentile that isn't 1 to 100")
         if key in self.names:
             raise BadInput(self.path, f"matrix {name} has the scenario and percentile of {self.names[key]}")
         self.names[key] = name
@@ -182,7 +182,7 @@ class OpenMatrix(Matrix):
         self.scenarios = list(dict.fromkeys(scenario for scenario, _ in self.names))
         self.shares = sorted({share for _, share in self.names}, key=lambda share: share or 0)
         if len(self.names) < len(self.scenarios) * len(self.shares):
-            raise BadInput(self.path, "not all scenarios have the same shares")
+            raise BadInput(self.path, "not all scenarios have the same percentiles")
         for key in self.names:
             self.access(*key)
 
@@ -194,7 +194,7 @@ class OpenMatrix(Matrix):
         with as_one_line(self.path, f"access of {name} can't be read"):
             counts: Sums = self.file["access"][name][:].astype(np.int64)
         if (counts < 0).any():
-            raise BadInput(self.path, f"access of {name} has {counts.min()}, which is no sum")
+            raise BadInput(self.path, f"access of {name} has {counts.min()}, which is not a sum")
         return counts
 
     def rows(self, scenario: str, share: Share, begin: int, end: int) -> Seconds:

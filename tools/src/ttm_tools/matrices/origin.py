@@ -1,4 +1,4 @@
-"""From where a matrix comes, as the study beside it says: the day and the departures."""
+"""Where a matrix comes from, as the study in its folder says: the day and the departures."""
 
 from pathlib import Path
 

@@ -27,7 +27,7 @@ class Weighting(Protocol):
     """What gives the weight of each travel time, 0 where there is none."""
 
     def weights(self, seconds: Seconds, cutoff: float) -> Floats:
-        """The weights, 0 to 1, beside a cutoff in minutes."""
+        """The weights, 0 to 1, for a cutoff in minutes."""
 
 
 @dataclass(frozen=True)
@@ -106,7 +106,7 @@ def access(
 
 
 def nearest(matrix: Matrix, scenario: str, share: Share, numbers: Floats, counts: Sequence[float]) -> Floats:
-    """The least seconds within which so many opportunities are reached, NaN where they aren't: by origin, column of
+    """The least seconds within which each number of opportunities is reached, NaN where it isn't: by origin, column of
     numbers, and count. A stop with three of them counts as three.
     """
 

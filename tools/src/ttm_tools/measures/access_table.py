@@ -24,7 +24,7 @@ class AccessKind:
 
     opportunity: str
     percentile: str
-    cutoff: str  # minutes; of a table of times how many are to be reached
+    cutoff: str  # minutes; of a table of times the number to reach
 
     @property
     def label(self) -> str:
@@ -46,7 +46,7 @@ class AccessTable:
     scenarios: list[str]
     kinds: list[AccessKind]
     origins: list[str]
-    numbers: Floats  # by scenario, kind and origin; of times seconds, NaN where so many aren't reached
+    numbers: Floats  # by scenario, kind and origin; of times seconds, NaN where fewer are reached
     of_times: bool = False
     named_base: str | None = None  # where it is of another table
 
@@ -62,7 +62,7 @@ class AccessTable:
         """The place of a scenario."""
         if name not in self.scenarios:
             there = ", ".join(map(shown, self.scenarios))
-            raise BadInput(self.path, f"no scenario {shown(name)}; it has {there}: name the base by --base")
+            raise BadInput(self.path, f"no scenario {shown(name)}; it has {there}: choose the base with --base")
         return self.scenarios.index(name)
 
 
@@ -75,7 +75,7 @@ def read_access(path: str) -> AccessTable:
         places = (scenarios.setdefault(scenario, len(scenarios)), kinds.setdefault(kind, len(kinds)))
         key = (*places, origins.setdefault(origin, len(origins)))
         if key in found:
-            raise BadInput(path, f"{shown(origin)} is there twice for {kind.label}, {shown(scenario)}", record=number)
+            raise BadInput(path, f"{shown(origin)} occurs twice for {kind.label}, {shown(scenario)}", record=number)
         found[key] = value
     numbers = np.full((len(scenarios), len(kinds), len(origins)), np.nan)
     if not found:
@@ -92,7 +92,7 @@ def beside(own: AccessTable, other: AccessTable, labels: tuple[str, str], scenar
     the bases of both are called.
     """
     if own.of_times != other.of_times:
-        raise BadInput(other.path, f"one has access and the other times to the nearest, as {own.path}")
+        raise BadInput(other.path, f"one table has access and the other times to the nearest, as {own.path}")
     kinds = [kind for kind in own.kinds if kind in other.kinds]
     origins = [name for name in own.origins if name in set(other.origins)]
     if not kinds or not origins:
@@ -143,12 +143,12 @@ def is_of_times(path: str) -> bool:
 
 
 def lines_of(path: str, named: Sequence[str]) -> Iterator[tuple[int, str, AccessKind, str, float]]:
-    """Each line: its record, scenario, kind, origin and access, or time: infinite where so many aren't reached."""
+    """Each line: its record, scenario, kind, origin and access, or time: infinite where fewer are reached."""
     for number, (origin, opportunity, percentile, cutoff, text, scenario) in rows(path, named, ["scenario"]):
         value = math.inf if named is OF_TIMES and not text.strip() else number_of(text.strip())
         if not value >= 0:
             allowed = "a number from 0 on"
-            raise BadInput(path, "is none", record=number, column=named[-1], value=text, allowed=allowed)
+            raise BadInput(path, "is invalid", record=number, column=named[-1], value=text, allowed=allowed)
         yield number, scenario or "base", AccessKind(opportunity, percentile, cutoff), origin, value
 
 

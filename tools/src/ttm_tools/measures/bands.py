@@ -1,4 +1,4 @@
-"""People by band: how many have at least so many opportunities, or the nearest within so many minutes."""
+"""People by band: how many have at least a number of opportunities, or the nearest within a number of minutes."""
 
 from typing import Sequence
 
@@ -15,5 +15,5 @@ def with_at_least(access: Floats, people: Floats, limits: Sequence[float]) -> Fl
 
 
 def within_minutes(seconds: Floats, people: Floats, limits: Sequence[float]) -> Floats:
-    """How many people have so many opportunities within each of these numbers of minutes; NaN isn't reached."""
+    """The number of people who have these opportunities within each of these numbers of minutes; NaN isn't reached."""
     return np.array([people[seconds <= round(MINUTE * limit)].sum() for limit in limits], dtype=np.float64)

@@ -16,7 +16,7 @@ from ..matrices import Pair, Seconds, Sums
 
 KINDS = ["cut off", "slower", "new", "faster"]  # in the order of a table
 CUT_OFF, SLOWER, NEW, FASTER = range(4)
-LOSS, GAIN, RELATIVE = "loss", "gain", "relative"  # ways to sort beside losers first and then winners, by size
+LOSS, GAIN, RELATIVE = "loss", "gain", "relative"  # ways to sort other than losers first and then winners, by size
 RANKS = {LOSS: [0, 1, 3, 2], GAIN: [3, 2, 0, 1]}  # of KINDS
 
 
@@ -64,7 +64,7 @@ class Sides:
         lose, gain, cut, new = (int(kind.sum()) for kind in (self.lose, self.gain, self.cut_off, self.newly_reached))
         all_of_it = f" ({cut:,} of them cut off)" if cut else ""
         from_nothing = f" ({new:,} of them newly reached)" if new else ""
-        return f"{lose:,} lose{all_of_it}, {gain:,} gain{from_nothing}"
+        return f"{lose:,} lose{'s' * (lose == 1)}{all_of_it}, {gain:,} gain{'s' * (gain == 1)}{from_nothing}"
 
 
 def sides_of(before: Sums, after: Sums, least: int = 1) -> Sides:

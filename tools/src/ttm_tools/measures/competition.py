@@ -69,7 +69,7 @@ class Thing:
         return self.market.weighting.weights(seconds[:, self.used], self.cutoff)
 
     def rates(self, demand: Floats) -> Floats:
-        """What each who asks for a destination has of it."""
+        """What each person who competes for a destination has of it."""
         return divided(self.supply[self.used], demand)
 
     def shared_out(self, rates: Floats) -> Floats:
@@ -102,8 +102,9 @@ def divided(numbers: Floats, by: Floats) -> Floats:
 
 
 def totals(thing: Thing, *, balanced: bool) -> tuple[Floats, Floats]:
-    """For each destination the people who ask for it, and the sum of its weights over the origins with people. Where it
-    is balanced the people of an origin are shared out among its destinations, so that each of them counts once.
+    """For each destination the people who compete for it, and the sum of its weights over the origins with people.
+    Where it is balanced the people of an origin are shared out among its destinations, so that each of them counts
+    once.
     """
     demand, sums, begin = np.zeros(0), np.zeros(0), 0
     for block in thing.matrix.blocks(thing.scenario, thing.share):

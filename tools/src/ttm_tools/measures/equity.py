@@ -13,7 +13,7 @@ from .columns import column, row_of
 
 TENTHS = 10
 TOP, BOTTOM = 0.1, 0.4  # of the people, in the Palma ratio
-NEARLY = 1 - 1e-12  # of what is meant to be just a half, or just so many percent
+NEARLY = 1 - 1e-12  # of what is meant to be just a half, or just a percentage
 
 
 @dataclass(frozen=True)

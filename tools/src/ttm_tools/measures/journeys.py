@@ -80,7 +80,7 @@ class SearchNetwork:
         return least_of(times[walks.begin] + walks.seconds, by_end, len(times))
 
     def carried(self, ready: Whole) -> Whole:
-        """The least time of each stop at which a ride ends there, for who is ready to board at these times."""
+        """The least time of each stop at which a ride ends there, if travellers are ready to board at these times."""
         return least_of(np.where(self.aboard(ready) & self.alight, self.arrive, NEVER), self.events_by_stop, len(ready))
 
     def aboard(self, ready: Whole) -> Mask:
@@ -140,8 +140,8 @@ class Schedule:
 
 @dataclass(frozen=True)
 class Search:
-    """From a stop at a time, with at most so many rides: after each number of rides the least time at which the last of
-    them ends at each stop; who hasn't ridden is at the origin.
+    """From a stop at a time, with a maximum number of rides: after each number of rides the least time at which the
+    last of them ends at each stop; who hasn't ridden is at the origin.
     """
 
     network: SearchNetwork
@@ -203,8 +203,8 @@ def journey(search: Search, stop: int) -> list[Leg]:
 
 
 def ridden_to(search: Search, stop: int, rides: int) -> list[Leg]:
-    """The legs of a journey whose last ride, of so many at most, ends at a stop at the least time; none at the origin
-    before any ride.
+    """The legs of a journey whose last ride, of at most this number, ends at a stop at the least time; none at the
+    origin before any ride.
     """
     arrival = search.ridden[rides][stop]
     rides = next(count for count, times in enumerate(search.ridden) if times[stop] == arrival)
@@ -294,7 +294,7 @@ def arrivals(network: SearchNetwork, origin: int, stop: int, departures: list[in
 
 
 def cell(durations: list[int | None], share: int) -> int | None:
-    """The least duration that so many percent of all departures attain."""
+    """The least duration that this percentage of all departures achieves."""
     reached = sorted(time for time in durations if time is not None)
     rank = -(-share * len(durations) // 100)
     return reached[rank - 1] if rank <= len(reached) else None

@@ -1,4 +1,4 @@
-"""How near people are to the nearest opportunities: who reaches them at all, and within what time."""
+"""How near people are to the nearest opportunities: who reaches them, and within what time."""
 
 from dataclasses import dataclass
 
@@ -8,7 +8,7 @@ import numpy.typing as npt
 from ..gtfs.fields import Floats
 from .columns import column, row_of
 
-NEARLY = 1 - 1e-12  # of what is meant to be just a half, or just so many percent
+NEARLY = 1 - 1e-12  # of what is meant to be just a half, or just a percentage
 MINUTE = 60.0
 OF_PARTS = "the least time within which at least half, or nine tenths, of all people are there; none if fewer ever are"
 Flags = npt.NDArray[np.bool_]
@@ -16,7 +16,7 @@ Flags = npt.NDArray[np.bool_]
 
 @dataclass(frozen=True)
 class NearnessCase:
-    """The time from each point to the nearest in a scenario and in the base, NaN where so many aren't reached, and the
+    """The time from each point to the nearest in a scenario and in the base, NaN where fewer are reached, and the
     people there.
     """
 
@@ -31,7 +31,7 @@ class NearnessCase:
 
     @property
     def inside(self) -> float:
-        """The people who reach so many."""
+        """The people who reach this number."""
         return float(self.people[self.there].sum())
 
 
@@ -41,7 +41,7 @@ def mean_minutes(case: NearnessCase) -> float:
 
 
 def losers_percent(case: NearnessCase) -> float:
-    """Who needs so many percent longer or more, or doesn't reach them any more."""
+    """The people who need this percentage longer or more, or doesn't reach them any more."""
     longer = case.seconds - case.base
     loses = (case.seconds > case.base) & (longer >= case.base * (case.percent / 100 * NEARLY))
     lost = loses | (~case.there & ~np.isnan(case.base))

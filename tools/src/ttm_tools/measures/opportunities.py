@@ -29,7 +29,7 @@ class Counts:
 
 
 def read_counts(paths: Sequence[str], stops: Sequence[str], kind: str, wanted: Sequence[str] = ()) -> Counts:
-    """The columns of some files, or those that are asked for, for these stops; a file that names another stop is
+    """The columns of some files, or the chosen ones, for these stops; a file that names another stop is
     refused. A column `opportunities` is called as its file.
     """
     places = {stop: place for place, stop in enumerate(stops)}
@@ -80,14 +80,14 @@ def numbers_of(path: str, names: Sequence[str], places: dict[str, int], kind: st
     numbers, seen = np.zeros((len(places), len(names))), set[str]()
     for number, (stop, *fields) in rows(path, [identifier_of(path), *names]):
         if stop not in places:
-            raise BadInput(path, f"{shown(stop)} is no {kind}", record=number)
+            raise BadInput(path, f"no {kind} is called {shown(stop)}", record=number)
         if stop in seen:
-            raise BadInput(path, f"{shown(stop)} is there twice", record=number)
+            raise BadInput(path, f"{shown(stop)} occurs twice", record=number)
         seen.add(stop)
         for column, text in enumerate(fields):
             value = number_of(text.strip())
             if not value >= 0:
                 allowed = "a number from 0 on"
-                raise BadInput(path, "is none", record=number, column=names[column], value=text, allowed=allowed)
+                raise BadInput(path, "is invalid", record=number, column=names[column], value=text, allowed=allowed)
             numbers[places[stop], column] = value
     return numbers

@@ -9,6 +9,8 @@ from dataclasses import dataclass
 from decimal import Decimal
 from typing import Any, Callable, Generic, Iterable, TypeVar
 
+from ..faults import quantity
+
 Value = TypeVar("Value")
 CLOCK = re.compile(r"([0-9]{1,3}):([0-5][0-9])(?::([0-5][0-9]))?")
 LAST_TIME = 604_799  # 167:59:59, the last time that a feed can state
@@ -81,32 +83,32 @@ def seconds_of(value: Any) -> int:
 
 def whole(least: int, most: int, unit: str = "") -> Kind[int]:
     allowed = f"a whole number from {least:,} to {most:,} {unit}".rstrip()
-    return Kind(allowed, "isn't one", taken_if(lambda value: type(value) is int and least <= value <= most))
+    return Kind(allowed, "is invalid", taken_if(lambda value: type(value) is int and least <= value <= most))
 
 
 def wholes(count: int, most: int) -> Kind[list[int]]:
     """This many whole numbers from 0 on."""
-    allowed = f"{count} whole numbers between brackets, 0 to {most:,}"
+    allowed = f"{quantity(count, 'whole number')} in brackets, 0 to {most:,}"
     one = whole(0, most).convert
-    return Kind(allowed, "isn't that", taken_if(lambda value: type(value) is list and len([*map(one, value)]) == count))
+    return Kind(allowed, "is invalid", taken_if(lambda value: type(value) is list and len([*map(one, value)]) == count))
 
 
 def number(least: float, most: float, unit: str = "") -> Kind[float]:
     allowed = f"a number from {least:g} to {most:,.10g} {unit}".rstrip()
     convert = taken_if(lambda value: is_number(value) and least <= value <= most)
-    return Kind(allowed, "isn't one", lambda value: float(convert(value)))
+    return Kind(allowed, "is invalid", lambda value: float(convert(value)))
 
 
 def decimal(least: str, most: str) -> Kind[Decimal]:
     """A number with at most six decimals."""
-    allowed, low, high = f"a number from {least} to {most}, of at most six decimals", Decimal(least), Decimal(most)
+    allowed, low, high = f"a number from {least} to {most}, with at most six decimals", Decimal(least), Decimal(most)
     convert = taken_if(lambda value: is_number(value) and low <= value <= high and value == round(value, 6))
-    return Kind(allowed, "isn't one", lambda value: Decimal(convert(value)))
+    return Kind(allowed, "is invalid", lambda value: Decimal(convert(value)))
 
 
 def ascending(least: float, most: float, unit: str, is_whole: bool = True, count: int = 8) -> Kind[tuple[float, ...]]:
     """One to this many numbers of a range, each greater than the one before it."""
-    allowed = f"1 to {count} {'whole ' * is_whole}numbers between brackets, {least:g} to {most:,.10g} {unit}, ascending"
+    allowed = f"1 to {count} {'whole ' * is_whole}numbers in brackets, {least:g} to {most:,.10g} {unit}, ascending"
     one: Kind[int] | Kind[float] = whole(int(least), int(most)) if is_whole else number(least, most)
 
     def convert(value: Any) -> tuple[float, ...]:
@@ -116,7 +118,7 @@ def ascending(least: float, most: float, unit: str, is_whole: bool = True, count
             raise ValueError(value)
         return numbers
 
-    return Kind(allowed, "isn't that", convert)
+    return Kind(allowed, "is invalid", convert)
 
 
 def one_of(*names: str) -> Kind[str]:
@@ -124,10 +126,8 @@ def one_of(*names: str) -> Kind[str]:
     return Kind(f"one of {listed}", f"isn't one of {listed}", taken_if(lambda value: value in names), names)
 
 
-TEXT: Kind[str] = Kind("a text between quotes", "is no text", taken_if(lambda value: isinstance(value, str)))
-NAME: Kind[str] = Kind(
-    "a text between quotes", "is no text", taken_if(lambda value: isinstance(value, str) and value != "")
-)
-TEXTS = Kind('"one" or ["one", "other"]', "is no text and no list of texts", texts_of, is_shown=False)
-FLAG: Kind[bool] = Kind("true or false", "isn't one", taken_if(lambda value: isinstance(value, bool)))
-TIME = Kind("HH:MM or HH:MM:SS, from 00:00 to 167:59:59", "is no time", seconds_of)
+TEXT: Kind[str] = Kind("text in quotes", "is not text", taken_if(lambda value: isinstance(value, str)))
+NAME: Kind[str] = Kind("text in quotes", "is not text", taken_if(lambda value: isinstance(value, str) and value != ""))
+TEXTS = Kind('"one" or ["one", "other"]', "is neither text nor a list of texts", texts_of, is_shown=False)
+FLAG: Kind[bool] = Kind("true or false", "is invalid", taken_if(lambda value: isinstance(value, bool)))
+TIME = Kind("HH:MM or HH:MM:SS, from 00:00 to 167:59:59", "is not a time", seconds_of)

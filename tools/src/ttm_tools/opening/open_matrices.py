@@ -21,12 +21,12 @@ def refuse_shapes(file: Any, path: str) -> None:
         own = file.get(group, getclass=True, getlink=False)
         refuse_link(file, group, path)
         if not hasattr(own, "keys"):
-            raise BadInput(path, f"{group} is no group")
+            raise BadInput(path, f"{group} is not a group")
     counts = [length_of(file["lookup"], name, path) for name in ("origin", "destination")]
     limits = limits_of(file, path)
     more = next((name for name in file["access"] if name not in file["data"]), None)
     if more is not None:
-        raise BadInput(path, f"access of {more} is of no matrix")
+        raise BadInput(path, f"access of {more} belongs to no matrix")
     for name in file["data"]:
         data = own_data(file["data"], name, path)
         if data.shape != tuple(counts) or data.dtype.kind != "f":
@@ -56,7 +56,7 @@ def refuse_link(group: Any, name: str, path: str) -> None:
     import h5py
 
     if not isinstance(group.get(name, getlink=True), h5py.HardLink):
-        raise BadInput(path, f"{name} leads elsewhere: it isn't in the file itself")
+        raise BadInput(path, f"{name} is a link out of the file")
 
 
 def own_data(group: Any, name: str, path: str) -> Any:
@@ -64,9 +64,9 @@ def own_data(group: Any, name: str, path: str) -> Any:
     refuse_link(group, name, path)
     found = group[name]
     if not hasattr(found, "shape") or found.shape is None:
-        raise BadInput(path, f"{found.name} is no matrix")
+        raise BadInput(path, f"{found.name} is not a matrix")
     if found.external or found.is_virtual:
-        raise BadInput(path, f"{found.name} leads elsewhere: it isn't in the file itself")
+        raise BadInput(path, f"{found.name} is a link out of the file")
     return found
 
 
@@ -76,7 +76,7 @@ def length_of(lookups: Any, name: str, path: str) -> int:
         raise BadInput(path, f"no lookup {name}: is it an Open Matrix file that ttm-tools omx wrote?")
     found = own_data(lookups, name, path)
     if found.ndim != 1 or found.dtype.kind not in "SO" or found.dtype.itemsize > LONGEST_NAME:
-        raise BadInput(path, f"lookup {name} is no list of identifiers")
+        raise BadInput(path, f"lookup {name} is not a list of identifiers")
     if len(found) > MOST_PLACES:
         raise BadInput(path, f"lookup {name} has {len(found):,} identifiers, and ttm takes {MOST_PLACES:,}")
     return len(found)
@@ -87,7 +87,7 @@ def refuse_twice(names: list[str], what: str, path: str) -> None:
     seen = set[str]()
     for place, name in enumerate(names, 1):
         if not name or name in seen:
-            raise BadInput(path, f"{what} {place} is {'there twice' if name else 'empty'}", value=name or None)
+            raise BadInput(path, f"{what} {place} is {'repeated' if name else 'empty'}", value=name or None)
         seen.add(name)
 
 
@@ -97,6 +97,6 @@ def looked_at(cells: npt.NDArray[np.float32], path: str, name: str) -> npt.NDArr
         bad = ~((cells >= 0) & (cells <= MOST_SECONDS) & (cells == np.floor(cells)) | np.isnan(cells))
     if bad.any():
         row, column = np.argwhere(bad)[0]
-        message = f"matrix {name} has {cells[row, column]!s}, which is no travel time"
+        message = f"matrix {name} has {cells[row, column]!s}, which is not a travel time"
         raise BadInput(path, message, allowed=f"whole seconds up to {MOST_SECONDS:,}, or NaN")
     return cells

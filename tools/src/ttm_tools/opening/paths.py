@@ -16,7 +16,7 @@ KINDS = (
     (stat.S_ISBLK, "a device"),
     (stat.S_ISDIR, "a folder"),
 )
-MOST_TOLD = 300  # characters of what a library says
+MOST_REPORTED = 300  # characters of a library's message
 
 
 def regular(path: str | Path) -> os.stat_result:
@@ -26,10 +26,10 @@ def regular(path: str | Path) -> os.stat_result:
     except OSError as fault:
         raise BadInput(path, fault.strerror) from None
     except ValueError:
-        raise BadInput(repr(path), "is no path") from None
+        raise BadInput(repr(path), "is not a path") from None
     for is_kind, name in KINDS:
         if is_kind(found.st_mode):
-            raise BadInput(path, f"is no file but {name}")
+            raise BadInput(path, f"is not a file but {name}")
     note_input(found)
     return found
 
@@ -38,7 +38,7 @@ def sized(path: str | Path, most: int, what: str) -> int:
     """The bytes of a file that is read as a whole."""
     size = regular(path).st_size
     if size > most:
-        raise BadInput(path, f"has {size:,} bytes, and {what} at most {most:,}")
+        raise BadInput(path, f"has {size:,} bytes; {what} has at most {most:,}")
     return size
 
 
@@ -62,4 +62,4 @@ def as_one_line(path: str | Path, what: str) -> Iterator[None]:
         if isinstance(fault, OSError) and is_full(fault):
             raise
         message = str(fault) or type(fault).__name__
-        raise BadInput(path, f"{what}: {message[:MOST_TOLD]}") from fault
+        raise BadInput(path, f"{what}: {message[:MOST_REPORTED]}") from fault

@@ -70,7 +70,7 @@ class Entry:
         if not found:
             raise self.fault("needed", " or ".join(keys))
         if len(found) > 1:
-            raise self.fault(f"is there together with {found[0]}", found[1], allowed=f"one of {', '.join(keys)}")
+            raise self.fault(f"is given together with {found[0]}", found[1], allowed=f"one of {', '.join(keys)}")
         return found[0]
 
     def get(self, key: str) -> Any:
@@ -100,14 +100,14 @@ class Entry:
     def table(self, key: str) -> "Entry":
         """A table in this one."""
         if not isinstance(self.get(key), dict):
-            raise self.fault("is no table", key, allowed=f"[{key}] with its fields in the lines below")
+            raise self.fault("is not a table", key, allowed=f"[{key}] with its fields in the lines below")
         return Entry(self.path, self.values[key], self.lines.inner(key))
 
     def inner(self, key: str) -> list["Entry"]:
         """The tables of a list."""
         value = self.get(key)
         if not isinstance(value, list) or not value or not all(isinstance(item, dict) for item in value):
-            raise self.fault("is no list of tables", key, allowed="[{ .. }, { .. }]")
+            raise self.fault("is not a list of tables", key, allowed="[{ .. }, { .. }]")
         return [Entry(self.path, item, self.lines.inner(key, number)) for number, item in enumerate(value)]
 
     def known(self, key: str, value: str, names: Iterable[str], what: str) -> None:

@@ -51,7 +51,7 @@ def unpack_member(path: Path, member: str, target: Path) -> Path:
 
 
 class Unread(MutableMapping[str, Path]):
-    """Members that nothing reads yet, by their names: each is unpacked when it is asked for."""
+    """Members that nothing reads yet, by their names: each is unpacked when it is needed."""
 
     def __init__(self, path: Path, members: Mapping[str, str], room: Path) -> None:
         self.path, self.members, self.room = path, dict(members), room

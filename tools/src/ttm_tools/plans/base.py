@@ -21,7 +21,7 @@ from ..gtfs.fields import MOST_STOPS, Floats, Narrow, Whole, date, number, time
 from ..gtfs.service_days import MOST_DAYS, Days, days_of, ordinals
 from ..gtfs.stops import place_of
 from ..prepare.check import check
-from ..prepare.report import fault_lines
+from ..prepare.report import counted_errors, fault_lines
 from ..records import shown
 from ..opening.kinds import decimal
 from ..opening.toml_file import Entry
@@ -32,7 +32,7 @@ NO_ROW = -1  # in place of a record: a call that no record of the feed states
 
 @dataclass(frozen=True)
 class Headway:
-    """A row of frequencies.txt: departures from the start on, so many seconds apart, strictly before the end."""
+    """A row of frequencies.txt: departures from the start on, a headway apart, strictly before the end."""
 
     start: int
     end: int
@@ -44,7 +44,7 @@ class Headway:
         return range(self.start, self.end, self.seconds)
 
     def moved(self, seconds: int) -> "Headway":
-        """The same departures, so many seconds later; the end is the least that leaves them all."""
+        """The same departures, later by some seconds; the end is the least that leaves them all."""
         if not self.departures:
             return self
         return Headway(self.start + seconds, self.departures[-1] + 1 + seconds, self.seconds, self.row)
@@ -166,13 +166,13 @@ def read_base(folder: str, new_stops: Sequence[Entry]) -> Base:
     """Reads the folder of a feed; one that `ttm` refuses is reported by its first fault."""
     path = Path(folder)
     if not path.is_dir():
-        raise BadInput(folder, "no folder of a feed (unzip it first)")
+        raise BadInput(folder, "not the folder of a feed (unzip it first)")
     feed = read_feed(path, path)
     faults = check(feed)
     if faults:
         first = next(fault_lines(faults)).removeprefix("ttm: ")
         raise BadInput(
-            folder, f"{sum(map(len, faults)):,} faults, first {first} (ttm-tools prepare tells and mends them)"
+            folder, f"{counted_errors(sum(map(len, faults)))}: {first} (ttm-tools prepare reports and repairs errors)"
         )
     table, trips, places = feed.tables[CALLS], feed.tables["trips.txt"].texts("trip_id"), read_places(feed, new_stops)
     calls = calls_of(table, trips)
@@ -227,12 +227,12 @@ def read_places(feed: Feed, new_stops: Sequence[Entry]) -> StopPlaces:
         entry.only(("id", "name", "lat", "lon"))
         stop = entry.text("id")
         if stop in taken:
-            raise entry.fault("is there already", "id", stop)
+            raise entry.fault("already exists", "id", stop)
         taken.add(stop)
         stops.append(stop)
         names.append(entry.text("name", stop))
         where.append((float(entry.read("lat", decimal("-90", "90"))), float(entry.read("lon", decimal("-180", "180")))))
     if new_stops and len(taken) > MOST_STOPS:
-        raise new_stops[-1].fault(f"makes {len(taken):,} stops and stations, and ttm takes {MOST_STOPS:,}", "id")
+        raise new_stops[-1].fault(f"makes {len(taken):,} stops and stations; ttm takes {MOST_STOPS:,}", "id")
     found = np.array(where, dtype=np.float64).reshape(-1, 2)
     return StopPlaces(stops, names, found[:, 0], found[:, 1])

@@ -56,7 +56,7 @@ def carried_out(base: Base, planned: PlannedScenario) -> Finished:
     for number, entry in enumerate(planned.actions, 1):
         what = entry.text("do")
         if what not in ACTIONS:
-            raise entry.fault(f"is no action{near(what, ACTIONS)}", "do", what, ", ".join(ACTIONS))
+            raise entry.fault(f"is not an action{near(what, ACTIONS)}", "do", what, ", ".join(ACTIONS))
         action = ACTIONS[what]
         entry.only(("do", *action.keys))
         before, state.changes = state.counts(), []

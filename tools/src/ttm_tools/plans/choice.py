@@ -21,8 +21,8 @@ def routes_of(state: State, entry: Entry) -> list[str]:
 def unknown_route(state: State, entry: Entry, name: str) -> BadInput:
     """The fault that names the nearest route, by its identifier or by the name that people use."""
     by_name = state.base.short_names.get(name)
-    nearest = f"; the nearest is {by_name!r}, which bears this name" if by_name else near(name, state.routes())
-    return entry.fault(f"is no route of the feed or of the scenario{nearest}", "route", name)
+    nearest = f"; the nearest is {by_name!r}, which has this name" if by_name else near(name, state.routes())
+    return entry.fault(f"is not a route of the feed or of the scenario{nearest}", "route", name)
 
 
 def chosen(state: State, entry: Entry) -> list[Trip]:
@@ -37,10 +37,10 @@ def chosen(state: State, entry: Entry) -> list[Trip]:
         trips = same_pattern(state, entry, trips)
     if entry.has("service"):
         service = entry.text("service")
-        entry.known("service", service, {trip.service for trip in trips}, "is no service of these trips")
+        entry.known("service", service, {trip.service for trip in trips}, "is not a service of these trips")
         trips = [trip for trip in trips if trip.service == service]
     if not trips:
-        message = "no trip of the route has this direction_id, and this pattern and service where they are given"
+        message = "no trip of the route has this direction_id, pattern and service"
         raise entry.fault(message, "direction")
     return trips
 
@@ -50,7 +50,7 @@ def same_pattern(state: State, entry: Entry, trips: Sequence[Trip]) -> list[Trip
     name = entry.text("pattern")
     found = [trip for trip in trips if trip.label == name]
     if not found:
-        message = f"is no trip among these{near(name, [trip.label for trip in trips])}"
+        message = f"is not one of these trips{near(name, [trip.label for trip in trips])}"
         raise entry.fault(message, "pattern", name, "a trip that calls at the pattern's stops")
     return [trip for trip in trips if pattern_of(trip) == pattern_of(found[0])]
 
@@ -95,8 +95,8 @@ def stop_named(state: State, entry: Entry, key: str, name: str) -> int:
         by_name = [
             stop for stop, nearest in zip(state.base.places.identifiers, state.base.places.names) if nearest == name
         ]
-        nearest = f"; the nearest is {by_name[0]!r}, which bears this name" if by_name else near(name, numbers)
-        raise entry.fault(f"is no stop of the feed or of the plan{nearest}", key, name)
+        nearest = f"; the nearest is {by_name[0]!r}, which has this name" if by_name else near(name, numbers)
+        raise entry.fault(f"is not a stop of the feed or of the plan{nearest}", key, name)
     return numbers[name]
 
 

@@ -16,7 +16,7 @@ def service_of(base: Base, entry: Entry, services: set[str]) -> str:
         return names[0]
     for name in names:
         if name in base.endless:
-            message = "has no end, and trips of other services run there too: choose one by service"
+            message = "has no end, and trips of other services run there too: choose one with service"
             raise entry.fault(f"{message}, of {', '.join(names)}", "service", name)
     rows = {name: runs_of(base, name) for name in names}
     union = np.any(list(rows.values()), axis=0)
@@ -47,13 +47,13 @@ def service_named(base: Base, entry: Entry) -> str:
     """The service of a new line: one of the feed by its name, or one of days of the week."""
     if entry.one_of("service", "days") == "service":
         service = entry.text("service")
-        entry.known("service", service, base.service_numbers, "is no service of the feed")
+        entry.known("service", service, base.service_numbers, "is not a service of the feed")
         return service
     days = weekdays_of(entry)
     weekday = (base.days.first + np.arange(base.days.runs.shape[1]) - 1) % 7
     runs = np.isin(weekday, [WEEKDAYS.index(day) for day in days])
     if not runs.any():
-        raise entry.fault("no such day is among those of the feed's calendars", "days", " ".join(days))
+        raise entry.fault("the feed's calendars have no such day", "days", " ".join(days))
     return new_service(base, "days-" + "".join(str(int(day in days)) for day in WEEKDAYS), runs)
 
 
@@ -63,5 +63,7 @@ def weekdays_of(entry: Entry) -> list[str]:
     if len(named) == 1 and named[0] in EVERY:
         return list(EVERY[named[0]])
     for day in named:
-        entry.known("days", day, WEEKDAYS, "is no day of the week; all are 'daily', 'weekdays', 'weekend' or a list")
+        entry.known(
+            "days", day, WEEKDAYS, "is not a day of the week; allowed are 'daily', 'weekdays', 'weekend' or a list"
+        )
     return named

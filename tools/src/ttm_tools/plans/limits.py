@@ -14,7 +14,7 @@ from .base import Base
 from .days import runs_of
 from .state import State
 
-FEWER = "fewer scenarios, or actions on fewer trips"
+FEWER = "use fewer scenarios, or change fewer trips"
 
 
 def refuse_limits(path: str, base: Base, states: Sequence[State]) -> None:
@@ -59,7 +59,7 @@ def by_day(base: Base, states: Sequence[State]) -> tuple[Whole, Whole]:
 
 
 def most_of(base: Base, runs: Whole, events: Whole, days: int) -> Most | None:
-    """The most of so many days in a row, an odd number; none where the calendars know no day."""
+    """The most runs and calls in an odd number of consecutive days; none if the calendars have no day."""
     if not len(runs):
         return None
     both = [np.convolve(counts, np.ones(days, dtype=np.int64), "same")[: len(runs)] for counts in (runs, events)]
@@ -68,18 +68,18 @@ def most_of(base: Base, runs: Whole, events: Whole, days: int) -> Most | None:
 
 
 def sentences_on_days(base: Base, states: Sequence[State]) -> Iterator[str]:
-    """How much runs on a day at most, beside what `ttm` takes."""
+    """The most runs on a day, compared with what `ttm` takes."""
     runs, events = by_day(base, states)
     one, three = (most_of(base, runs, events, days) for days in (1, 3))
     if one is None or three is None:
         return
     who = "all scenarios together" if len(states) > 1 else "the scenario"
-    what = f"{who}: on a day at most {one.runs:,} runs with {one.events:,} stop times ({one.day})"
+    what = f"{who}: at most {one.runs:,} runs with {one.events:,} stop times on a day ({one.day})"
     taken = f"ttm takes {MOST_RUNS:,} and {MOST_STOP_TIMES:,}"
     if one.too_many():
         yield f"{what}, and {taken}: {FEWER}"
     elif three.too_many():
-        more = f"with a day before and one after {three.runs:,} runs with {three.events:,}"
-        yield f"{what}; {more}: --back 0 --ahead 0, since {taken}"
+        more = f"with the day before and after {three.runs:,} runs with {three.events:,}"
+        yield f"{what}; {more}: use --back 0 --ahead 0, since {taken}"
     else:
         yield what

@@ -3,6 +3,7 @@
 import os
 from typing import Iterator
 
+from ..faults import quantity
 from ..gtfs.nearest import reached_from
 from ..gtfs.stops import read_stops
 from ..records import rows, shown
@@ -29,14 +30,16 @@ def sentences_on_nearer(folder: str, footpaths: str, walk: int = 0) -> Iterator[
     if found:
         a, b, seconds, before = found[0]
         ends = f"{shown(stops.identifiers[a])} and {shown(stops.identifiers[b])}"
-        times = f"{seconds} seconds apart by way of them, and {'out of reach' if before is None else before} without"
-        pairs = f"{len(found):,} pairs of old stops nearer, so today isn't as it was"
+        times = (
+            f"{seconds} seconds apart by way of them, and {'out of reach' if before is None else before} without them"
+        )
+        pairs = f"{quantity(len(found), 'pair')} of old stops nearer to each other, so today differs from the feed"
         yield f"walks to new stops bring {pairs}: {ends}, {times}"
 
 
 def nearer(walks: Leaving, new: set[int], walk: int = 0) -> list[tuple[int, int, int, int | None]]:
     """The pairs of old stops that are nearer by way of new ones: by how many seconds one walks with them and without.
-    Walks from stops beside new ones will do, since all others go by way of these.
+    Walks from stops next to new ones suffice, since all others go by way of these.
     """
     limit = max((seconds for ways in walks.values() for _, seconds in ways), default=walk)
     limit = max(limit, walk)

@@ -7,7 +7,7 @@ from ..opening.toml_file import Entry, read_entry
 
 NAME = re.compile(r"[^\s.@#/\\\"',](?:[^@#/\\\"',\x00-\x1f\x7f]*[^\s@#/\\\"',\x00-\x1f\x7f])?")
 TAKEN = ("base", "today")  # names that scenarios of a plan can't have
-MOST_SCENARIOS = 14  # beside these two: `ttm` takes sixteen
+MOST_SCENARIOS = 14  # in addition to these two: `ttm` takes sixteen
 
 
 @dataclass(frozen=True)
@@ -37,7 +37,7 @@ def read_plan(path: str) -> PlanFile:
     seen = set[str]()
     for number, scenario in enumerate(scenarios):
         if scenario.name in seen:
-            raise scenario.entry.fault("is there twice", "name", scenario.name)
+            raise scenario.entry.fault("occurs twice", "name", scenario.name)
         if number >= MOST_SCENARIOS:
             message = f"is scenario {number + 1}; ttm takes {MOST_SCENARIOS} in addition to base and today"
             raise scenario.entry.fault(message, "name", scenario.name)

@@ -52,7 +52,7 @@ def stop_rows(written: Written) -> Iterator[list[object]]:
 
 
 def write_lists(written: Written, folder: Path) -> None:
-    """Writes the lists beside the feed."""
+    """Writes the lists next to the feed."""
     for name, header, rows in (
         ("actions.csv", ACTIONS, action_rows(written.finished)),
         ("changes.csv", CHANGES, change_rows(written)),

@@ -46,10 +46,8 @@ def own_records(state: State) -> Iterator[Record]:
 def refuse_long(mine: Finished, records: Sequence[Record]) -> None:
     """Refuses a scenario whose file is longer than `ttm` takes."""
     if len(records) > MOST_RECORDS:
-        what = (
-            f"takes a scenario file of {len(records):,} records, and ttm {MOST_RECORDS:,}: fewer trips, or whole routes"
-        )
-        raise mine.planned.entry.fault(what, "name", mine.name)
+        what = f"takes a scenario file of {len(records):,} records, and ttm {MOST_RECORDS:,}"
+        raise mine.planned.entry.fault(f"{what}: change fewer trips, or whole routes", "name", mine.name)
 
 
 def write_scenarios(written: Written, folder: Path) -> list[str]:

@@ -20,7 +20,7 @@ class Trip:
 
     label: str  # what it is called; a trip that stands for one of the feed has that one's name
     source: int  # the trip of the feed whose other fields it takes over; -1 for a new line's
-    copied: bool  # whether it stands beside its source, and not for it
+    copied: bool  # whether it is added to its source, and doesn't replace it
     route: str
     service: str
     direction: str
@@ -44,13 +44,13 @@ class Trip:
         return int(self.arrive[-1] - self.depart[0])
 
     def moved(self, seconds: int) -> "Trip":
-        """The same trip so many seconds later."""
+        """The same trip, later by some seconds."""
         if self.headways:
             return replace(self, headways=tuple(headway.moved(seconds) for headway in self.headways))
         return replace(self, arrive=self.arrive + seconds, depart=self.depart + seconds)
 
     def leaving(self, seconds: int) -> "Trip":
-        """The same trip, with headways that are so many seconds later; its own times stay."""
+        """The same trip, with headways that are later by some seconds; its own times stay."""
         return replace(self, headways=tuple(headway.moved(seconds) for headway in self.headways))
 
 

@@ -107,7 +107,7 @@ def write_tables(base: Base, tables: dict[str, Table], gone: set[str] | None, fo
         if len(more) or name in base.feed.tables:
             put_together(old, more, folder / name)
         if (folder / name).exists() and (folder / name).stat().st_size > MOST_BYTES:
-            raise BadInput(name, f"would have more bytes than ttm takes; allowed: {MOST_BYTES:,}: fewer scenarios")
+            raise BadInput(name, f"would have more bytes than ttm takes; allowed: {MOST_BYTES:,}: use fewer scenarios")
 
 
 def without_trips(table: Table, gone: set[str]) -> Table:

@@ -15,7 +15,7 @@ from ..opening.paths import as_one_line
 from ..opening.texts import read_json
 from ..records import shown
 
-AREAS_FILE = "areas.geojson"  # beside a feed's points
+AREAS_FILE = "areas.geojson"  # next to a feed's points
 DECIMALS = 7  # of degrees, about a hundredth of a metre
 KINDS = ("Polygon", "MultiPolygon")
 AROUND = np.array([[-1, -1], [1, -1], [1, 1], [-1, 1], [-1, -1]])  # the corners of a square, against the clock
@@ -69,19 +69,19 @@ def write_areas(out: BinaryIO, areas: Mapping[str, Area]) -> None:
 
 
 def areas_beside(points: str) -> dict[str, Area]:
-    """The areas that lie beside a file of points; none where there are none."""
+    """The areas in the folder of a file of points; none if there are none."""
     path = Path(points).with_name(AREAS_FILE)
     if not path.is_file():
         return {}
     found, areas = read_json(path, "GeoJSON"), dict[str, Area]()
-    with as_one_line(path, "is no file of areas that ttm-tools points wrote"):
+    with as_one_line(path, "is not a file of areas from ttm-tools points"):
         for feature in found["features"]:
             geometry = feature["geometry"]
             parts = geometry["coordinates"] if geometry["type"] == KINDS[1] else [geometry["coordinates"]]
             areas[str(feature["properties"]["id"])] = [[ring_of(ring) for ring in polygon] for polygon in parts]
     for identifier, area in areas.items():
         if not all(is_ring(ring) for polygon in area for ring in polygon):
-            raise BadInput(path, f"the area of {shown(identifier)} has a ring that is none")
+            raise BadInput(path, f"the area of {shown(identifier)} has an invalid ring")
     return areas
 
 

@@ -63,7 +63,7 @@ class Grid:
 
 
 def grid_near(stops: Stops, side: float, metres: float) -> Grid:
-    """The cells whose middle lies at most so many metres from a stop at which vehicles call."""
+    """The cells whose middle is within a distance in metres of a stop at which vehicles call."""
     called = stops.placed & (stops.kinds == 0)
     if not called.any():
         raise BadInput(stops.path, "no stop has stop_lat and stop_lon, so there is no place for a grid")
@@ -114,7 +114,7 @@ def grid_over(path: str, side: float) -> Grid:
 
 
 def band(grid: Grid, row: int, count: int) -> Any:
-    """A whole row of so many cells."""
+    """A whole row of this many cells."""
     from shapely.ops import unary_union
 
     return unary_union([grid.square(row, 0), grid.square(row, count - 1)]).envelope
@@ -124,24 +124,24 @@ def whole(grid: Grid) -> Grid:
     """The same grid, if it has some cells and not too many."""
     refuse_cells(len(grid.squares))
     if not len(grid.squares):
-        raise BadInput(PATH, f"no cell of {1000 * grid.side:g} metres is within a walk of a stop: take smaller ones")
+        raise BadInput(PATH, f"no cell of {1000 * grid.side:g} metres is within a walk of a stop: use smaller cells")
     return grid
 
 
 def refuse_tried(count: float) -> None:
     if count > MOST_TRIED:
-        raise BadInput(PATH, f"{count:,.0f} cells are too many to look at: take larger ones, or a smaller area")
+        raise BadInput(PATH, f"{count:,.0f} cells are too many: use larger cells, or a smaller area")
 
 
 def refuse_cells(count: int) -> None:
     if count > MOST_CELLS:
-        raise BadInput(PATH, f"more than {MOST_CELLS:,} cells, which ttm doesn't take: take larger ones")
+        raise BadInput(PATH, f"more than {MOST_CELLS:,} cells, which is more than ttm takes: use larger cells")
 
 
 def areas_of(path: str) -> Any:
     """The shapes of a file in degrees."""
     if Path(path).suffix.lower() not in AREAS:
-        raise BadInput(path, f"areas are taken from {', '.join(AREAS)}")
+        raise BadInput(path, f"areas are read from {', '.join(AREAS)}")
     frame = read_frame(path)
     if frame.crs is None:
         raise BadInput(path, "it names no coordinate reference system")
@@ -166,7 +166,7 @@ def filled(grid: Grid, paths: Sequence[str]) -> tuple[Points, list[str]]:
 def sentences_on_outside(path: str, names: Sequence[str], lost: Floats, totals: Floats) -> list[str]:
     """How much of each column lies in no cell."""
     return [
-        f"{path}: {plain(round(outside, 3))} of {plain(round(total, 3))} {shown(name)} lie outside of all cells"
+        f"{path}: {plain(round(outside, 3))} of {plain(round(total, 3))} {shown(name)} are outside all cells"
         for name, outside, total in zip(names, lost.tolist(), totals.tolist())
         if outside > 1e-6 * max(total, 1)
     ]
@@ -237,7 +237,7 @@ def numbers_of(path: str, frame: Any, names: Sequence[str]) -> Floats:
         record, column = bad[0].tolist()
         value = text_of(frame[names[column]].iat[record])
         allowed = "a number from 0 on"
-        raise BadInput(path, "is none", record=record + 1, column=names[column], value=value, allowed=allowed)
+        raise BadInput(path, "is invalid", record=record + 1, column=names[column], value=value, allowed=allowed)
     return numbers
 
 

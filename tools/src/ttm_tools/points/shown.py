@@ -35,8 +35,8 @@ def shown_of(matrix: Matrix, feed: str | None, points: str | None) -> tuple[Matr
 
 
 def with_areas(points: Points) -> Points:
-    """The points of a folder that `ttm-tools points` wrote with their areas, which lie beside them; others as they
-    are.
+    """The points of a folder that `ttm-tools points` wrote with their areas, which are in the same folder; others as
+    they are.
     """
     is_of_folder = os.path.basename(points.path) == POINTS
     return replace(points, areas=areas_beside(points.path)) if is_of_folder else points

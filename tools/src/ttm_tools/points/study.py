@@ -13,7 +13,7 @@ from typing import Callable, Iterator, Sequence
 import numpy as np
 import numpy.typing as npt
 
-from ..faults import BadInput, some
+from ..faults import BadInput, quantity, some
 from ..gtfs.stops import Stops, read_stops
 from ..files import copy_file, is_free, many_written_aside
 from ..naming import file_names
@@ -27,10 +27,10 @@ from .table import Points, plain
 
 MOST_STOPS, MOST_PAIRS = 65_535, 4_000_000  # that `ttm` takes
 FEED, POINTS, WORDS, LABELS, FOOTPATHS = "feed", "points.csv", "words.txt", "labels.csv", "footpaths.csv"
-SCENARIOS, NEW_STOPS = "scenarios", "new_stops.csv"  # of a plan, beside its feed
-HELPS, HELPS_AFTER = "--leave-out leaves out points without a stop in reach; or ", "take parts of the region"
+SCENARIOS, NEW_STOPS = "scenarios", "new_stops.csv"  # of a plan, in its feed's folder
+HELPS, HELPS_AFTER = "use --leave-out for points without a stop in reach, or ", "take parts of the region"
 PLACE = ("stop_name", "stop_lat", "stop_lon")
-WalkFinder = Callable[[Stops, int | None], Walks]  # of the first so many stops with all alone, where it is said
+WalkFinder = Callable[[Stops, int | None], Walks]  # of the first stops with all alone, if their number is given
 Flags = npt.NDArray[np.bool_]
 
 
@@ -92,9 +92,9 @@ def make(options: PointsOptions, walker: WalkFinder) -> list[str]:
     with many_written_aside(options.out) as folder:
         write_feed(folder / FEED, options.feed, study.points)
         write_files(folder, options, study, walks, rounded)
-    count = f"{len(study.points.identifiers):,} points, {len(walks.seconds):,} footpaths"
-    whole = [f"{rounded.count:,} numbers with decimals were rounded for ttm"] if rounded.count else []
-    return [*sentences, *whole, f"{options.out}: {count}; the words of a run are in {Path(options.out) / WORDS}"]
+    count = f"{quantity(len(study.points.identifiers), 'point')}, {quantity(len(walks.seconds), 'footpath')}"
+    whole = [f"{quantity(rounded.count, 'number')} with decimals rounded for ttm"] if rounded.count else []
+    return [*sentences, *whole, f"{options.out}: {count}; the arguments of a run are in {Path(options.out) / WORDS}"]
 
 
 def prefixes_of(files: Sequence[Points], stops: Stops) -> list[str]:
@@ -170,20 +170,20 @@ def refuse_pairs(walks: Walks, study: PointStudy, helps: str) -> None:
     """Refuses more walks than `ttm` takes."""
     if len(walks.seconds) > MOST_PAIRS:
         what = f"{len(walks.seconds):,} walks are more than the {MOST_PAIRS:,} that ttm takes"
-        raise TooManyWalks(study.points.path, f"{what}: a shorter --limit, or fewer points; {helps}")
+        raise TooManyWalks(study.points.path, f"{what}: use a shorter --limit, or fewer points; {helps}")
 
 
 def sentences_on_prefixes(files: Sequence[Points], prefixes: Sequence[str]) -> Iterator[str]:
     for points, prefix in zip(files, prefixes):
         if prefix:
-            yield f"{points.path}: identifiers begin with {shown(prefix)} in the feed, since one of them was there"
+            yield f"{points.path}: identifiers begin with {shown(prefix)} in the feed, since one of them already exists"
 
 
 def sentences_on_reach(study: PointStudy, near: Flags, left_out: bool) -> Iterator[str]:
     """The points from which no stop is in reach."""
     lost = [shown(study.points.identifiers[place]) for place in np.flatnonzero(~near).tolist()]
     if lost:
-        yield f"{len(lost):,} points have no stop in reach{' and are left out' if left_out else ''}: {some(lost)}"
+        yield f"{quantity(len(lost), 'point')} without a stop in reach{', left out' if left_out else ''}: {some(lost)}"
 
 
 def write_feed(folder: Path, feed: str, points: Points) -> None:
@@ -249,7 +249,7 @@ def has_heights(points: Points) -> bool:
 
 
 def write_files(folder: Path, options: PointsOptions, study: PointStudy, walks: Walks, rounded: Rounded) -> None:
-    """Writes what stands beside the feed."""
+    """Writes the files next to the feed."""
     ends = {"origins.csv": study.of_files(options.begins), "destinations.csv": study.of_files(options.ends)}
     with open(folder / FOOTPATHS, "wb") as out:
         write_rows(out, ["from_stop_id", "to_stop_id", "seconds"], walks.rows())

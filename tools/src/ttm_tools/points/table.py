@@ -80,7 +80,7 @@ class Reader:
         if not text:
             raise BadInput(self.path, "is empty", record=record, column="id")
         if text in self.seen:
-            raise BadInput(self.path, f"{shown(text)} is there twice", record=record)
+            raise BadInput(self.path, f"{shown(text)} occurs twice", record=record)
         self.seen.add(text)
         return text
 
@@ -88,13 +88,13 @@ class Reader:
         number = number_of(text.strip())
         if not abs(number) <= most:
             allowed = f"degrees from -{most} to {most}"
-            raise BadInput(self.path, "is no such number", record=record, column=column, value=text, allowed=allowed)
+            raise BadInput(self.path, "is invalid", record=record, column=column, value=text, allowed=allowed)
         return number
 
     def place(self, latitude: str, longitude: str, record: int) -> tuple[float, float]:
         degrees = self.degrees(latitude, record, "lat", 90), self.degrees(longitude, record, "lon", 180)
         if not any(degrees):
-            raise BadInput(self.path, "lat and lon are 0 and 0, which is no place", record=record)
+            raise BadInput(self.path, "lat and lon are 0 and 0, which is not a place", record=record)
         return degrees
 
     def side(self, text: str, record: int, column: str) -> float:
@@ -103,14 +103,14 @@ class Reader:
         number = number_of(text.strip())
         if not 0 < number <= WIDEST:
             allowed = f"metres above 0, up to {WIDEST:,.0f}, or nothing"
-            raise BadInput(self.path, "is no such number", record=record, column=column, value=text, allowed=allowed)
+            raise BadInput(self.path, "is invalid", record=record, column=column, value=text, allowed=allowed)
         return number
 
     def number(self, text: str, record: int, column: str) -> float:
         number = number_of(text.strip())
         if not number >= 0:
             allowed = "a number from 0 on"
-            raise BadInput(self.path, "is none", record=record, column=column, value=text, allowed=allowed)
+            raise BadInput(self.path, "is invalid", record=record, column=column, value=text, allowed=allowed)
         return number
 
 
@@ -133,7 +133,7 @@ class Taken:
     def take(self, identifier: str, name: str, place: Iterable[float], numbers: Iterable[float]) -> None:
         """Takes a point with its latitude, longitude, width and height."""
         if len(self.identifiers) >= MOST_POINTS:
-            raise BadInput(self.path, f"more than {MOST_POINTS:,} points: take parts of the region")
+            raise BadInput(self.path, f"more than {MOST_POINTS:,} points: use parts of the region")
         self.identifiers.append(identifier)
         self.names.append(identifier if name == identifier else name)
         self.places.extend(place)
@@ -150,7 +150,7 @@ def number_columns(path: str, columns: Sequence[str]) -> list[str]:
     found = set[str]()
     for count, (_, fields) in enumerate(rows(path, columns)):
         if count >= MOST_POINTS:
-            raise BadInput(path, f"more than {MOST_POINTS:,} points: take parts of the region")
+            raise BadInput(path, f"more than {MOST_POINTS:,} points: use parts of the region")
         for name, text in zip(columns, fields):
             if name not in found and not math.isnan(number_of(text.strip())):
                 found.add(name)

@@ -1,1 +1,1 @@
-"""Published feeds made ready for `ttm`: what is wrong in them, rules that mend it, clipping, and merging."""
+"""Published feeds, prepared for `ttm`: their errors, rules that repair these, clipping, and merging."""

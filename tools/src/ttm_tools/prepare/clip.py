@@ -49,7 +49,7 @@ class Clip:
 
 
 def clip(feed: Feed, options: Clip) -> list[str]:
-    """Leaves out what isn't asked for, and what refers to it; what of which file, a sentence a line. The feed has no
+    """Leaves out what isn't chosen, and what refers to it; what of which file, a sentence a line. The feed has no
     faults but limits.
     """
     before, counts = there(feed), {name: len(table) for name, table in feed.tables.items()}
@@ -98,7 +98,7 @@ def agencies_of(feed: Feed) -> list[str]:
 
 
 def near(stops: Table, options: Clip) -> set[str] | None:
-    """The locations of a region, faults or not; none where no region is asked for, or nothing can be said of it."""
+    """The locations of a region, faults or not; none if no region is given, or nothing can be said of it."""
     if not options.is_region or "stop_id" not in stops:
         return None
     return set(distinct(stops["stop_id"], of_region(stops, options)))
@@ -149,10 +149,10 @@ def in_area(x: fields.Floats, y: fields.Floats, path: str) -> Mask:
         try:
             polygon = shape(geometry)
             west, south, east, north = polygon.bounds
-        except Exception as fault:  # whatever shapely says of a polygon that is none
-            raise BadInput(path, f"a polygon that is none: {fault}") from None
+        except Exception as fault:  # whatever shapely says of an invalid polygon
+            raise BadInput(path, f"an invalid polygon: {fault}") from None
         if not (-180 <= west and east <= 180 and -90 <= south and north <= 90):
-            raise BadInput(path, "coordinates that are no degrees", allowed="longitude and latitude, WGS 84")
+            raise BadInput(path, "coordinates that are not degrees", allowed="longitude and latitude, WGS 84")
         near = np.flatnonzero((x >= west) & (x <= east) & (y >= south) & (y <= north))
         ready = prep(polygon)
         inside[near] |= np.array([ready.intersects(Point(x[place], y[place])) for place in near], dtype=np.bool_)
@@ -161,7 +161,7 @@ def in_area(x: fields.Floats, y: fields.Floats, path: str) -> Mask:
 
 def polygons_of(path: str) -> list[dict[str, Any]]:
     read = read_json(path, "GeoJSON")
-    with as_one_line(path, "is no GeoJSON"):
+    with as_one_line(path, "is not GeoJSON"):
         polygons = list(geometries(read))
     if not polygons:
         raise BadInput(path, "no polygon in it", allowed="a GeoJSON Polygon or MultiPolygon, or features of these")

@@ -6,6 +6,7 @@ from typing import Iterator
 
 import numpy as np
 
+from ..faults import quantity
 from ..gtfs import fields
 from ..gtfs.calls import Calls, calls_of
 from ..gtfs.columns import distinct, one_of, positions_of
@@ -23,7 +24,7 @@ PLACES = ("stop_lat", "stop_lon", "stop_name")
 
 
 def sentences(feed: Feed, with_days: bool = True) -> Iterator[str]:
-    """What is reported of a feed beside its faults; its days where it has none."""
+    """What is reported of a feed in addition to its errors; its days if it has none."""
     yield from misspelt(feed)
     if feed.has_columns("stops.txt"):
         yield from unplaced(feed.tables["stops.txt"])
@@ -37,7 +38,7 @@ def sentences(feed: Feed, with_days: bool = True) -> Iterator[str]:
         table = feed.tables["transfers.txt"]
         unused = int((~used_transfers(table)).sum())
         if unused:
-            why = "of types above 2, of a route or trip, or without a time"
+            why = "with a type above 2, for a route or trip, or without a time"
             yield f"transfers.txt: {unused:,} of {len(table):,} rows aren't used ({why})"
 
 
@@ -50,7 +51,7 @@ def misspelt(feed: Feed) -> Iterator[str]:
             near = difflib.get_close_matches(plain(column), map(plain, lacking), 1, 0.85) if column not in right else []
             if near:
                 meant = next(column for column in lacking if plain(column) == near[0])
-                yield f"{name}: the column {column!r} isn't read; {meant} is meant?"
+                yield f"{name}: the column {column!r} isn't read: is {meant} meant?"
 
 
 def plain(name: str) -> str:
@@ -67,7 +68,7 @@ def unplaced(table: Table) -> Iterator[str]:
     lost = np.flatnonzero(np.isnan(places_of(table)[0]) & is_stop(table))
     if len(lost):
         first = shown(table.text("stop_id", int(lost[0])))
-        yield f"stops.txt: {len(lost):,} stops have no place, or 0 and 0, such as {first}"
+        yield f"stops.txt: {quantity(len(lost), 'stop')} without coordinates, or at 0 and 0, such as {first}"
 
 
 def with_commas(table: Table) -> Iterator[str]:
@@ -76,7 +77,7 @@ def with_commas(table: Table) -> Iterator[str]:
     wrong = [text for column in columns for text in column.categories if COMMA.fullmatch(text.strip())]
     if wrong:
         count = int((one_of(columns[0], wrong) | one_of(columns[1], wrong)).sum())
-        yield f"stops.txt: {count:,} places have a comma where a point is meant, such as {shown(wrong[0])}"
+        yield f"stops.txt: {quantity(count, 'stop')} with a decimal comma in a coordinate, such as {shown(wrong[0])}"
 
 
 def formulas(table: Table) -> Iterator[str]:
@@ -85,7 +86,7 @@ def formulas(table: Table) -> Iterator[str]:
     wrong = [text for text in column.categories if text[:1] in tuple("=+-@")]
     count = int(one_of(column, wrong).sum())
     if count:
-        yield f"stops.txt: {count:,} names begin as formulas of spreadsheets do, such as {shown(wrong[0])}"
+        yield f"stops.txt: {quantity(count, 'name')} that a spreadsheet reads as a formula, such as {shown(wrong[0])}"
 
 
 def of_days(feed: Feed) -> Iterator[str]:
@@ -111,13 +112,13 @@ def of_trips(feed: Feed) -> Iterator[str]:
     calls = calls_of(table, names)
     single = int((calls.is_first & calls.is_last).sum())
     if single:
-        yield f"stop_times.txt: {single:,} trips call at a single stop"
+        yield f"stop_times.txt: {quantity(single, 'trip')} with a single stop"
     if feed.has_columns("stops.txt"):
         stops = feed.tables["stops.txt"]
         called = set(distinct(stops["stop_id"], ~one_of(stops["stop_id"], stops_of(feed) or [])))
         count = int(one_of(table["stop_id"], called - {""}).sum())
         if count:
-            yield f"stop_times.txt: {count:,} records call at a station or another place that is no stop"
+            yield f"stop_times.txt: {quantity(count, 'call')} at a station or another location that is not a stop"
         yield from too_fast(table, stops, calls)
 
 
@@ -138,4 +139,4 @@ def too_fast(table: Table, stops: Table, calls: Calls) -> Iterator[str]:
         most = fast[np.argmax(metres[fast] / seconds[fast])]
         record, speed = table.records[calls.rows[follows[most]]], metres[most] / seconds[most] * 3.6
         which = f"the fastest, record {record}, at {speed:,.0f}"
-        yield f"stop_times.txt: {len(fast):,} calls are reached at over {FASTEST} km/h; {which}"
+        yield f"stop_times.txt: {quantity(len(fast), 'call')} reached at over {FASTEST} km/h; {which}"

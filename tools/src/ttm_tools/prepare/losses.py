@@ -1,4 +1,4 @@
-"""What a repair leaves of a feed beside what was there, and whether that is enough to go on with."""
+"""What a repair leaves of a feed, compared with what was there, and whether that is enough."""
 
 import datetime
 from typing import Iterator, Mapping, Sequence
@@ -18,7 +18,7 @@ MOST_LOST = 0.1  # of a file's records, that one rule may leave out
 CALENDARS = ("calendar.txt", "calendar_dates.txt")
 NEEDED = ("stops.txt", "routes.txt", "trips.txt", "stop_times.txt")
 NO_LOSS = "same"  # the rule that leaves out a record of which another one is there
-HELP = "(--allow-loss takes what is left; --check tells all)"
+HELP = "(--allow-loss writes the feed anyway; --check lists all errors)"
 NO_RUNS = "no trip runs on any day"
 
 
@@ -28,7 +28,7 @@ def counts_of(feed: Feed) -> dict[str, int]:
 
 
 def left(before: Mapping[str, int], feed: Feed) -> str:
-    """What is left of each file beside what was there."""
+    """What is left of each file, compared with what was there."""
     after = counts_of(feed)
     return "records left: " + ", ".join(f"{name} {after[name]:,} of {count:,}" for name, count in before.items())
 
@@ -47,7 +47,7 @@ def losses(before: Mapping[str, int], changes: Sequence[Repaired], feed: Feed) -
     """Why what a repair leaves isn't the feed any more: a file that is empty, or a rule that took a lot of one."""
     for (rule, name), count in taken(changes).items():
         if count > MOST_LOST * before[name]:
-            yield f"rule {rule} takes {count:,} of {before[name]:,} records of {name}"
+            yield f"rule {rule} removes {count:,} of {before[name]:,} records of {name}"
     for name in NEEDED:
         if not len(feed.get(name)):
             yield f"{name} has no records"
@@ -64,12 +64,12 @@ def no_runs(feed: Feed, day: datetime.date | None = None) -> str | None:
     if (on_days(feed, [day]) & (runs_of_trips(feed) > 0)).any():
         return None
     return f"no trip runs on {day}, " + (
-        f"but from {days.day(busy[0])} to {days.day(busy[-1])}" if busy else "or any day"
+        f"only from {days.day(busy[0])} to {days.day(busy[-1])}" if busy else "or on any other day"
     )
 
 
 def sentences(feed: Feed, has_faults: bool) -> Iterator[str]:
-    """What is reported of a feed beside its faults; where it has some, its days are those that a repair leaves."""
+    """What is reported of a feed in addition to its errors; if it has some, its days are those that a repair leaves."""
     yield from likely.sentences(feed, with_days=not has_faults)
     if not has_faults:
         return

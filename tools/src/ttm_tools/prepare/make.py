@@ -8,7 +8,7 @@ from typing import Iterator, Sequence
 import numpy as np
 
 from ..column_list import REPAIRS, names_of
-from ..faults import BadInput
+from ..faults import BadInput, quantity
 from ..files import is_free, many_written_aside
 from ..gtfs import fields
 from ..gtfs.columns import positions_of
@@ -22,16 +22,16 @@ from .likely import of_days
 from .losses import counts_of, left, no_runs, refuse_day, refuse_losses
 from .merge import merge
 from .repair import repair
-from .report import Repaired, fault_lines
+from .report import Repaired, counted_errors, fault_lines
 
 MOST_RUNS = 1_000_000
 PREPARED = "prepared.csv"
 ORDER = {name: place for place, name in enumerate(FILES)}
 LESS = {
-    name: "fewer by --box, --area, --routes, --agency" + (", --date" if name in ("trips.txt", "stop_times.txt") else "")
+    name: "use --box, --area, --routes or --agency" + (", or --date" if name in ("trips.txt", "stop_times.txt") else "")
     for name in FILES
 }
-HELP, HELP_AFTER = "--check tells all, --repair mends what rules can", "--check tells all; no rule mends them"
+HELP, HELP_AFTER = "--check lists all, --repair repairs what its rules cover", "--check lists all; no rule covers them"
 
 
 @dataclass(frozen=True)
@@ -81,7 +81,7 @@ def refuse_empty(options: PrepareOptions, feed: Feed) -> None:
     """Ends where no trip of what was clipped runs on the day of the departures."""
     found = None if options.allows_loss or options.day is None else no_runs(feed, options.day)
     if found:
-        raise BadInput(options.out, f"clipped to nothing that runs: {found} (--allow-loss takes what is left)")
+        raise BadInput(options.out, f"no service is left: {found} (--allow-loss writes the feed anyway)")
 
 
 def refuse_faults(path: str, feed: Feed, help: str) -> None:
@@ -90,7 +90,7 @@ def refuse_faults(path: str, feed: Feed, help: str) -> None:
     if faults:
         first = next(fault_lines(faults)).removeprefix("ttm: ")
         count = sum(map(len, faults))
-        raise BadInput(path, f"{count:,} faults, first {first} ({help})")
+        raise BadInput(path, f"{counted_errors(count)}: {first} ({help})")
 
 
 def refuse_limits(feed: Feed) -> None:
@@ -104,15 +104,21 @@ def mended_lines(changes: Sequence[Repaired]) -> list[str]:
     """How often each rule was applied, and what it did."""
     counts: dict[tuple[str, str, str], int] = {}
     for change in changes:
-        done = "mended" if change.done.startswith(("now", "emptied")) else change.done
-        done = "trip left out" if done.startswith("trip ") else done
-        key = (change.rule, change.file, done)
+        key = (change.rule, change.file, noun_of(change.done))
         counts[key] = counts.get(key, 0) + 1
-    return [f"{rule}: {file}: {count:,} times {done}" for (rule, file, done), count in counts.items()]
+    return [
+        f"{rule}: {file}: {quantity(count, noun)} {'repaired' if noun == 'field' else 'removed'}"
+        for (rule, file, noun), count in counts.items()
+    ]
+
+
+def noun_of(done: str) -> str:
+    """What a rule repaired or removed."""
+    return "field" if done.startswith(("now", "emptied")) else "trip" if done.startswith("trip ") else "record"
 
 
 def run_lines(feed: Feed, days: Sequence[datetime.date]) -> Iterator[str]:
-    """The runs on the days that are asked for, beside what `ttm` takes."""
+    """The runs on the chosen days, compared with what `ttm` takes."""
     if not days:
         return
     table = feed.tables["stop_times.txt"]
@@ -123,9 +129,9 @@ def run_lines(feed: Feed, days: Sequence[datetime.date]) -> Iterator[str]:
     sentence = f"runs from {days[0]} to {days[-1]}: {total:,} with {events:,} stop times"
     most = f"{MOST_RUNS:,} and {fields.MOST_STOP_TIMES:,}"
     few = total <= MOST_RUNS and events <= fields.MOST_STOP_TIMES
-    yield sentence if few else f"{sentence}, of which ttm takes {most}; fewer by --back 0 --ahead 0, or by a region"
+    yield sentence if few else f"{sentence}, of which ttm takes {most}; use --back 0 --ahead 0, or a smaller region"
 
 
 def counted(out: str, feed: Feed) -> str:
-    names = {"stops.txt": "stops and stations", "trips.txt": "trips", "stop_times.txt": "stop times"}
-    return f"{out}: " + ", ".join(f"{len(feed.get(name)):,} {noun}" for name, noun in names.items())
+    stops, trips, calls = (len(feed.get(name)) for name in ("stops.txt", "trips.txt", "stop_times.txt"))
+    return f"{out}: {stops:,} stops and stations, {quantity(trips, 'trip')}, {quantity(calls, 'stop time')}"

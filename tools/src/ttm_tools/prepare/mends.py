@@ -1,4 +1,4 @@
-"""How the texts of fields are mended: numbers, times and dates that are written in another form than `ttm` reads."""
+"""How the texts of fields are repaired: numbers, times and dates that are written in another form than `ttm` reads."""
 
 import math
 import re

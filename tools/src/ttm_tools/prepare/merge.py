@@ -6,7 +6,7 @@ from typing import Sequence
 
 import numpy as np
 
-from ..faults import BadInput
+from ..faults import BadInput, quantity
 from ..gtfs.feeds import Feed
 from ..gtfs.fields import FILES
 from ..gtfs.identifiers import KINDS, identifiers, rename
@@ -14,7 +14,7 @@ from ..gtfs.tables import Table, joined, read_table
 from ..records import shown
 from .feed_info import feed_info_of
 
-ALSO = (  # beside what `ttm` reads, files that are merged; all others are left out, and reported
+ALSO = (  # in addition to what `ttm` reads, files that are merged; all others are left out, and reported
     *("agency.txt", "shapes.txt", "fare_attributes.txt", "fare_rules.txt", "pathways.txt", "levels.txt"),
     *("translations.txt", "attributions.txt", "areas.txt", "stop_areas.txt", "networks.txt", "route_networks.txt"),
 )
@@ -39,7 +39,7 @@ def merge(feeds: Sequence[Feed], same_clock: bool = False) -> tuple[Feed, list[s
         collided = [kind for kind in KINDS if identifiers(merged, kind) & identifiers(feed, kind) - {""}]
         for kind in collided:
             add_prefix(feed, kind, prefix)
-            lines.append(f"{feed.name}: each {kind}'s identifier begins with {prefix}")
+            lines.append(f"{feed.name}: the identifiers of all {kind}s begin with {prefix}")
         merged = Feed(merged.name, all_joined(merged, feed))
     merged.others = {}
     if info is not None:
@@ -84,7 +84,7 @@ def name_agency(feed: Feed) -> list[str]:
             empty = np.array([row for row, text in enumerate(feed.tables[file].texts("agency_id")) if not text.strip()])
             feed.tables[file].put("agency_id", empty.astype(np.intp), [name] * len(empty))
             count += len(empty)
-    return [f"{feed.name}: {count:,} records name its agency, {shown(name)}"] if count else []
+    return [f"{feed.name}: agency {shown(name)} added to {quantity(count, 'record')}"] if count else []
 
 
 def free_name(name: str, merged: Feed) -> str:

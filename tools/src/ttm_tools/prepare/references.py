@@ -4,7 +4,7 @@ from typing import Iterator, Mapping, Sequence
 
 import numpy as np
 
-from ..faults import BadInput
+from ..faults import BadInput, quantity
 from ..gtfs.columns import one_of, used
 from ..gtfs.feeds import Feed
 from ..gtfs.fields import Mask
@@ -45,7 +45,7 @@ def leave_out_references(feed: Feed, before: There) -> list[str]:
                 if name.endswith(".txt") and set(names_of(feed.others[name])) & set(NAMES):
                     table = read_table(name, feed.others[name])
             except BadInput as fault:
-                lines.append(f"{name}: not read, and copied as it is ({fault})")
+                lines.append(f"{name}: copied as it is, since it can't be read ({fault})")
         if table is None or name in {file for file, _ in GIVEN.values()} | {"stop_times.txt"}:
             continue
         count = len(table)
@@ -55,8 +55,8 @@ def leave_out_references(feed: Feed, before: There) -> list[str]:
             feed.tables[name] = table
             del feed.others[name]
     counts |= leave_out_fares(feed)
-    counts_stated = ", ".join(f"{name} {count:,} records" for name, count in counts.items() if count)
-    return [*lines, *([f"left out with what they name: {counts_stated}"] if counts_stated else [])]
+    counts_stated = ", ".join(f"{name} {quantity(count, 'record')}" for name, count in counts.items() if count)
+    return [*lines, *([f"removed with what they name: {counts_stated}"] if counts_stated else [])]
 
 
 def named_still(table: Table, gone: Gone, feed: Feed) -> Mask:

@@ -1,11 +1,11 @@
-"""What a check found, as lines and as a table; and what was mended."""
+"""What a check found, as lines and as a table; and what was repaired."""
 
 from dataclasses import dataclass
 from typing import Iterator, Sequence
 
 import numpy as np
 
-from ..faults import one_line
+from ..faults import one_line, quantity
 from ..records import shown
 from .check import Fault
 
@@ -42,6 +42,11 @@ def fault_lines(faults: Sequence[Fault]) -> Iterator[str]:
         found = f'column {fault.column} is "{one_line(shown(value))}"; ' if value is not None else ""
         often = f"; {len(fault):,} times: records {records_shown(fault)}" if len(fault) > 1 else ""
         yield f"  {found}{fault.allowed}{often}"
+
+
+def counted_errors(count: int) -> str:
+    """How many errors a feed has, before the first of them."""
+    return f"{quantity(count, 'error')}{', the first' if count > 1 else ''}"
 
 
 def records_shown(fault: Fault) -> str:

@@ -110,7 +110,7 @@ def ridden(
 
 
 def network_at(network: TransportNetwork, task: RegionalTask, doors: Doors) -> Network:
-    """The network that is kept of a folder of places, on the date that is asked for."""
+    """The network that is kept of a folder of places, on the chosen date."""
     return network.network_of(doors.folder, doors.key, task.times, doors.walk)
 
 
@@ -160,10 +160,10 @@ def named_limits(task: RegionalTask, places: FramePlaces) -> Iterator[None]:
     except TooManyWalks:
         limit = datetime.timedelta(seconds=task.pace().limit)
         what = f"{limit} gives more than the {study.MOST_PAIRS:,} walks that ttm takes"
-        raise NotAvailable("max_time_walking", what, "ask for less, such as 20 minutes, or for fewer places") from None
+        raise NotAvailable("max_time_walking", what, "use less, such as 20 minutes, or fewer places") from None
     except study.TooManyPlaces as fault:
         argument = "point_grid_resolution" if places.name == GRID else places.name
-        instead = "ask for a larger one" if places.name == GRID else "ask for some of them at a time"
+        instead = "use a larger one" if places.name == GRID else "use some of them at a time"
         raise NotAvailable(argument, fault.what.partition(":")[0], instead) from None
 
 

@@ -1,4 +1,4 @@
-"""Areas that are reached within so many minutes, from the travel times to a grid of points along the streets."""
+"""Areas that are reached within given minutes, from the travel times to a grid of points along the streets."""
 
 import datetime
 from typing import Any, Iterable
@@ -78,7 +78,7 @@ def frame_of(
     kwargs["max_time"] = limits[-1]
     task = RegionalTask(network, **kwargs)
     if len(task.percentiles) != 1:
-        raise NotAvailable("percentiles", f"{task.percentiles} are several", "ask for one at a time")
+        raise NotAvailable("percentiles", f"{task.percentiles} are several", "use one at a time")
     begins, *_, frame, _ = ends_of(network, as_frame(origins), None, False)
     grid = StreetGrid(network.streets, frame.estimate_utm_crs(), resolution)
     found = seconds_between(network, task, begins, grid.places())[task.percentiles[0]]
@@ -109,7 +109,7 @@ class Isochrones(geopandas.GeoDataFrame):  # type: ignore[misc]
         **kwargs: Any,
     ) -> None:
         if point_grid_sample_ratio != 1:
-            what = f"{point_grid_sample_ratio!r} isn't to be had, since all points are computed"
+            what = f"{point_grid_sample_ratio!r} isn't supported, since all points are computed"
             raise NotAvailable("point_grid_sample_ratio", what, "leave it out, or give a larger point_grid_resolution")
         super().__init__(frame_of(transport_network, origins, isochrones, point_grid_resolution, **kwargs))
 

@@ -122,7 +122,7 @@ class LongWalks:
 
 
 def reached_directly(folder: Path) -> npt.NDArray[np.float64] | None:
-    """The walks of a folder from its origins to its destinations, NaN where there is none; none at all if its feed
+    """The walks of a folder from its origins to its destinations, NaN where there is none; none if its feed
     isn't split, so that `ttm` has them.
     """
     if not (folder / DIRECT).exists():

@@ -25,7 +25,7 @@ def ends_of(
 ) -> tuple[FramePlaces, FramePlaces, Any, Any]:
     """Where journeys begin and end, and the frames of these; without destinations they end at the origins."""
     if origins is None:
-        raise NotAvailable("origins", "None isn't to be had", "a GeoDataFrame with the columns id and geometry")
+        raise NotAvailable("origins", "None isn't supported", "a GeoDataFrame with the columns id and geometry")
     frames = [origins] if destinations is None or destinations is origins else [origins, destinations]
     if snaps is not False:
         radius = NEAR if snaps is True else float(snaps)
@@ -65,7 +65,7 @@ def as_column(identifiers: list[Any]) -> Any:
 
 class TravelTimeMatrix(pandas.DataFrame):  # type: ignore[misc]
     """Travel times between all origins and destinations: `from_id`, `to_id`, and `travel_time` in minutes, or
-    `travel_time_p25` and so on where other percentiles are asked for; missing where a place isn't reached.
+    `travel_time_p25` and so on for other percentiles; missing where a place isn't reached.
     """
 
     def __init__(

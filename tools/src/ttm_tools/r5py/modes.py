@@ -71,14 +71,14 @@ def mode_of(route_type: int) -> TransportMode | None:
 
 
 def modes_of(argument: str, given: Iterable[object]) -> list[TransportMode]:
-    """Modes that are to be had; names count as r5py takes them."""
+    """The supported modes; names count as r5py takes them."""
     modes = [
         mode if isinstance(mode, TransportMode) else TransportMode(str(getattr(mode, "value", mode))) for mode in given
     ]
     for mode in modes:
         if mode in LACKING:
-            instead = "ask for TransportMode.TRANSIT or WALK here, and for this mode in r5py itself"
-            raise NotAvailable(argument, f"{mode} isn't to be had, since ttm knows no streets for it", instead)
+            instead = "use TransportMode.TRANSIT or WALK here, and r5py itself for this mode"
+            raise NotAvailable(argument, f"{mode} isn't supported, since ttm knows no streets for it", instead)
     return modes
 
 
@@ -86,7 +86,7 @@ def only_walks(argument: str, given: Iterable[object]) -> None:
     """Refuses all ways to and from a stop but walking."""
     other = [mode for mode in modes_of(argument, given) if mode is not TransportMode.WALK]
     if other:
-        raise NotAvailable(argument, f"{other[0]} isn't to be had", "one walks to and from stops: [TransportMode.WALK]")
+        raise NotAvailable(argument, f"{other[0]} isn't supported", "walk to and from stops: [TransportMode.WALK]")
 
 
 def vehicles_of(modes: Sequence[TransportMode]) -> frozenset[TransportMode]:

@@ -40,7 +40,7 @@ class Prepared:
 class TransportNetwork:
     """Streets of OpenStreetMap and feeds of public transport, for matrices, isochrones and itineraries.
 
-    Feeds are mended by the rules of `ttm-tools prepare`, and a warning says what was mended; `repair=False` refuses
+    Feeds are repaired by the rules of `ttm-tools prepare`, and a warning says what was repaired; `repair=False` refuses
     feeds with errors, and `allow_errors=True` goes on where mending takes much of a feed. Streets, feeds and walks are
     kept in the cache folder.
     """
@@ -106,7 +106,7 @@ class TransportNetwork:
         from ..walks.ways import on_streets
 
         if street_mode is not TransportMode.WALK:
-            raise NotAvailable("street_mode", f"{street_mode} isn't to be had", "TransportMode.WALK")
+            raise NotAvailable("street_mode", f"{street_mode} isn't supported", "TransportMode.WALK")
         degrees = points.to_crs(DEGREES)
         found, metres = on_streets(self.streets, degrees.y.to_numpy(), degrees.x.to_numpy())
         found[metres > radius] = np.nan
@@ -125,7 +125,7 @@ class TransportNetwork:
         return Prepared(key, made_feed(key, [self.feed.folder], Clip(routes=routes), False, False))
 
     def network_of(self, folder: Path, key: str, times: DepartureTimes, walk: int) -> Network:
-        """The network of a folder of points on a date; the ones that were asked last are kept."""
+        """The network of a folder of points on a date; the ones that were used last are kept."""
         name = (key, times.date, walk)
         with self.lock:
             if name not in self.networks:
@@ -145,7 +145,9 @@ def network_from(given: Any) -> TransportNetwork:
     if isinstance(given, TransportNetwork):
         return given
     if not isinstance(given, tuple) or not given:
-        raise NotAvailable("transport_network", f"{type(given).__name__} is none", "TransportNetwork(osm_pbf, gtfs)")
+        raise NotAvailable(
+            "transport_network", f"{type(given).__name__} is not a network", "TransportNetwork(osm_pbf, gtfs)"
+        )
     more = given[2] if len(given) > 2 else {}
     return TransportNetwork(*given[:2], **more)
 
@@ -169,7 +171,7 @@ def feed_of(paths: list[str], repair: bool, allow_errors: bool) -> Prepared:
 
 
 def made_feed(key: str, paths: list[str], clip: Clip, repair: bool, allow_errors: bool) -> str:
-    """The folder of feeds that were made ready; a warning says what was mended."""
+    """The folder of prepared feeds; a warning says what was repaired."""
 
     def prepare(folder: Path) -> None:
         with scratch("feed") as room:
@@ -180,5 +182,5 @@ def made_feed(key: str, paths: list[str], clip: Clip, repair: bool, allow_errors
     entry = kept("feeds", key, prepare)
     text = (entry / TOLD).read_text(encoding="utf-8")
     if text:
-        warnings.warn(f"{', '.join(paths)} mended:\n{text}", stacklevel=4)
+        warnings.warn(f"{', '.join(paths)} repaired:\n{text}", stacklevel=4)
     return str(entry / FEED)

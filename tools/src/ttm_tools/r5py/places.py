@@ -54,13 +54,13 @@ def places_of(name: str, frame: Any) -> FramePlaces:
     import geopandas
 
     if not isinstance(frame, geopandas.GeoDataFrame):
-        raise BadInput(name, f"is no GeoDataFrame but {type(frame).__name__}")
+        raise BadInput(name, f"is not a GeoDataFrame but {type(frame).__name__}")
     if "id" not in frame.columns:
         raise BadInput(name, "has no column id")
     if not frame["id"].is_unique or frame["id"].isna().any():
-        raise BadInput(name, "is missing or there twice", column="id")
+        raise BadInput(name, "is missing or occurs twice", column="id")
     if frame.crs is None:
-        raise BadInput(name, "names no coordinate reference system; say it by .set_crs(..)")
+        raise BadInput(name, "names no coordinate reference system; set it with .set_crs(..)")
     shapes = frame.geometry
     there = ~(shapes.isna() | shapes.is_empty).to_numpy()
     inside = [shape if shape.geom_type == "Point" else shape.representative_point() for shape in shapes[there]]

@@ -1,4 +1,4 @@
-"""What can't be had: each refusal names the argument and says what to do."""
+"""What isn't supported: each error names the argument and says what to do."""
 
 from ..faults import WrongWords
 

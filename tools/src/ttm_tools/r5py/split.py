@@ -45,7 +45,7 @@ class Split:
 
 
 def split_of(timetable: Timetable, places: Sequence[str], nodes: int) -> Split:
-    """The stops of a timetable, split, if `ttm` takes them with some places, which become so many stops."""
+    """The stops of a timetable, split, if `ttm` takes them with some places, each of which becomes a stop."""
     split, known = Split(timetable.stops, ALIGHT), {*timetable.all_stops.identifiers, *places}
     while not known.isdisjoint(split.twin(name) for name in known):
         split = Split(timetable.stops, split.ending + ALIGHT)

@@ -1,4 +1,4 @@
-"""What is asked for, by r5py's names: departure, window, percentiles, modes, limits and speeds."""
+"""The arguments of a task, by r5py's names: departure, window, percentiles, modes, limits and speeds."""
 
 import datetime
 from dataclasses import dataclass
@@ -90,23 +90,23 @@ def refuse_unusual(**arguments: tuple[object, object]) -> None:
     """Refuses an argument that isn't as r5py has it where it is left out: each has its value, and the usual one."""
     for name, (value, usual) in arguments.items():
         if value != usual:
-            raise NotAvailable(name, f"{value!r} isn't to be had", "leave it out")
+            raise NotAvailable(name, f"{value!r} isn't supported", "leave it out")
 
 
 def times_of(departure: datetime.datetime | None, window: datetime.timedelta) -> DepartureTimes:
     """The departures, one at each minute of the window, whose end isn't one. Without a departure they begin now."""
     first = datetime.datetime.now().replace(second=0, microsecond=0) if departure is None else departure
     if not isinstance(first, datetime.datetime):
-        raise NotAvailable("departure", f"{first!r} is no datetime", "datetime.datetime(2026, 5, 4, 8, 30)")
+        raise NotAvailable("departure", f"{first!r} is not a datetime", "datetime.datetime(2026, 5, 4, 8, 30)")
     if first.tzinfo is not None:
-        raise NotAvailable("departure", "a time zone isn't to be had", "the clock of the feed: .replace(tzinfo=None)")
+        raise NotAvailable("departure", "a time zone isn't supported", "the clock of the feed: .replace(tzinfo=None)")
     if first.second or first.microsecond:
-        raise NotAvailable("departure", f"{first} is no whole minute", "departures are at whole minutes")
+        raise NotAvailable("departure", f"{first} is not a whole minute", "departures are at whole minutes")
     if window < MINUTE or window % MINUTE:
-        raise NotAvailable("departure_time_window", f"{window} isn't to be had", "a minute or more, in whole minutes")
+        raise NotAvailable("departure_time_window", f"{window} isn't supported", "a minute or more, in whole minutes")
     minute, count = first.hour * 60 + first.minute, window // MINUTE
     if minute + count > 24 * 60:
-        raise NotAvailable("departure_time_window", f"{window} goes past midnight", "ask for each day by itself")
+        raise NotAvailable("departure_time_window", f"{window} goes past midnight", "use a window for each day")
     return DepartureTimes(first.date(), minute, count)
 
 
@@ -119,29 +119,29 @@ def percentiles_of(given: Sequence[int]) -> list[int]:
         or any(number != whole for number, whole in zip(given, percentiles))
     ):
         allowed = f"one to {MOST_PERCENTILES} whole numbers"
-        raise NotAvailable("percentiles", f"{list(given)!r} isn't to be had", allowed)
+        raise NotAvailable("percentiles", f"{list(given)!r} isn't supported", allowed)
     if not all(1 <= number <= 100 for number in percentiles):
-        raise NotAvailable("percentiles", f"{percentiles} isn't to be had", "each is from 1 to 100")
+        raise NotAvailable("percentiles", f"{percentiles} isn't supported", "each is from 1 to 100")
     return percentiles
 
 
 def seconds_of(argument: str, given: datetime.timedelta, most: datetime.timedelta) -> int:
     """A limit in whole seconds."""
     if not datetime.timedelta() < given <= most:
-        raise NotAvailable(argument, f"{given} isn't to be had", f"more than 0, at most {most}")
+        raise NotAvailable(argument, f"{given} isn't supported", f"more than 0, at most {most}")
     return int(given.total_seconds())
 
 
 def speed_of(given: float) -> float:
     """A walking speed, kilometres an hour."""
     if not 0.1 <= given <= 50:
-        raise NotAvailable("speed_walking", f"{given!r} isn't to be had", "0.1 to 50 kilometres an hour")
+        raise NotAvailable("speed_walking", f"{given!r} isn't supported", "0.1 to 50 kilometres an hour")
     return float(given)
 
 
 def rides_of(given: int) -> int:
     """How many vehicles a journey may take."""
     if not 1 <= given <= MOST_RIDES:
-        instead = f"1 to {MOST_RIDES}; with transport_modes=[TransportMode.WALK] one takes none"
-        raise NotAvailable("max_public_transport_rides", f"{given!r} isn't to be had", instead)
+        instead = f"1 to {MOST_RIDES}; transport_modes=[TransportMode.WALK] takes none"
+        raise NotAvailable("max_public_transport_rides", f"{given!r} isn't supported", instead)
     return int(given)

@@ -3,6 +3,7 @@
 from pathlib import Path
 from typing import Any
 
+from ..faults import quantity
 from ..files import output
 from ..naming import file_names
 from ..points.shown import points_in
@@ -52,7 +53,7 @@ def areas_stage(whole: StudyMatrix) -> Stage:
             found = isochrones.isochrones_of(matrix, ground, bands, whole.counts(matrix))
             with output(whole.at(f"{AREAS}/{name}.geojson")) as file:
                 isochrones.write_geojson(file, found, origin)
-        return [f"{AREAS}: {len(names)} files"]
+        return [f"{AREAS}: {quantity(len(names), 'file')}"]
 
     pace = [study.walks.speed, study.walks.detour, study.walk_limit, study.walks.near]
     sources = streets_of(whole)

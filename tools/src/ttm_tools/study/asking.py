@@ -1,4 +1,4 @@
-"""The parts of windows, asked of a network that is kept: `ttm --ask` reads the feed of a day once."""
+"""The parts of windows, computed by a network in memory: `ttm --ask` reads the feed of a day once."""
 
 import os
 import signal
@@ -41,7 +41,7 @@ def question_of(run: Run) -> list[str]:
 
 @dataclass(frozen=True)
 class PartQuestion:
-    """A part that is asked for, and its words."""
+    """A part to compute, and its arguments."""
 
     part: Part
     arguments: list[str]
@@ -68,7 +68,7 @@ class KeptNetwork:
             self.processes.close()
 
     def ask(self, question: PartQuestion) -> Answer:
-        """What the network answers; nothing is asked any more once somebody pressed Ctrl-C."""
+        """The network's answer; after Ctrl-C no more questions are sent."""
         if self.is_ending or self.processes is None:
             raise Interrupted(signal.SIGINT)
         begin = time.monotonic()
@@ -134,5 +134,5 @@ class KeptNetwork:
 
 
 def is_left(future: "Future[Answer]") -> bool:
-    """Whether a part was never asked for."""
+    """Whether a part was never begun."""
     return isinstance(future.exception(), Interrupted)

@@ -1,4 +1,4 @@
-"""A study's files looked at beside each other, before any work that takes long."""
+"""A study's files compared with each other, before any work that takes long."""
 
 import datetime
 from pathlib import Path
@@ -90,7 +90,7 @@ def check_origins(path: str, stops: Collection[str]) -> None:
     """Refuses the first origin that is no stop."""
     for number, (name,) in rows(path, ["stop_id"]):
         if name not in stops:
-            raise BadInput(path, f"{shown(name)} is no stop of the feed", record=number)
+            raise BadInput(path, f"{shown(name)} is not a stop of the feed", record=number)
 
 
 def check_map_origins(study: Study, origins: Collection[str]) -> None:
@@ -98,4 +98,4 @@ def check_map_origins(study: Study, origins: Collection[str]) -> None:
     shows = study.results.maps or study.results.page
     lost = next((origin for origin in study.results.map_origins if origin not in origins), None) if shows else None
     if lost is not None:
-        raise BadInput(study.path, f"map_origins of [results]: {lost} is no origin of the study")
+        raise BadInput(study.path, f"map_origins of [results]: {lost} is not an origin of the study")

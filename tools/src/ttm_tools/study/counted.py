@@ -6,7 +6,7 @@ import os
 from pathlib import Path
 from typing import Sequence
 
-from ..faults import BadInput
+from ..faults import BadInput, quantity
 from ..files import sum_of
 from ..measures.opportunities import OWN_NAME, Counts, called, columns_of, read_counts
 from ..parts import origins_in
@@ -143,7 +143,7 @@ def opportunities_stage(study: Path, counted: Record, column: str) -> Stage:
         ]
         with open(study / OPPORTUNITIES, "wb") as file:
             write_rows(file, ["stop_id", OWN_NAME], rows)
-        whole = f"; {rounded.count:,} numbers with decimals were rounded" if rounded.count else ""
+        whole = f"; {quantity(rounded.count, 'number')} with decimals rounded" if rounded.count else ""
         return [f"{OPPORTUNITIES}: {shown(column)} at {len(rows):,} places{whole}"]
 
     facts = {"column": column, "counted": counted.outputs}

@@ -140,7 +140,7 @@ def processor_time() -> float:
 
 
 def trial(inputs: Inputs, origins: Sequence[str], room: Path) -> tuple[float, Report]:
-    """The processor time of a run of some origins, which other work beside it hardly changes; and its report."""
+    """The processor time of a run of some origins, which other work on the machine hardly changes; and its report."""
     path = (room / "origins.csv").absolute()
     with open(path, "wb") as file:
         write_stops(file, origins)
@@ -162,14 +162,14 @@ def costs_of(inputs: Inputs, origins: Sequence[str], room: Path) -> Costs:
 
 
 def fitting(memory: int, costs: Costs, rows: int, workers: int) -> int:
-    """How many parts of so many origins run at once in some memory; 0 bytes where it isn't known."""
+    """The number of parts of this many origins that run at once in some memory; 0 bytes if it isn't known."""
     each = costs.network + rows * costs.row
     return max(1, min(workers, memory // each if memory and each else workers))
 
 
 def shape_of(settings: PartSettings, costs: Costs, origins: int, workers: int, known: int | None = None) -> Shape:
-    """Parts of about so many minutes, of which so many run at once as memory allows: where fewer do than there are
-    processors, each takes several. Parts that are known, or counted by hand, stay so many.
+    """Parts of about this many minutes, of which as many run at once as memory allows: where fewer do than there are
+    processors, each takes several. Parts that are known, or counted by hand, keep their number.
     """
     memory = settings.memory * MB if settings.memory else int(OF_THE_FREE * costs.free)
     count = known or settings.count

@@ -1,4 +1,4 @@
-"""A report as blocks: Markdown, whose pictures lie beside it, and a page of HTML that needs no other file."""
+"""A report as blocks: Markdown, whose pictures are in the same folder, and a page of HTML that needs no other file."""
 
 import base64
 import html

@@ -19,7 +19,7 @@ from .task import write_task
 
 SECONDS_BETWEEN_LOOKS = 2.0
 SECONDS_FOR_FILES = 30.0  # until files of another host are seen here
-NO_LINE = "no matrix and no line: the output of its machine is in "
+NO_LINE = "no matrix and no error line: the output of its machine is in "
 Chosen = Callable[[Sequence[Part]], list[Part]]
 
 
@@ -59,7 +59,7 @@ def run_elsewhere(run: Run, parts: Sequence[Part], key: str, version: Sequence[s
         write_task(run, parts, key, version)
     job = job_that_goes_on(missing[0].study) if means.slurm and missing else None
     if job is not None:
-        say(f"parts: job {job} of this study goes on, and is waited for")
+        say(f"parts: job {job} of this study continues: waiting for it")
         wait(missing, end_of(job))
         missing = still(missing)
     for part in missing:

@@ -43,7 +43,7 @@ class Hosts:
     def is_over(self) -> bool:
         if self.is_ending and not self.has_said_so:
             self.has_said_so = True
-            say("interrupted: the parts that run are waited for and kept; Ctrl-C again ends them")
+            say("interrupted: waiting for the running parts, which will be kept; Ctrl-C again stops at once")
         return self.process.poll() is not None
 
     def may_come(self, parts: Sequence[Part]) -> list[Part]:

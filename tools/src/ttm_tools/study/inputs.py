@@ -239,19 +239,19 @@ def feed_stage(maker: Maker) -> Stage:
 
 
 def facts_of(settings: FeedSettings) -> dict[str, Any]:
-    """What is asked of the feed, whatever its files are called."""
+    """The settings of the feed, whatever its files are called."""
     return {key: value for key, value in asdict(settings).items() if key not in ("files", "area")}
 
 
 def taken(path: str, study: Path) -> list[str]:
     """Copies a feed that is ready into a study's folder."""
     if not Path(path).is_dir():
-        raise BadInput(path, "is no folder: a feed that is ready is one")
+        raise BadInput(path, "is not a folder: a feed with ready = true must be one")
     files = sorted(path for path in Path(path).iterdir() if path.suffix in (".txt", ".csv") and path.is_file())
     with many_written_aside(study / FEED) as folder:
         for file in files:
             copy_file(inside(Path(path), file), folder / file.name)
-    return [f"{FEED}: {len(files)} files as they are"]
+    return [f"{FEED}: {len(files)} files, unchanged"]
 
 
 def plan_stage(maker: Maker) -> Stage:
@@ -281,7 +281,7 @@ def origins_stage(maker: Maker) -> Stage:
         among = set(known)
         lost = next(((number, stop) for number, stop in enumerate(origins, 2) if stop not in among), None)
         if lost is not None:
-            raise BadInput(given or feed, f"{shown(lost[1])} is no stop of the feed", record=lost[0])
+            raise BadInput(given or feed, f"{shown(lost[1])} is not a stop of the feed", record=lost[0])
         with open(maker.at(ORIGINS), "wb") as file:
             write_stops(file, origins)
         return [f"{ORIGINS}: {len(origins):,} origins"]

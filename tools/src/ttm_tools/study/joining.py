@@ -35,7 +35,7 @@ class Joined(Matrix):
     def take(self, part: Part, matrix: CsvMatrix) -> None:
         """Takes the rows of a part, which has just its origins in each scenario and share."""
         if (matrix.layout, matrix.scenarios, matrix.shares) != (self.layout, self.all, self.shares):
-            raise BadInput(matrix.path, f"has other columns, scenarios or shares than {self.path}")
+            raise BadInput(matrix.path, f"has other columns, scenarios or percentiles than {self.path}")
         for key in [(scenario, share) for scenario in self.scenarios for share in self.shares]:
             if matrix.origins(self.called[key[0]], key[1]) != list(part.origins):
                 raise BadInput(matrix.path, "has other origins than its part")
@@ -64,14 +64,14 @@ def refuse_changed(parts: Sequence[Part], threads: int) -> None:
     for part, is_whole in zip(parts, in_order(Part.is_whole, parts, threads)):
         if not is_whole:
             remove(part.folder / "key")
-            raise BadInput(part.matrix, "changed since it was made; the same command computes it again")
+            raise BadInput(part.matrix, "changed since it was written; the same command computes it again")
 
 
 def join_parts(
     parts: Sequence[Part], with_csv: bool, shown_as: Mapping[str, str], shown: Sequence[str], threads: int, path: str
 ) -> list[str]:
     """Writes the matrix of all parts, which are looked at once more, with the scenarios that are shown, and those
-    columns alone that are to be shown, where there are any.
+    columns alone that a study shows, if there are any.
     """
     refuse_changed(parts, threads)
     joined = Joined(parts, shown_as)

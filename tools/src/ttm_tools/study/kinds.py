@@ -13,7 +13,7 @@ from ..opening.toml_file import Entry
 CLOCK = re.compile(r"([01][0-9]|2[0-3]):[0-5][0-9]")
 WINDOW_NAME = re.compile(r"[\w-]{1,40}")
 MOST_DATES, MOST_WINDOWS = 31, 96
-SEVERAL_DATES = f"1 to {MOST_DATES} dates between brackets, ascending"
+SEVERAL_DATES = f"1 to {MOST_DATES} dates in brackets, ascending"
 
 
 @dataclass(frozen=True)
@@ -91,24 +91,24 @@ def is_box(value: Any) -> bool:
     return bool(-180 <= west <= 180 and -180 <= east <= 180 and -90 <= south <= north <= 90)
 
 
-FILE = Kind("a path, from the folder of this file", "is no text", kinds.NAME.convert)
+FILE = Kind("a path, relative to this file's folder", "is not text", kinds.NAME.convert)
 FILES = Kind(
-    "paths between brackets, from the folder of this file",
-    "is no text and no list of texts",
+    "paths in brackets, relative to this file's folder",
+    "is neither text nor a list of texts",
     texts_or_none,
     is_shown=False,
 )
-TEXTS = Kind("texts between brackets", "is no text and no list of texts", texts_or_none, is_shown=False)
-DATE = Kind("YYYY-MM-DD, or YYYYMMDD between quotes", "is no date", day_in)
-DATES = Kind(SEVERAL_DATES, "isn't that", days_in)
+TEXTS = Kind("texts in brackets", "is neither text nor a list of texts", texts_or_none, is_shown=False)
+DATE = Kind("YYYY-MM-DD, or YYYYMMDD in quotes", "is not a date", day_in)
+DATES = Kind(SEVERAL_DATES, "is invalid", days_in)
 WINDOWS = Kind(
-    f"1 to {MOST_WINDOWS} tables of name, from and to between brackets",
+    f"1 to {MOST_WINDOWS} tables of name, from and to in brackets",
     "names too many windows",
     windows_in,
     is_shown=False,
     of_tables=True,
 )
-MINUTE = Kind("HH:MM between quotes, 00:00 to 23:59", "is no time", minute_in)
+MINUTE = Kind("HH:MM in quotes, 00:00 to 23:59", "is not a time", minute_in)
 BOX = Kind(
-    "[west, south, east, north] in degrees", "isn't that", lambda value: tuple(map(float, taken_if(is_box)(value)))
+    "[west, south, east, north] in degrees", "is invalid", lambda value: tuple(map(float, taken_if(is_box)(value)))
 )

@@ -5,6 +5,7 @@ from dataclasses import dataclass
 from pathlib import Path
 from typing import Any, Callable
 
+from ..faults import quantity
 from ..files import many_written_aside, write_picture
 from ..naming import file_names
 from ..views.lines import planned_of
@@ -89,7 +90,7 @@ def maps_stage(whole: StudyMatrix) -> Stage:
             walked = functools.cache(lambda: ground_for(whole))
             for picture in drawn:
                 draw(whole, picture, folder, walked)
-        return [f"{MAPS}: {len(drawn)} pictures"]
+        return [f"{MAPS}: {quantity(len(drawn), 'picture')}"]
 
     study, inputs = whole.study, whole.inputs
     options = [study.about.note, whole.unit, list(study.results.map_origins), whole.scenarios]

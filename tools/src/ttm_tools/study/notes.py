@@ -1,4 +1,4 @@
-"""study.json: for who comes back after half a year, all that was run, from what, by which versions, and when."""
+"""study.json: what was run, from what, by which versions, and when, for a reader who comes back after half a year."""
 
 import importlib.metadata
 import json
@@ -83,8 +83,8 @@ def read_notes(folder: Path) -> dict[str, Any]:
     try:
         regular(path)
     except BadInput as fault:
-        raise BadInput(path, f"{fault.what}: is it the folder of a study that is done?") from None
-    notes: dict[str, Any] = read_json(path, "JSON of a study")
+        raise BadInput(path, f"{fault.what}: is it the folder of a finished study?") from None
+    notes: dict[str, Any] = read_json(path, "the record of a study")
     if not isinstance(notes, dict) or notes.get("form") != FORM:
-        raise BadInput(path, f"is of another form than {FORM}")
+        raise BadInput(path, f"has another format than {FORM}")
     return notes

@@ -21,9 +21,9 @@ MARKDOWN, HTML, TOLD = "report.md", "report.html", "inputs/told.txt"
 FEW = 10  # origins that lose, and that gain most, which the report names
 MOST_DECIMALS = 6
 OF_PEOPLE = {
-    "bands": "People with at least so many opportunities",
-    "equity_nearest": "Time to the nearest, by groups of people",
-    "bands_nearest": "People with the nearest within so many minutes",
+    "bands": "People by number of opportunities",
+    "equity_nearest": "Time to the nearest, by group of people",
+    "bands_nearest": "People by minutes to the nearest",
 }
 PROVED = (
     "Each travel time of the matrix is the least that the percentile of departures achieves, over all journeys of at "
@@ -61,12 +61,12 @@ def report_of(whole: StudyMatrix, records: Records) -> Document:
             document.paragraph(text)
     document.heading("Figures")
     write_figures(document, whole, records)
-    document.heading("What it rests on")
+    document.heading("Inputs")
     sums = [list(source) for source in inputs.sources.items()]
     document.table("Files, with their SHA-256 checksums", ["File", "SHA-256"], sums)
-    document.paragraph("What was done with them:")
+    document.paragraph("How the inputs were prepared:")
     document.items(f"{name}: {line}" for name, record in inputs.records.items() for line in record.lines)
-    document.paragraph("Words of the run, in the study's folder; parts of the origins took its place:")
+    document.paragraph("Arguments of the run, in the study's folder; parts of the origins ran instead:")
     document.code(["ttm " + " ".join(inputs.run.arguments())])
     warnings = list[str]()
     for path in file_names_of(study):
@@ -105,7 +105,7 @@ def write_figures(document: Document, whole: StudyMatrix, records: Records) -> N
             document.items(records[f"compare_{name}"].lines)
             write_changes(document, whole, f"compare_{name}.csv")
     if "equity" in records:
-        document.heading("How it is spread over people", 3)
+        document.heading("How access is distributed among people", 3)
         header, *lines = all_rows(whole.at(EQUITY_TABLE))
         document.table(f"Access by groups of people ({EQUITY_TABLE})", [as_phrase(column) for column in header], lines)
     for name, caption in OF_PEOPLE.items():
@@ -116,12 +116,12 @@ def write_figures(document: Document, whole: StudyMatrix, records: Records) -> N
                 document.picture(path, f"{caption}: {shown(Path(path).stem)}")
     write_windows(document, whole, records)
     if "page" in records:
-        document.link("To look at in a browser:", PAGE)
+        document.link("A page for the browser:", PAGE)
     if AREAS in records:
-        document.paragraph(f"Areas that are reached within so many minutes, as GeoJSON, are in the folder {AREAS}.")
+        document.paragraph(f"The areas reached within the given minutes are in the folder {AREAS}, as GeoJSON.")
     if "maps" in records:
         document.heading("Maps", 3)
-        document.paragraph("The pictures lie in the folder maps, as files of their own.")
+        document.paragraph("The pictures are also files in the folder maps.")
         for picture in maps_of(whole):
             document.picture(picture.file, f"{picture.kind}, {shown(picture.scenario)}" + told_of(picture))
 

@@ -31,7 +31,7 @@ RESULTS = (
     StudyResult("`access.csv`", "access in the long form", "results.access_stages"),
     StudyResult(
         "`equity.csv`, `equity.md`, `bands.csv`, `bands/`",
-        "how it is spread over people; people by band, with stacked bars",
+        "its distribution among people; people by band, with stacked bars",
         "results.people_stages",
     ),
     StudyResult("`nearest.csv`", "the time to the nearest", "results.nearest_stages"),
@@ -48,7 +48,7 @@ RESULTS = (
     StudyResult(
         "`windows/`",
         "for each window and day but the first `DATE_NAME.omx`; tables as above, by window; `pictures/COLUMN_time.png`"
-        " (the mean and the tenth that has least, by time of day), `COLUMN_heat.png` (each place by window),"
+        " (the mean and the tenth that has the least, by time of day), `COLUMN_heat.png` (each place by window),"
         " `COLUMN_maps.png`",
         "window_results.window_stages",
     ),

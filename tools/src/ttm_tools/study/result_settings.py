@@ -16,7 +16,7 @@ class ResultSettings:
     cutoffs: tuple[float, ...] | None = setting(
         ascending(0, 10000, "minutes", False), "limits of access.csv; without it, limits of [run]", "[15, 30, 45]", None
     )
-    decay: str = setting(one_of(*DECAYS), "how weights fall: ttm-tools access", '"logistic"', "step")
+    decay: str = setting(one_of(*DECAYS), "how weights fall, as for ttm-tools access", '"logistic"', "step")
     decay_value: float | None = setting(
         number(0, 10000, "minutes"), "the parameter of linear and logistic; without it, none", "10", None
     )
@@ -39,7 +39,10 @@ class ResultSettings:
         (),
     )
     max_minutes: float | None = setting(
-        number(0, 10000, "minutes"), "beyond which a pair counts as not reached; without it, each counts", "90", None
+        number(0, 10000, "minutes"),
+        "the greatest travel time: a longer one counts as not reached; without it, each counts",
+        "90",
+        None,
     )
     compare: bool = setting(FLAG, "winners and losers by origin, for each scenario", "false", True)
     pairs: bool = setting(FLAG, "winners and losers by pair, for each scenario", "true", False)
@@ -54,12 +57,12 @@ class ResultSettings:
     )
     isochrone_bands: tuple[float, ...] = setting(
         ascending(1, 10000, "minutes", False),
-        "within which these areas are reached",
+        "the greatest travel times of these areas",
         "[15, 30]",
         (15.0, 30.0, 45.0, 60.0),
     )
     unit: str | None = setting(
-        TEXT, "what access counts, in a reader's word; without it, the name of the column", '"jobs"', None
+        TEXT, "what access counts, as readers call it; without it, the name of the column", '"jobs"', None
     )
     share: int | None = setting(
         whole(1, 100, "percent"),

@@ -50,7 +50,7 @@ class StudyMatrix:
 
     @property
     def others(self) -> dict[str, str]:
-        """The scenarios beside the base, and how their files are called."""
+        """The scenarios other than the base, and the names of their files."""
         return names_of_scenarios(self.scenarios, self.inputs.base)
 
     @property
@@ -94,7 +94,7 @@ class StudyMatrix:
 
 
 def names_of_scenarios(scenarios: Sequence[str], base: str) -> dict[str, str]:
-    """How the files of the scenarios beside the base are called."""
+    """The names of the files of the scenarios other than the base."""
     return file_names([name for name in scenarios if name != base], ("", PAIRS))
 
 
@@ -252,7 +252,7 @@ def bands_pictures(folder: str, table: AccessTable) -> dict[str, str]:
 
 
 def compare_stage(whole: StudyMatrix, scenario: str, name: str) -> Stage:
-    """Winners and losers of a scenario beside the base."""
+    """Winners and losers of a scenario, compared with the base."""
     study, settings = whole.study, whole.study.results
     by_origin, by_pair = f"compare_{name}.csv", f"compare_{name}{PAIRS}.csv"
 

@@ -25,7 +25,7 @@ def shown_names(scenarios: Sequence[str], runs_all: bool) -> dict[str, str]:
 
 
 def run_of(study: Study, feed: str, files: dict[str, str], scenarios: Sequence[str]) -> Run:
-    """What is asked of `ttm`."""
+    """The arguments of a run of `ttm`."""
     settings = study.run
     return Run(
         feed,

@@ -1,4 +1,4 @@
-"""The parts of a study, run by processes of this machine: those that are missing, so many at once."""
+"""The parts of a study, run by processes of this machine: those that are missing, several at once."""
 
 import contextlib
 import itertools
@@ -12,7 +12,7 @@ from typing import Callable, Generator, Iterator, Sequence
 
 from .. import progress
 from ..engine import Run
-from ..faults import BadInput, say
+from ..faults import BadInput, quantity, say
 from ..files import Interrupted
 from .cutting import Part
 from .stages import log
@@ -50,18 +50,19 @@ def missing_of(parts: Sequence[Part]) -> list[Part]:
     """The parts that aren't done; where some are, this is reported."""
     missing = [part for part in parts if not part.is_done()]
     if len(parts) > len(missing) > 0:
-        say(f"parts: {len(parts) - len(missing)} of {len(parts)} are there already")
+        say(f"parts: {len(parts) - len(missing)} of {len(parts)} already done")
     return missing
 
 
 def tell_ending(count: int) -> None:
     """Says what becomes of the parts that run when somebody presses Ctrl-C."""
     if count:
-        say(f"interrupted: {count} parts that run are waited for and kept; Ctrl-C again ends them")
+        parts = quantity(count, "running part")
+        say(f"interrupted: waiting for {parts}, which will be kept; Ctrl-C again stops at once")
 
 
 class Pool:
-    """The runs that go on, so many at once, and the parts that wait for theirs."""
+    """The runs under way, a fixed number at once, and the parts that wait for theirs."""
 
     def __init__(self, run: Run, missing: Sequence[Part], at_once: int, threads: int) -> None:
         self.run, self.at_once, self.threads = run, at_once, threads
@@ -98,7 +99,7 @@ class Pool:
         """Says once a minute, where there is no terminal, that parts go on of which none has ended."""
         if not sys.stderr.isatty() and time.monotonic() - self.said > SECONDS_BETWEEN_LINES:
             self.said = time.monotonic()
-            say(f"parts: {len(self.running)} go on, {len(self.waiting)} wait")
+            say(f"parts: {len(self.running)} running, {len(self.waiting)} waiting")
 
     def end(self) -> None:
         self.is_ending = True
@@ -167,12 +168,12 @@ def shown(ended: Iterator[Failed | None], total: int) -> Iterator[Failed | None]
         if count < total and now - last > SECONDS_BETWEEN_LINES:
             last = now
             left = int((now - begin) / count * (total - count))
-            say(f"parts: {count} of {total}, about {left // 3600}:{left // 60 % 60:02}:{left % 60:02} more")
+            say(f"parts: {count} of {total}, about {left // 3600}:{left // 60 % 60:02}:{left % 60:02} left")
 
 
 def refuse_failed(failed: Sequence[Failed], parts: int) -> None:
     """Ends a study some of whose parts have no matrix."""
     if failed:
         first = failed[0]
-        message = f"{len(failed):,} of {parts:,} parts have no matrix; the same command tries them again"
+        message = f"{len(failed):,} of {parts:,} parts have no matrix; the same command retries them"
         raise BadInput(first.part.folder, f"{first.message} ({message})")

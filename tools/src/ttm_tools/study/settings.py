@@ -26,7 +26,7 @@ class FeedSettings:
 
     files: tuple[str, ...] = setting(FILES, "published feeds, zip files or folders; several are merged", '["feed.zip"]')
     ready: bool = setting(
-        FLAG, "the feed is one folder that ttm reads, not checked but for trips on the date", "true", False
+        FLAG, "the feed is one folder that ttm reads; only trips on the date are checked", "true", False
     )
     repair: bool = setting(FLAG, "repair errors by the rules of ttm-tools prepare; false refuses them", "false", True)
     allow_loss: bool = setting(
@@ -109,18 +109,18 @@ class PointSettings:
     leave_out: bool = setting(FLAG, "leave out points without a stop in reach", "true", False)
     grid: float | None = setting(
         number(10, 100000, "metres"),
-        "the width of square cells, the points at those ends of journeys that no file names; without it, none",
+        "the width of square cells, which are the points where no file names any; without it, none",
         "250",
         None,
     )
     grid_area: str | None = setting(
         FILE,
-        "polygons over which the cells lie; without it, wherever a stop is within a walk",
+        "polygons that the cells cover; without it, wherever a stop is within a walk",
         '"region.geojson"',
         None,
     )
     grid_people: tuple[str, ...] = setting(
-        FILES, "points or polygons whose numbers are summed into the cells", '["addresses.csv"]', ()
+        FILES, "points or polygons whose numbers to sum into the cells", '["addresses.csv"]', ()
     )
 
     @property
@@ -145,7 +145,7 @@ class OpportunitySettings:
         (),
     )
     columns: tuple[str, ...] = setting(
-        TEXTS, "the columns that are counted in tables and page; without it, all", '["jobs", "schools"]', ()
+        TEXTS, "the columns to count in tables and page; without it, all", '["jobs", "schools"]', ()
     )
     column: str | None = setting(
         TEXT, "the column that ttm counts as access; without it, the only one, else 1 for each stop", '"jobs"', None

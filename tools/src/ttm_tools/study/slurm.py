@@ -40,7 +40,7 @@ def submit(missing: Sequence[Part], options: Sequence[str]) -> str:
         raise BadInput("sbatch", one_line(ran.stderr) or f"ended with status {ran.returncode}")
     job = ran.stdout.strip().split(";")[0]
     write_settled(study / JOB, job + "\n")
-    say(f"parts: {len(missing)} as job {job}; it goes on without this command, and the same command waits for it")
+    say(f"parts: {len(missing)} as job {job}; it continues if this command ends, and the same command waits for it")
     return job
 
 

@@ -1,5 +1,5 @@
-"""Stages of a study, each done once: it counts as done when its record is there, bears the sum of all that its outputs
-depend on, and these have the sums that it states. Whatever else is found is removed, never taken.
+"""Stages of a study, each done once: it counts as done when its record is there, has the checksum of all that its
+outputs depend on, and these have the sums that it states. Whatever else is found is removed, never taken.
 """
 
 import contextlib
@@ -34,7 +34,7 @@ class Stage:
     outputs: Sequence[str]  # files, by names with a suffix, and folders, from the study's folder on
     make: Callable[[], list[str]]  # writes them, a folder by `many_written_aside`, and says what was done
     of_tools: bool = True  # whether other tools may make other outputs: done anew, then
-    keeps_task: bool = False  # whether what other machines compute stays what is asked for
+    keeps_task: bool = False  # whether other machines still compute what is needed
     refuse_changed: Callable[[], None] = lambda: None  # says what isn't as it was when its sum was taken
     stated: dict[str, str] = field(default_factory=dict)  # sums of files from outside that it reads
 
@@ -160,7 +160,7 @@ class Folder:
         owned = self.owned()
         for name in self.there(stage):
             if name not in owned:
-                raise BadInput(self.at(name), "isn't this study's, which would replace it: move it elsewhere")
+                raise BadInput(self.at(name), "doesn't belong to this study, which would replace it: move it elsewhere")
 
     def make_anew(self, stage: Stage) -> list[str]:
         """Removes what was there, and writes the outputs. At any moment the files that a kill would leave are noted:
@@ -259,8 +259,8 @@ def refuse_folder(folder: Path) -> None:
     if not os.path.lexists(folder):
         return
     if not folder.is_dir():
-        raise BadInput(folder, "is no folder")
+        raise BadInput(folder, "is not a folder")
     names, lock = {path.name for path in folder.iterdir()}, folder / LOCK
     of_a_study = lock.is_file() and (lock.read_bytes() == MARK.encode() or (folder / LOG).is_file())
     if not of_a_study and names - {LOCK}:
-        raise BadInput(folder, "isn't empty, and no study's folder: name a new one by --out")
+        raise BadInput(folder, "isn't empty, and isn't the folder of a study: name a new one with --out")

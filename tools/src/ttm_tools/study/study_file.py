@@ -16,7 +16,7 @@ Settings = TypeVar("Settings")
 
 
 def read_study(path: str) -> Study:
-    """Reads and looks at all of a study's file."""
+    """Reads and checks a study's file."""
     text, top = read_entry(path)
     top.only([*names_of(About), *TABLES])
     entries = {name: top.table(name) for name in TABLES if top.has(name)}
@@ -79,7 +79,7 @@ def tell_lost_files(study: Study, kind: type[Any], entry: Entry) -> None:
             continue
         for path in [entry.values[field.name]] if field.metadata["kind"] is FILE else entry.texts(field.name):
             if not os.path.exists(study.at(path)):
-                raise entry.fault("isn't there", field.name, path, "a path from the folder of this file")
+                raise entry.fault("isn't there", field.name, path, "a path, relative to this file's folder")
 
 
 def refuse_both(entry: Entry, *keys: str) -> None:
@@ -106,7 +106,7 @@ def agree(study: Study, entries: dict[str, Entry]) -> None:
     refuse_both(entries["results"], "within", "cutoff")
     refuse_both(walks, "none", "streets", "table")
     if study.walks.limit is not None and study.walks.limit > study.run.walk:
-        message = f"is more than walk of [run], {study.run.walk}, so that ttm takes none of the longer walks"
+        message = f"is more than walk of [run], {study.run.walk}, so ttm would ignore the longer walks"
         raise walks.fault(message, "limit", str(study.walks.limit), "at most walk of [run]")
     for key in ("grid_area", "grid_people"):
         if points.has(key) and study.points.grid is None:
@@ -120,7 +120,7 @@ def agree(study: Study, entries: dict[str, Entry]) -> None:
 def agree_on_points(study: Study, run: Entry, walks: Entry, points: Entry) -> None:
     for key in ("none", "table"):
         if walks.values.get(key):
-            raise walks.fault("doesn't go with [points], whose walks are made", key)
+            raise walks.fault("doesn't go with [points], whose walks are computed", key)
     if run.has("origins"):
         raise run.fault("doesn't go with [points], at which journeys begin", "origins")
     both = study.points.origins and study.points.destinations
@@ -138,7 +138,7 @@ def agree_on_results(study: Study, results: Entry, opportunities: Entry) -> None
     ):
         if value is not None and value not in among:
             name = "shares" if key == "share" else "limits"
-            raise results.fault(f"is none of {name} of [run]", key, str(value), ", ".join(map(str, among)))
+            raise results.fault(f"is not among {name} of [run]", key, str(value), ", ".join(map(str, among)))
     if settings.max_minutes is not None and study.within > 60 * settings.max_minutes:
         allowed = f"at least {study.within / 60:g}"
         raise results.fault(
@@ -158,4 +158,4 @@ def agree_on_results(study: Study, results: Entry, opportunities: Entry) -> None
     if settings.decay == "exponential" and min(study.cutoffs) < 0.01:
         raise results.fault("needs cutoffs above 0: they are half-lives", "decay", settings.decay)
     if study.opportunities.column and not study.opportunities.files and not study.points.are_any:
-        raise opportunities.fault("is of no file: name it in files", "column", study.opportunities.column)
+        raise opportunities.fault("belongs to no file: name one in files", "column", study.opportunities.column)

@@ -39,7 +39,7 @@ def write_task(run: Run, parts: Sequence[Part], key: str, version: Sequence[str]
 
 
 def task_known(study: Path) -> dict[str, Any]:
-    """What is to be computed in a study's folder; nothing where no study asks for it any more."""
+    """What to compute in a study's folder; nothing if no study needs it any more."""
     try:
         return dict(json.loads((study / TASK).read_text(encoding="utf-8")))
     except (OSError, ValueError):
@@ -47,14 +47,14 @@ def task_known(study: Path) -> dict[str, Any]:
 
 
 def one_part(folder: Path, number: int) -> None:
-    """Computes a part where a study's folder says so; what goes wrong is noted beside it."""
+    """Computes a part where a study's folder says so; what goes wrong is noted next to it."""
     if not folder.is_dir():
-        raise BadInput(folder, "is no folder of a study")
+        raise BadInput(folder, "is not the folder of a study")
     study = Folder(folder.resolve())
     with study.shown_in_faults():
         known = task_known(study.path)
         if not known:
-            raise BadInput(folder, f"is no folder of a study with parts to compute: no {TASK}")
+            raise BadInput(folder, f"is not the folder of a study with parts to compute: no {TASK}")
         run = Run(**known["run"])
         origins, window = origins_in(str(study.at(str(run.files["origins"])))), known.get("window", FIRST)
         parts = parts_for(origins, known["parts"], known["key"], window, study.path)
@@ -75,7 +75,9 @@ def computed(run: Run, part: Part, known: dict[str, Any]) -> str | None:
     """Runs a part with the version of `ttm` that the study has; gives the line that says why there is no matrix."""
     own = version_of(program := found_program())
     if own != known["version"]:
-        return f"{program_at(None)} is {own[0]}, and the study's ttm is another one, or proved with another toolchain"
+        return (
+            f"{program_at(None)} is {own[0]}, and the study's ttm is another one, or was proved with another toolchain"
+        )
     running = Running(replace(run, program=program), part.matrix, part.study)
     try:
         message = running.end()

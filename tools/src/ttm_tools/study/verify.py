@@ -24,7 +24,7 @@ from .stages import LOCK, RECORDS, Folder, held, room
 from .ttm import found_program, version_of
 from .work import sweep
 
-OF_ALL = 10  # one in so many rows is computed again
+OF_ALL = 10  # one in this many rows is computed again
 
 
 def verify(folder: Path, seed: int | None, workers: int) -> None:
@@ -39,7 +39,7 @@ def verify(folder: Path, seed: int | None, workers: int) -> None:
             sources = {f"{notes.get('sources_in', '..')}/{name}": was for name, was in notes["sources"].items()}
         with study.shown_in_faults():
             refuse_changed(study, files)
-            say(f"sums: {len(files)} files are as {NOTES} says", *unstated(study, files))
+            say(f"checksums: {len(files)} files are as {NOTES} says", *unstated(study, files))
             refuse_changed_sources(study, sources)
             own, was = version_of(program), [notes["versions"]["ttm"], notes["versions"]["toolchain"]]
             if own[: len(was)] != was:
@@ -63,7 +63,7 @@ def verify_rows(study: Folder, notes: dict[str, Any], runs: dict[str, Run], seed
     few_at_once = parts_of(drawn, -(-count * notes["parts"] // len(origins)))
     for (name, run), few in itertools.product(runs.items(), few_at_once):
         compare_again(study, run, few, matrices[name], notes.get("shown_as") or {})
-    say(f"rows: those of {count:,} of {len(origins):,} origins, drawn by --seed {seed}, have the same bytes")
+    say(f"rows: those of {count:,} of {len(origins):,} origins, chosen with --seed {seed}, have the same bytes")
 
 
 def run_of(study: Folder, run: Run) -> Run:
@@ -78,7 +78,7 @@ def unstated(study: Folder, files: dict[str, str]) -> Iterator[str]:
     own = {NOTES, LOCK, *files}
     for path in sorted(path.relative_to(study.path) for path in study.path.rglob("*") if not path.is_dir()):
         if str(path) not in own and path.parts[0] not in (RECORDS, PARTS):
-            yield f"{path}: is there, and {NOTES} doesn't state it"
+            yield f"{path}: exists, and {NOTES} doesn't list it"
 
 
 def refuse_changed_sources(study: Folder, sources: dict[str, str]) -> None:
@@ -86,9 +86,9 @@ def refuse_changed_sources(study: Folder, sources: dict[str, str]) -> None:
     lost = [path for path in sources if not study.at(path).is_file()]
     for path, was in sources.items():
         if path not in lost and sum_of(study.at(path)) != was:
-            raise BadInput(path, f"has another sum than {NOTES} says: it was changed since the study read it")
+            raise BadInput(path, f"has another checksum than {NOTES} says: it was changed since the study read it")
     if lost:
-        say(f"sources: {len(lost)} of {len(sources)} files aren't there any more: {some(lost)}")
+        say(f"sources: {len(lost)} of {len(sources)} files no longer exist: {some(lost)}")
 
 
 def refuse_changed(study: Folder, files: dict[str, str]) -> None:
@@ -96,7 +96,7 @@ def refuse_changed(study: Folder, files: dict[str, str]) -> None:
         if not study.at(name).is_file():
             raise BadInput(name, f"no longer exists, and {NOTES} has its checksum")
         if sum_of(study.at(name)) != was:
-            raise BadInput(name, f"has another sum than {NOTES} says: it was changed")
+            raise BadInput(name, f"has another checksum than {NOTES} says: it was changed")
 
 
 def compare_again(

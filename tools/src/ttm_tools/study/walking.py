@@ -2,6 +2,7 @@
 
 from typing import TYPE_CHECKING, Any, Callable
 
+from ..faults import quantity
 from ..gtfs.stops import Stops, read_stops
 from ..plans.nearness import sentences_on_nearer
 from ..points import read_points, study as points
@@ -26,14 +27,14 @@ def walks_stage(maker: "Maker") -> Stage:
         stops, rounded = read_stops(feed), Rounded()
         if settings.table:
             rows = read_walks(study.at(settings.table), stops, rounded)
-            sentence = f"{rounded.count:,} seconds with decimals were rounded up"
+            sentence = f"{quantity(rounded.count, 'time')} with decimals rounded up"
         else:
             found = walker(study)(stops, None)
             rows, sentence = found.rows(), walks_summary(found, "stops", settings.near)
         with open(path, "wb") as file:
             write_rows(file, ["from_stop_id", "to_stop_id", "seconds"], rows)
         nearer = sentences_on_nearer(feed, path, study.run.walk)
-        return [f"{FOOTPATHS}: {len(rows):,} footpaths; {sentence}", *sentences_on_limits(study), *nearer]
+        return [f"{FOOTPATHS}: {quantity(len(rows), 'footpath')}; {sentence}", *sentences_on_limits(study), *nearer]
 
     depends = {"stops": maker.stops_sum, "walk": study.run.walk, **walk_facts(study), "streets": sources.sums}
     return Stage("walks", depends, [FOOTPATHS], make, refuse_changed=sources.refuse_changed)
@@ -42,9 +43,7 @@ def walks_stage(maker: "Maker") -> Stage:
 def sentences_on_limits(study: Study) -> list[str]:
     """What is reported where single walks end earlier than the walks that `ttm` puts together of them."""
     limit, run = study.walk_limit, study.run.walk
-    limits = (
-        f"a single walk takes {limit:,} seconds at most ([walks] limit), one of several in turn {run:,} ([run] walk)"
-    )
+    limits = f"a single walk takes {limit:,} seconds at most ([walks] limit), several in a row {run:,} ([run] walk)"
     return [limits] if limit < run else []
 
 

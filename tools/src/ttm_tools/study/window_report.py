@@ -12,7 +12,7 @@ from .windows import WINDOWS
 EQUITY = f"{WINDOWS}/equity.csv"
 COLUMNS = ["group", "scenario", "people", "mean", "least_tenth"]
 TOLD = {
-    "time": "mean access and that of the tenth that has least, by time of day",
+    "time": "mean access and that of the tenth that has the least, by time of day",
     "heat": "each place by window",
     "maps": "maps by window",
 }
@@ -40,7 +40,7 @@ def write_windows(document: Document, whole: StudyMatrix, records: dict[str, Rec
         return
     for kind in kinds_drawn(whole):
         names = ["date", "window", *COLUMNS]
-        caption = f"{kind.label}: mean of the people, and of the tenth that has least ({EQUITY} has all)"
+        caption = f"{kind.label}: mean of the people, and of the tenth that has the least ({EQUITY} has all)"
         lines = list(lines_of(whole.at(EQUITY), names, [kind.opportunity, kind.percentile, kind.cutoff]))
         document.table(caption, [name.replace("_", " ") for name in names], lines)
     if PICTURES in {path.rpartition("/")[0] for path in records["windows_access"].outputs}:

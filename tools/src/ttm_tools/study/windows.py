@@ -1,4 +1,4 @@
-"""The windows and days of a study: a matrix for each. That of the first is the study's own; the others are asked of a
+"""The windows and days of a study: a matrix for each. That of the first is the study's own; the others come from a
 network that is kept for each day.
 """
 

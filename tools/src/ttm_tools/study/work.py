@@ -93,7 +93,7 @@ def refuse_settings(study: Study, inputs: Inputs) -> None:
     for key, named in (("map_origins", study.results.map_origins), ("isochrones", study.results.isochrones)):
         lost = next((stop for stop in named if stop not in origins), None)
         if lost is not None:
-            raise BadInput(study.path, f"{key} of [results]: {lost} is no origin of the study")
+            raise BadInput(study.path, f"{key} of [results]: {lost} is not an origin of the study")
     if not read_stops(inputs.at(inputs.feed)).placed.any():
         raise BadInput(
             f"{inputs.feed}/stops.txt",
@@ -147,7 +147,7 @@ def beside_today(inputs: Inputs, lines: list[str]) -> list[str]:
         count = len(inputs.run.scenarios) + 1
         sentences.append(f"{BASE} has the trips of all scenarios; its rows, one in {count} of the run, aren't shown")
     else:
-        sentences.append(f"the rows of {whole} are those of {BASE}, as its file takes nothing out")
+        sentences.append(f"the rows of {whole} are those of {BASE}, as its file removes nothing")
     return sentences
 
 

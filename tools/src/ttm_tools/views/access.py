@@ -40,7 +40,9 @@ def origins_of(matrix: Matrix, scenario: str) -> list[str]:
     first = matrix.origins(scenario, matrix.shares[0])
     for share in matrix.shares:
         if matrix.origins(scenario, share) != first:
-            raise BadInput(matrix.path, f"{shown(scenario)} has other origins for the share {share}: was it cut short?")
+            raise BadInput(
+                matrix.path, f"{shown(scenario)} has other origins for the percentile {share}: is it truncated?"
+            )
     return first
 
 

@@ -65,7 +65,7 @@ def labels_of(table: AccessTable, limits: Sequence[float], unit: str) -> list[st
     texts = [f"{limit:,.10g}" for limit in limits]
     if table.of_times:
         between = [f"{low} to {high} min" for low, high in zip(texts, texts[1:])]
-        return [f"up to {texts[0]} min", *between, f"more than {texts[-1]} min, or not at all"]
+        return [f"up to {texts[0]} min", *between, f"more than {texts[-1]} min, or not reached"]
     between = [f"{low} to {high}" for low, high in zip(texts, texts[1:])]
     return [f"{texts[-1]} {unit} or more", *reversed(between), f"less than {texts[0]}"]
 
@@ -81,7 +81,9 @@ def figure_of(table: AccessTable, kinds: Sequence[AccessKind], people: Counts, l
     """A bar for each group and scenario, of one kind."""
     if len(kinds) > 1:
         there = some([kind.label for kind in kinds])
-        raise BadInput(table.path, f"a picture shows one of {there}: name it by --opportunity, --percentile, --cutoff")
+        raise BadInput(
+            table.path, f"a picture shows one of {there}: choose it with --opportunity, --percentile, --cutoff"
+        )
     from matplotlib import colormaps
     from matplotlib.figure import Figure
 

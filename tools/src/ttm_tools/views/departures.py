@@ -42,7 +42,7 @@ def draw_scenario(axes: Any, options: ExplainOptions, found: Found, place: int, 
     colour, mark = COLOURS[place % len(COLOURS)], MARKS[place % len(MARKS)]
     minutes = np.array([np.nan if time is None else time / 60 for time in found.durations])
     title = (
-        f"{shown(found.name)}: {options.share} % attain {found.cell / 60:.1f} minutes"
+        f"{shown(found.name)}: {options.share} % achieve {found.cell / 60:.1f} minutes"
         if found.cell is not None
         else None
     )

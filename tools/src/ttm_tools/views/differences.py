@@ -31,7 +31,7 @@ class OriginChoice:
     """Which lines a table has, and in which order."""
 
     sort: str | None = None  # losers first, and then winners, each by the size of the change
-    top: int | None = None  # so many lines
+    top: int | None = None  # maximum number of lines
     listed: str = BOTH
     least: int = 1  # by which access differs
 

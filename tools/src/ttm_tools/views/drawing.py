@@ -57,21 +57,21 @@ def running(pieces: Pieces) -> MapLines:
 
 
 def taken_out(pieces: Pieces) -> MapLines:
-    return MapLines(pieces, "trips that are taken out", "#222222", 2.0)
+    return MapLines(pieces, "removed trips", "#222222", 2.0)
 
 
 def changed(pieces: Pieces) -> MapLines:
     """Where trips give way to others."""
-    return MapLines(pieces, "trips that are changed", "#882255", 1.6)
+    return MapLines(pieces, "changed trips", "#882255", 1.6)
 
 
 def added(pieces: Pieces) -> MapLines:
-    return MapLines(pieces, "trips that are added", "#117733", 2.4, (0, (4, 1.5)))
+    return MapLines(pieces, "added trips", "#117733", 2.4, (0, (4, 1.5)))
 
 
 @text_alone
 def draw(picture: Picture, stops: Stops, lines: Sequence[MapLines], note: str, width: int = 1350) -> Figure:
-    """The picture of these stops, which are those of the matrix, as a figure of so many pixels across."""
+    """The picture of these stops, which are those of the matrix, as a figure of this width in pixels."""
     projection = Projection(stops.latitudes, stops.longitudes)
     points = np.stack([projection.east(stops.longitudes), projection.north(stops.latitudes)], axis=1)
     cells = Cells(stops, projection)
@@ -153,7 +153,7 @@ def draw_lines(axes: Any, lines: MapLines, order: float) -> None:
 
 
 def mark_size(count: int) -> float:
-    """The area of an ordinary mark in square points, so that so many of them don't hide one another."""
+    """The area of an ordinary mark in square points, so that this many of them don't hide one another."""
     return min(60.0, max(5.0, 60000 / max(1, count)))
 
 

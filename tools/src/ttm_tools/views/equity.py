@@ -33,7 +33,7 @@ class EquityOptions:
 def chosen_kinds(
     table: AccessTable, opportunity: str | None, percentile: float | None, cutoff: float | None
 ) -> list[AccessKind]:
-    """The kinds that are asked for; there is one, or it is reported what there is."""
+    """The chosen kinds; if there is none, an error says which there are."""
     numbers = {"percentile": percentile, "cutoff": cutoff}
     kinds = [
         kind
@@ -97,15 +97,15 @@ def figure_of(table: AccessTable, people: Counts, options: EquityOptions) -> Any
     if len(options.kinds) > 1:
         there = some([kind.label for kind in options.kinds])
         names = "--opportunity, --percentile and --cutoff"
-        raise BadInput(table.path, f"a picture shows one of {there}: name it by {names}")
+        raise BadInput(table.path, f"a picture shows one of {there}: choose it with {names}")
     if len(people.names) > 1:
-        raise BadInput(table.path, f"a picture shows one group of {', '.join(people.names)}: name it by --column")
+        raise BadInput(table.path, f"a picture shows one group of {', '.join(people.names)}: choose it with --column")
     from matplotlib.figure import Figure
 
     kind, weights = options.kinds[0], people.numbers[:, 0]
     numbers, base = table.numbers[:, table.kinds.index(kind)], table.scenario(options.base)
     figure = Figure(figsize=INCHES, dpi=135, facecolor="white")
-    title = f"How access is spread: {kind.label}; people: {shown(people.names[0])}"
+    title = f"Distribution of access: {kind.label}; people: {shown(people.names[0])}"
     figure.text(0.02, 0.96, title, fontsize=13, fontweight="bold", va="top", parse_math=False)
     draw_lorenz(figure.add_axes((0.07, 0.13, 0.4, HIGH)), table.scenarios, numbers, weights)
     others = [place for place in range(len(table.scenarios)) if place != base]
@@ -119,14 +119,14 @@ def draw_lorenz(axes: Any, names: Sequence[str], numbers: Floats, weights: Float
         across, up = lorenz(numbers[place], weights)
         colour, style = COLOURS[place % len(COLOURS)], "solid" if place == 0 else "dashed"
         axes.plot(100 * across, 100 * up, color=colour, linestyle=style, label=shown(name))
-    axes.set(xlim=(0, 100), ylim=(0, 100), xlabel="people by ascending access, %", ylabel="access that they have, %")
+    axes.set(xlim=(0, 100), ylim=(0, 100), xlabel="people by ascending access, %", ylabel="their part of all access, %")
     axes.legend(frameon=False, loc="upper left", fontsize=9)
 
 
 def draw_tenths(
     axes: Any, names: Sequence[str], numbers: Floats, weights: Floats, base: int, others: Sequence[int]
 ) -> None:
-    """Bars of the mean change of each tenth of the people, a row of them for each scenario beside the base."""
+    """Bars of the mean change of each tenth of the people, a row of them for each scenario other than the base."""
     wide = 0.8 / max(1, len(others))
     for row, place in enumerate(others):
         changes = changes_by_tenth(numbers[base], numbers[place], weights)

@@ -53,7 +53,7 @@ def named(scenario: str, share: Share, what: str) -> str:
 def features_of(
     matrix: Matrix, stops: Stops, scenarios: Sequence[str], shares: Sequence[Share], origin: str | None
 ) -> Features:
-    """The stops with what is asked for."""
+    """The stops with the chosen numbers."""
     columns: dict[str, Any] = {}
     drawn = matrix.stops_and_origins()
     among = {name: place for place, name in enumerate(drawn)}
@@ -82,7 +82,9 @@ def with_nearest(
     counts: Counts,
     nearest_of: Sequence[float],
 ) -> Features:
-    """The same with the seconds within which so many opportunities are reached, for these scenarios and shares."""
+    """The same with the seconds within which these numbers of opportunities are reached, for these scenarios and
+    shares.
+    """
     columns, among = dict(features.columns), features.stops.places
     for scenario, share in itertools.product(*kinds):
         found = nearest(matrix, scenario, share, counts.numbers, nearest_of)

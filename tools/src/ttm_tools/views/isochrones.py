@@ -1,4 +1,4 @@
-"""Isochrones: the area that is reached from an origin within so many minutes, dissolved into one shape for each band.
+"""Isochrones: the area that is reached from an origin within given minutes, dissolved into one shape for each band.
 
 A point with a shape of its own, a square or the polygon of its file, counts whole where it is reached in time. From any
 other point, such as a stop, one walks on for the time that is left, up to the longest walk: in a circle, or along
@@ -179,7 +179,7 @@ def isochrones_of(matrix: Matrix, ground: AreaGround, bands: Bands, counts: Coun
 
 
 def properties_of(isochrone: Isochrone, origin: str) -> dict[str, Any]:
-    """What a file says of an isochrone beside its shape."""
+    """What a file says of an isochrone in addition to its shape."""
     known: dict[str, Any] = {"origin": shown(origin), "scenario": shown(isochrone.scenario)}
     if isochrone.share is not None:
         known["percentile"] = isochrone.share

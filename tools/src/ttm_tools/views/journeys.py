@@ -34,7 +34,7 @@ class ExplainOptions:
     departures: list[int]  # seconds on the axis
     back: int  # days before the date, with which the axis begins
     share: int  # percent
-    arguments: str  # what else was asked for
+    arguments: str  # the other arguments
 
     def clock(self, seconds: int) -> str:
         """A time on the axis, by the clock of the date."""
@@ -65,9 +65,9 @@ def names_of_routes(folder: str) -> dict[str, str]:
 def text_of(options: ExplainOptions, found: Sequence[Found]) -> Iterator[str]:
     """The lines of it all."""
     ends = f"From {options.stop(options.origin)} to {options.stop(options.destination)}"
-    yield f"{ends}: the travel time that {options.share} % of {len(options.departures):,} departures attain"
+    yield f"{ends}: the travel time that {options.share} % of {len(options.departures):,} departures achieve"
     yield options.arguments
-    yield "By a second search, in Python, which isn't proved."
+    yield "Found by a second search, in Python, which isn't proved."
     yield ""
     folder = options.timetable.folder
     names = names_of_routes(folder) if has_file(folder, "routes.txt") else {}

@@ -26,8 +26,8 @@ class Planned:
 
 
 def planned_of(folder: str, edits: Sequence[str], base: str, scenario: str, loses: bool) -> Planned | None:
-    """The files of today and of a scenario of a plan, those that are named or those beside the feed that `ttm-tools
-    scenarios` wrote; none where these aren't there.
+    """The files of today and of a scenario of a plan, those that are named or those in the feed's folder that
+    `ttm-tools scenarios` wrote; none where these aren't there.
     """
     if base != TODAY:
         return None

@@ -44,7 +44,7 @@ class TablePiece:
 
 
 def pieces_of(matrix: Matrix, choice: TableChoice) -> Iterator[TablePiece]:
-    """The rows that are asked for, some at a time; of a scenario's origins each has all shares."""
+    """The chosen rows, some at a time; of a scenario's origins each has all shares."""
     columns = np.array([matrix.places[name] for name in choice.destinations], dtype=np.intp)
     whole = len(columns) == len(matrix.stops) and bool((np.diff(columns) == 1).all())
     step = max(1, CELLS_AT_ONCE // max(1, len(matrix.stops) * len(choice.shares)))
@@ -109,7 +109,7 @@ def header_of(matrix: Matrix, choice: TableChoice, stops: Stops | None) -> list[
 
 
 def r5py_name(share: Share, shares: Sequence[Share]) -> str:
-    """How r5py calls a column of travel times; the median, where it alone is asked for, has no number."""
+    """r5py's name for a column of travel times; the median alone has no number."""
     return "travel_time" if share is None or list(shares) == [MEDIAN] else f"travel_time_p{share}"
 
 
@@ -119,7 +119,7 @@ def minutes(seconds: int) -> bytes:
 
 
 def type_of(column: str) -> str:
-    """The type of a column as QGIS reads it from a file beside a CSV."""
+    """The type of a column as QGIS reads it from a file next to a CSV."""
     if column in ("share", "seconds", "within", "access"):
         return "Integer"
     return "Real" if column.endswith(("_lat", "_lon")) or column.startswith("travel_time") else "String"

@@ -50,7 +50,7 @@ class Areas:
 def picture_of(
     kind: str, matrix: Matrix, stops: Stops, origin: str | None, options: PictureOptions, what: Nearest | None = None
 ) -> Picture:
-    """What is to be drawn: times, access, nearest, or difference, of the nearest where it is named."""
+    """What a map draws: times, access, nearest, or difference, of the nearest where it is named."""
     if origin is not None and origin not in stops.places:
         raise BadInput(stops.path, f"no stop {origin}")
     if what is not None:
@@ -105,7 +105,7 @@ def figure_of_isochrones(matrix: Matrix, stops: Stops, folder: str, sheet: Sheet
     seconds = matrix.seconds(scenario, share, areas.origin).astype(np.float64)
     bands = bands_of(areas.ground, seconds, areas.walking, areas.options.breaks or BANDS)
     named = stops.of([areas.origin])
-    title = sheet.title or f"Areas that are reached from {named.name_of(areas.origin)}"
+    title = sheet.title or f"Areas reached from {named.name_of(areas.origin)}"
     subtitle = f"{bands[-1].shape.area:,.1f} km² within {bands[-1].minutes:g} minutes"
     place = there.places.get(areas.origin)
     picture = Picture(

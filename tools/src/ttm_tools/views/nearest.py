@@ -46,7 +46,7 @@ class Nearest:
         return f"nearest {shown(self.name)}" if self.count == 1 else f"{self.count:g} nearest {shown(self.name)}"
 
     def seconds(self, matrix: Matrix, scenario: str, share: Share) -> Floats:
-        """The time to it from each origin, NaN where so many aren't reached."""
+        """The time to it from each origin, NaN where fewer are reached."""
         seconds: Floats = nearest(matrix, scenario, share, self.numbers[:, None], [self.count])[:, 0, 0]
         return seconds
 
@@ -66,7 +66,7 @@ def picture_of_nearest(matrix: Matrix, options: PictureOptions, what: Nearest) -
     seconds = what.seconds(matrix, scenario, share)
     marks, classes = classes_of_minutes(seconds, options.breaks or MINUTES)
     there, drawn = ~np.isnan(seconds), matrix.stops_and_origins()
-    subtitle = f"From {there.sum():,} of {len(there):,} {options.what} so many are reached"
+    subtitle = f"From {there.sum():,} of {len(there):,} {options.what} this number is reached"
     if there.any():
         subtitle += f", from half of these within {math.ceil(float(np.median(seconds[there])) / 60)} minutes"
     classes = of_origins(drawn, matrix.origins(scenario, share), classes, len(marks))
@@ -76,7 +76,7 @@ def picture_of_nearest(matrix: Matrix, options: PictureOptions, what: Nearest) -
 
 
 def picture_of_nearest_difference(matrix: Matrix, stops: Stops, options: PictureOptions, what: Nearest) -> Picture:
-    """The same in a scenario beside the base."""
+    """The same in a scenario, compared with the base."""
     pair = pair_of(matrix, options.base, options.scenario, options.share)
     before, after = what.seconds(matrix, pair.base, pair.share), what.seconds(matrix, pair.other, pair.share)
     before, after = before[pair.before], after[pair.after]
@@ -86,7 +86,7 @@ def picture_of_nearest_difference(matrix: Matrix, stops: Stops, options: Picture
     change = np.nan_to_num((before - after) / 60)
     classes = classes_of_difference(change, breaks)
     classes[gone & ~new], classes[new & ~gone], classes[new & gone] = 0, len(marks) - 3, len(marks) - 2
-    counts = counts_stated(classes, breaks, ("are cut off", "slower", "faster", "newly reach it"))
+    counts = counts_stated(classes, breaks, ("cut off", "slower", "faster", "newly reached"))
     order = np.argsort(np.where(gone & ~new, -np.inf, change), kind="stable")[:MOST_WORST]
     worst = [pair.origins[row] for row in order.tolist() if gone[row] and not new[row] or change[row] <= -breaks[0]]
     title, subtitle = (

@@ -34,7 +34,7 @@ class Shade:
 
 @dataclass(frozen=True)
 class Mark:
-    """How the stops of a class are drawn, and what the key says of them; `size` is an area beside an ordinary
+    """How the stops of a class are drawn, and what the key says of them; `size` is an area relative to an ordinary
     mark's.
     """
 
@@ -47,8 +47,8 @@ class Mark:
 
 @dataclass(frozen=True)
 class Picture:
-    """What is to be drawn: the classes in the key's order, which of them each stop is in, and what is written
-    beside.
+    """What a picture draws: the classes in the key's order, which of them each stop is in, and the
+    texts.
     """
 
     title: str
@@ -77,7 +77,7 @@ class PictureOptions:
 
 
 NOT_REACHED = Mark("not reached", "#9a9a9a", "x", 0.7)
-NO_ORIGIN = Mark("no origin of the matrix", "#c4c4c4", "o", 0.07, "none")
+NO_ORIGIN = Mark("not an origin of the matrix", "#c4c4c4", "o", 0.07, "none")
 
 
 def shades(count: int, name: str = "plasma", first: float = 0.0, last: float = 0.98) -> list[Shade]:
@@ -88,7 +88,7 @@ def shades(count: int, name: str = "plasma", first: float = 0.0, last: float = 0
 def source_of(scenario: str, share: Share, matrix: Matrix) -> str:
     sentences = [
         f"Scenario {scenario}",
-        *([] if share is None else [f"travel times that {share} of 100 departures keep to"]),
+        *([] if share is None else [f"travel times that {share} % of departures achieve"]),
     ]
     return "; ".join([*sentences, *(text for text in (matrix.greatest_stated, matrix.heading) if text)]) + "."
 
@@ -120,7 +120,7 @@ def picture_of_times(matrix: Matrix, stops: Stops, origin: str, options: Picture
 
 
 def round_step(most: float, count: int) -> int:
-    """A round number that steps to `most` in about so many steps: 1, 2 or 5 times a power of ten."""
+    """A round number that steps to `most` in about this many steps: 1, 2 or 5 times a power of ten."""
     least = max(most / count, 1)
     power = 10 ** math.floor(math.log10(least))
     return next(int(step * power) for step in (1, 2, 5, 10) if step * power >= least)
@@ -206,7 +206,7 @@ def beside(pair: Pair) -> str:
 
 
 def picture_of_time_difference(matrix: Matrix, stops: Stops, origin: str, options: PictureOptions) -> Picture:
-    """Travel times from an origin in a scenario beside the base."""
+    """Travel times from an origin in a scenario, compared with the base."""
     pair = pair_of(matrix, options.base, options.scenario, options.share)
     before, after = (matrix.seconds(name, pair.share, origin) for name in (pair.base, pair.other))
     breaks = options.breaks or MINUTES_OF_DIFFERENCE
@@ -215,7 +215,7 @@ def picture_of_time_difference(matrix: Matrix, stops: Stops, origin: str, option
     classes = classes_of_difference(np.nan_to_num((before - after).astype(np.float64) / 60), breaks)
     gone, new = np.isnan(after), np.isnan(before)
     classes[gone & ~new], classes[new & ~gone], classes[new & gone] = 0, len(marks) - 2, len(marks) - 1
-    counts = counts_stated(classes, breaks, ("are cut off", "slower", "faster", "newly reached"))
+    counts = counts_stated(classes, breaks, ("cut off", "slower", "faster", "newly reached"))
     title, subtitle = (
         f"Travel time from {stops.name_of(origin)}: {beside(pair)}",
         f"Of {len(matrix.stops):,} {options.what} {counts}",
@@ -225,7 +225,7 @@ def picture_of_time_difference(matrix: Matrix, stops: Stops, origin: str, option
 
 
 def picture_of_access_difference(matrix: Matrix, stops: Stops, options: PictureOptions) -> Picture:
-    """Access at each origin in a scenario beside the base, in classes of percent."""
+    """Access at each origin in a scenario, compared with the base, in classes of percent."""
     place, limit = matrix.limit(options.within)
     pair = pair_of(matrix, options.base, options.scenario, options.share)
     breaks = options.breaks or PERCENT
@@ -241,7 +241,7 @@ def picture_of_access_difference(matrix: Matrix, stops: Stops, options: PictureO
     worst = [pair.origins[row] for row in order[percent[order] <= -breaks[0]].tolist()]
     if worst:
         most, lost = -percent[order[0]], int(first[order[0]] - second[order[0]])
-        subtitle += f"; the most: {most:.0f} % ({lost:,} {options.unit}) at {stops.name_of(worst[0])}"
+        subtitle += f"; the greatest loss: {most:.0f} % ({lost:,} {options.unit}) at {stops.name_of(worst[0])}"
     title = f"Access from each {options.what[:-1]}: {options.unit}{within_stated(limit)}, {beside(pair)}"
     key, source = f"Change of access:\n{options.unit}{within_stated(limit)}", source_of(
         beside(pair), pair.share, matrix

@@ -146,7 +146,7 @@ def stop_fields(day: Day) -> Iterator[list[str]]:
 
 
 def costs_stated(day: Day) -> list[str]:
-    """What runs in the first scenario, and what each other one takes beside it, all periods together."""
+    """What runs in the first scenario, and each other one compared with it, all periods together."""
     whole = Period(min(period.start for period in day.periods), max(period.end for period in day.periods))
     found = {
         name: service_of(runs, np.ones(len(runs.trip), dtype=np.bool_), whole, -1) for name, runs in day.running.items()

@@ -18,7 +18,7 @@ h2{margin-top:1.5em}@media print{h2{break-after:avoid}tr{break-inside:avoid}}"""
 
 
 def write_page(out: BinaryIO, day: Day, groups: Groups, lines: list[ServiceLine], title: str) -> None:
-    """Writes the page, as HTML that needs nothing beside it."""
+    """Writes the page, as HTML that needs no other file."""
     head = f'<!DOCTYPE html>\n<html lang="en"><meta charset="utf-8"><title>{escape(title)}</title>'
     out.write(f"{head}<style>{STYLE}</style>\n<h1>{escape(title)}</h1>\n".encode("utf-8", "backslashreplace"))
     stops = stops_of(day, groups)

@@ -1,5 +1,5 @@
-"""Pictures of access by time of day: its mean over people with the tenth that has least, a heat map of the places by
-window, and a map for each window.
+"""Pictures of access by time of day: its mean over people, and over the tenth that has the least; a heat map of the
+places by window; and a map for each window.
 """
 
 import itertools
@@ -51,7 +51,7 @@ class FigureLabels:
 
 
 def levels(numbers: Floats, people: Floats) -> tuple[float, float]:
-    """The mean of all people, and that of the tenth that has least."""
+    """The mean of all people, and that of the tenth that has the least."""
     return mean(numbers, people), mean(numbers, part(numbers, people, 0, 1 / TENTHS))
 
 
@@ -73,7 +73,7 @@ def days_of(columns: Sequence[WindowColumn]) -> list[tuple[str, list[WindowColum
 def figure_by_time(
     columns: Sequence[WindowColumn], scenarios: Sequence[str], people: Floats, labels: FigureLabels
 ) -> Any:
-    """A panel for each day: the mean over people, and that of the tenth that has least, along the hours."""
+    """A panel for each day: the mean over people, and that of the tenth that has the least, along the hours."""
     days = days_of(columns)
     across = min(ACROSS, len(days))
     rows = math.ceil(len(days) / across)
@@ -104,7 +104,7 @@ def draw_levels(axes: Any, columns: Sequence[WindowColumn], scenarios: Sequence[
     spans = np.array([column.span for column in columns])
     for (place, name), (row, style) in itertools.product(enumerate(scenarios), enumerate(("solid", "dashed"))):
         found = np.array([levels(column.numbers[place], people)[row] for column in columns])
-        label = shown(name) + (", tenth that has least" if row else "")
+        label = shown(name) + (", tenth with the least" if row else "")
         how: dict[str, Any] = {"color": COLOURS[place % len(COLOURS)], "linestyle": style}
         axes.plot(spans.mean(axis=1), found, linewidth=0.8, label=label, **how)
         axes.hlines(found, spans[:, 0], spans[:, 1], colors=how["color"], linewidth=3.0, alpha=0.5 if row else 1.0)
@@ -119,7 +119,7 @@ def figure_of_heat(columns: Sequence[WindowColumn], scenario: int, labels: Figur
     axes = figure.add_axes((0.09, 0.17, 0.76, 0.72))
     image = axes.imshow(numbers[order], aspect="auto", interpolation="nearest", cmap=SCALE, vmin=0)
     names = [column.name for column in columns]
-    axes.set(xticks=range(len(columns)), ylabel=f"{labels.places}, the one with most on top")
+    axes.set(xticks=range(len(columns)), ylabel=f"{labels.places}, the most on top")
     turned = {"rotation": 45, "ha": "right"} if sum(map(len, names)) > 60 else {}
     axes.set_xticklabels(names, fontsize=8, parse_math=False, **turned)
     begin = 0

@@ -1,6 +1,6 @@
 """Walks between the stops of a feed, or places among them: straight lines, and ways along streets."""
 
-from ..faults import needs
+from ..faults import needs, quantity
 from ..gtfs.stops import Stops
 from .straight import Pace, Walks, distances, points_of, read_walks, straight_walks
 
@@ -11,7 +11,7 @@ __all__ = ["NEAR", "Pace", "Walks", "distances", "points_of", "read_walks", "str
 def walks_of(
     stops: Stops, pace: Pace, streets: str | None = None, near: float = NEAR, first: int | None = None
 ) -> Walks:
-    """The walks between all stops by straight lines, or along the streets of a file; between the first so many and all
+    """The walks between all stops by straight lines, or along the streets of a file; between the first ones and all
     alone, where it is said how many.
     """
     if streets is None:
@@ -24,10 +24,10 @@ def walks_of(
 
 
 def summary(walks: Walks, what: str, near: float) -> str:
-    """What isn't as one would wish of the places between which there are walks."""
-    found = [f"{walks.lost} {what} have no coordinates"]
+    """The places that have no walks, or only a straight line to a street."""
+    found = [f"{quantity(walks.lost, what.removesuffix('s'))} without coordinates"]
     if walks.far:
-        found.append(f"{walks.far:,} are more than {near:g} metres from a street and joined to it by a straight line")
+        found.append(f"{walks.far:,} more than {near:g} metres from a street, joined to it by a straight line")
     if walks.apart:
-        found.append(f"{walks.apart:,} have no street in reach")
+        found.append(f"{walks.apart:,} without a street in reach")
     return "; ".join(found)

@@ -40,6 +40,6 @@ class WaysFound:
         shortest = self.least(self.ways)
         self.ways, self.count = [shortest], len(shortest[0])
         if self.count * self.directions > MOST_PAIRS:
-            text = f"more than the {MOST_PAIRS:,} walks that ttm takes: a shorter --limit, or fewer places"
+            text = f"more than the {MOST_PAIRS:,} walks that ttm takes: use a shorter --limit, or fewer places"
             raise TooManyWalks(self.path, text)
         return shortest

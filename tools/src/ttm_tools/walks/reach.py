@@ -59,8 +59,8 @@ class Reach:
 
 
 def reach_of(streets: Streets, latitudes: Floats, longitudes: Floats, pace: Pace, near: float) -> Reach:
-    """The streets with places on them: the way to a street counts as it is up to so many metres, and else as a straight
-    line with its detour.
+    """The streets with places on them: the way to a street counts as it is up to a distance in metres, and else as a
+    straight line with its detour.
     """
     put = snapped(streets, points_of(latitudes, longitudes))
     graph = graph_of(streets, put)

@@ -85,8 +85,8 @@ def distances(a: Floats, b: Floats) -> Floats:
 
 
 def near_pairs(points: Floats, metres: float) -> Iterator[tuple[Places, Places]]:
-    """Pairs of points that may be at most so many metres apart, each once, some at a time, by a grid of cubes of that
-    side.
+    """Pairs of points that may be within a distance in metres of each other, each once, some at a time, by a grid of
+    cubes of that side.
     """
     keys = cubes_of(points, metres)
     order = np.argsort(keys, kind="stable")
@@ -209,7 +209,7 @@ def entrances_of(stops: Stops) -> dict[str, Floats]:
 
 
 def straight_walks(stops: Stops, pace: Pace, first: int | None = None) -> Walks:
-    """The footpaths between all stops of a feed at which vehicles call, or between the first so many and all."""
+    """The footpaths between all stops of a feed at which vehicles call, or between the first ones and all."""
     called = stops.kinds == 0
     chosen = np.flatnonzero(called & stops.placed)
     points = points_of(stops.latitudes[chosen], stops.longitudes[chosen])
@@ -236,6 +236,6 @@ def read_walks(path: str, stops: Stops, rounded: Rounded) -> list[tuple[str, str
     for number, (a, b, seconds) in rows(path, ["from_stop_id", "to_stop_id", "seconds"]):
         for column, stop in (("from_stop_id", a), ("to_stop_id", b)):
             if stop not in stops.places:
-                raise BadInput(path, f"is no stop of {stops.path}", record=number, column=column, value=shown(stop))
+                raise BadInput(path, f"is not a stop of {stops.path}", record=number, column=column, value=shown(stop))
         found.append((a, b, rounded.whole(seconds, path, number, "seconds", up=True)))
     return found

@@ -2,8 +2,8 @@
 looked for by Dijkstra's search, cut at the limit.
 
 The way between a place and its street counts as it is where it is near, and else as a straight line, with its detour.
-The search runs cube by cube of space, each as wide as the longest walk: whoever begins in a cube ends in it or in one
-beside it, so only the streets of these are looked at.
+The search runs cube by cube of space, each as wide as the longest walk: whoever begins in a cube ends in it or in a
+neighbour, so only the streets of these are looked at.
 """
 
 from dataclasses import dataclass
@@ -140,7 +140,7 @@ class Cubes:
     ordered: Places  # these keys
 
     def around(self, key: int) -> Places:
-        """The nodes in a cube and those beside it."""
+        """The nodes in a cube and those next to it."""
         found = []
         for x in (-1, 0, 1):
             for y in (-1, 0, 1):
@@ -178,7 +178,7 @@ def ranges_of(graph: Graph, nodes: Places) -> Iterator[tuple[Places, Places]]:
 
 
 def close(points: Floats, nodes: Places, begins: Places, most: float) -> Places:
-    """Those nodes that may be at most so many metres from one of some others."""
+    """The nodes that may be within a distance in metres of one of some others."""
     low, high = points[begins].min(axis=0) - most, points[begins].max(axis=0) + most
     kept: Places = nodes[((points[nodes] >= low) & (points[nodes] <= high)).all(axis=1)]
     return kept
@@ -188,7 +188,7 @@ def searched(
     graph: Graph, first: int, extra: Floats, most: float, only: Ends
 ) -> Iterator[tuple[Places, Places, Floats]]:
     """The shortest ways between the places that were put behind the streets' own nodes, from `first` on: from which to
-    which, and metres with those beside the streets, where these are at most so many. `only` is of these places.
+    which, and metres with those next to the streets, if these are within a distance. `only` is of these places.
     """
     from scipy.sparse.csgraph import dijkstra
 
@@ -256,7 +256,7 @@ def stops_on_streets(stops: Stops, streets: Streets, pace: Pace, near: float) ->
 def street_walks(
     stops: Stops, pace: Pace, streets: Streets, near: float, first: int | None = None, only: Ends | None = None
 ) -> Walks:
-    """The footpaths along streets between all stops of a feed at which vehicles call, or between the first so many
+    """The footpaths along streets between all stops of a feed at which vehicles call, or between the first ones
     and all; where it is said which of them may be ends, between these.
     """
     called, there, most = stops.kinds == 0, stops_on_streets(stops, streets, pace, near), longest(pace)

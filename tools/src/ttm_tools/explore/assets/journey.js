@@ -4,7 +4,7 @@
 const journey = {
   end: -1, // the place where it ends; -1 for none
   found: null,
-  key: "", // of the question that was asked last
+  key: "", // of the last question
   page: null,
 
   begin(map) {

@@ -1,7 +1,7 @@
 "use strict";
 // What is kept: the picture, the numbers, and a study that computes all of it.
 
-const KEY_WIDE = 260; // pixels of the key beside the picture
+const KEY_WIDE = 260; // pixels of the key next to the picture
 
 const keep = {
   page: null,
@@ -73,7 +73,7 @@ const keep = {
     const origin = point.isChosen() ? point.originOf(state.place) : state.place;
     const answer = await answerOf("study", {}, { first, last, trips, origin });
     const { command } = await answer.json();
-    fill("kept", "Saved. This computes all of it: ", made("code", command));
+    fill("kept", "Saved. To compute all of it, run: ", made("code", command));
   },
 };
 

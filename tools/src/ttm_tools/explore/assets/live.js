@@ -25,7 +25,7 @@ async function answerOf(name, words, body) {
     throw new Error("The server has ended: start ttm-tools explore again.");
   }
   if (!response.ok) {
-    const told = await response.json().catch(() => ({ fault: `the server answers ${response.status}` }));
+    const told = await response.json().catch(() => ({ fault: `the server answered with status ${response.status}` }));
     throw new Error(told.fault);
   }
   return response;
@@ -40,7 +40,7 @@ function tellFault(fault) {
 
 class Asker {
   constructor() {
-    this.answers = new Map(); // by question, the one that was asked for last at the end
+    this.answers = new Map(); // by question, the most recent one at the end
     this.running = null; // the question that is on its way, and its answer
     this.waiting = null; // the one that comes next
   }

@@ -4,7 +4,7 @@
 
 const point = {
   wanted: null, // by the address, until there is a map
-  at: null, // latitude and longitude in degrees, as the server is asked; null for none
+  at: null, // latitude and longitude in degrees, as the server gets them; null for none
 
   begin(map) {
     map.nowhere = ({ latlng }) => this.choose(latlng);
@@ -39,7 +39,7 @@ const point = {
     }
   },
 
-  /** What the server is asked of a place. */
+  /** The question to the server about a place. */
   originOf(place) {
     return place === this.place ? { lat: this.at[0], lon: this.at[1] } : { origin: place };
   },

@@ -163,7 +163,7 @@ const routes = {
 
   async changed(wanted) {
     document.body.dataset.busy = "1";
-    element("changing").textContent = "A network with this change begins; until then the one before answers.";
+    element("changing").textContent = "The changed network is starting; until then the previous one answers.";
     const found = await answerOf("changes", {}, wanted).then((it) => it.json()).catch((fault) => tellFault(fault));
     document.body.dataset.busy = "0";
     element("changing").textContent = "";
@@ -201,11 +201,11 @@ const routes = {
   actionTold(action) {
     const route = () => `route ${this.all[action.route]?.name ?? action.route}`, minutes = told(action.every / 60);
     return {
-      remove_route: () => `take out ${route()}`,
+      remove_route: () => `remove ${route()}`,
       headway: () => `${route()} every ${minutes} minutes from ${action.from} to ${action.to}`,
       speed: () => `${route()} faster by ${told(100 * (1 - action.factor))} %`,
       cut: () => `${route()} ends at ${nameOf(action.after)}`,
-      extend: () => `${route()} goes on to ${action.stops.map(nameOf).join(", ")}`,
+      extend: () => `${route()} extended to ${action.stops.map(nameOf).join(", ")}`,
       add_line: () => `new line ${action.name}: ${action.stops.map(nameOf).join(", ")}, every ${minutes} minutes`,
     }[action.do]();
   },

@@ -22,7 +22,7 @@ def extend(state: State, entry: Entry) -> list[str]:
     found = [trip for trip in trips if trip.stop[place] == stop]
     if not found:
         ends = sorted({stop_shown(state, int(trip.stop[place])) for trip in trips})
-        message = f"is no stop at which trips of the route {'begin' if place == 0 else 'end'}"
+        message = f"is not a stop at which trips of the route {'begin' if place == 0 else 'end'}"
         raise entry.fault(f"{message}{near(entry.text(key), ends)}", key, entry.text(key))
     further = np.array(stops_named(state, entry, "stops"), dtype=np.int64)
     way = np.append(further, stop) if place == 0 else np.append(stop, further)

@@ -1,10 +1,11 @@
-"""A route that runs every so many seconds: its trips of a period give way to copies of a typical one."""
+"""A route that runs at a headway: copies of a typical trip replace its trips of a period."""
 
 from dataclasses import replace
 from typing import Sequence
 
 import numpy as np
 
+from ...faults import quantity
 from ...gtfs.fields import clock
 from ..base import Headway
 from ..choice import chosen, directions_of, pattern_of, stop_shown
@@ -33,7 +34,7 @@ def headway(state: State, entry: Entry) -> list[str]:
         return [line for group in groups for line in thinned(state, entry, group, times, end)]
     sentences = [line for group in groups for line in oftener(state, entry, group, start, end)]
     if not state.changes:
-        raise entry.fault(f"leaves nothing between {clock(start)} and {clock(end)} to be added to", "times")
+        raise entry.fault(f"adds no departure between {clock(start)} and {clock(end)}", "times")
     return sentences
 
 
@@ -52,7 +53,7 @@ def thinned(state: State, entry: Entry, trips: Sequence[Trip], times: range, end
         state.add(in_range(entry, copy_of(state, typical, number, time, service)))
     ends = " to ".join(stop_shown(state, int(typical.stop[place])) for place in (0, -1))
     count = sum(departures_in(trip, times.start, end) for trip in inside)
-    sentence = f"route {typical.route}, {ends}: {count:,} departures give way to {len(times):,}"
+    sentence = f"route {typical.route}, {ends}: {quantity(count, 'departure')} replaced by {len(times):,}"
     return [f"{sentence}, copies of trip {typical.label} ({len(typical.stop)} calls, {clock(typical.seconds)})"]
 
 

@@ -21,11 +21,11 @@ def add_line(state: State, entry: Entry) -> list[str]:
     """A new line, in one direction or in both, with its departures from either end."""
     route = entry.text("route")
     if route in state.base.by_route or route in state.lines:
-        raise entry.fault("is a route already", "route", route)
+        raise entry.fault("is already a route", "route", route)
     if "@" in route:
-        raise entry.fault("can't be a new route's name; behind an @ stands a scenario", "route", route)
+        raise entry.fault("can't be the name of a new route: a scenario's name follows an @", "route", route)
     if len(entry.texts("stops")) < 2:
-        raise entry.fault("is a single stop; a line has two at least", "stops")
+        raise entry.fault("is a single stop; a line needs two or more", "stops")
     way = np.array(stops_named(state, entry, "stops"), dtype=np.int64)
     run, dwell = run_times(state, entry, way)
     service, times = service_named(state.base, entry), departures_of(entry)
@@ -41,7 +41,7 @@ def add_line(state: State, entry: Entry) -> list[str]:
     length = int(run.sum()) + dwell * (len(way) - 2)
     sentence = f"route {route}: {len(way):,} stops in {clock(length)}; {len(times):,} departures from each end"
     agency = entry.text("agency", "") or state.base.first_agency
-    return [sentence, *([f"route {route}: of the agency {shown(agency)}"] if agency else [])]
+    return [sentence, *([f"route {route}: agency {shown(agency)}"] if agency else [])]
 
 
 def named(entry: Entry) -> Entry:

@@ -6,6 +6,7 @@ import numpy as np
 
 from ..choice import stop_shown
 from ..days import runs_of
+from ...faults import quantity
 from ...opening.kinds import whole
 from ...opening.toml_file import Entry
 from ..state import State, Trip, in_range
@@ -38,7 +39,9 @@ def oftener(state: State, entry: Entry, trips: Sequence[Trip], start: int, end: 
                 added += 1
                 state.add(in_range(entry, copy_of(state, trip, added, extra, trip.service)))
     ends = " to ".join(stop_shown(state, int(trips[0].stop[place])) for place in (0, -1))
-    return [f"route {trips[0].route}, {ends}: {added:,} departures added between {len(inside):,}"] if inside else []
+    return (
+        [f"route {trips[0].route}, {ends}: {quantity(added, 'departure')} added to {len(inside):,}"] if inside else []
+    )
 
 
 def services_beside(state: State, services: set[str]) -> dict[str, set[str]]:

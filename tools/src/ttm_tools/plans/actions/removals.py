@@ -5,6 +5,7 @@ from dataclasses import replace
 import numpy as np
 
 from ..choice import chosen, routes_of, stops_named, stop_shown
+from ...faults import quantity
 from ...opening.kinds import LAST_TIME, near, whole
 from ...opening.toml_file import Entry
 from ..state import State, Trip, in_range
@@ -56,9 +57,9 @@ def trips_named(state: State, entry: Entry) -> list[Trip]:
             continue
         place = state.base.numbers.get(name, -1)
         if place < 0:
-            raise entry.fault(f"is no trip of the feed{near(name, state.base.trips)}", "trip", name)
+            raise entry.fault(f"is not a trip of the feed{near(name, state.base.trips)}", "trip", name)
         if not state.kept[place]:
-            message = "has no trip any more" if state.base.lengths[place] else "never runs: it has no calls at stops"
+            message = "is already removed" if state.base.lengths[place] else "never runs: it has no calls at stops"
             raise entry.fault(f"{message}, so nothing changes", "trip", name)
         trips.append(state.trip(place))
     return trips
@@ -79,7 +80,7 @@ def remove_stop(state: State, entry: Entry) -> list[str]:
     trips = chosen(state, entry) if entry.has("route") else trips_calling(state, stops)
     trips = [trip for trip in trips if np.isin(trip.stop, stops).any()]
     if not trips:
-        message = "is no stop at which these trips call, so nothing changes"
+        message = "is not a stop at which these trips call, so nothing changes"
         raise entry.fault(message, "stop", ", ".join(stop_shown(state, stop) for stop in stops))
     for trip in trips:
         rest = kept_calls(trip, ~np.isin(trip.stop, stops))
@@ -92,7 +93,7 @@ def remove_stop(state: State, entry: Entry) -> list[str]:
 
 
 def sentences_on_lost(lost: int) -> list[str]:
-    return [f"{lost:,} trips taken out that were left with a single call"] if lost else []
+    return [f"{quantity(lost, 'trip')} removed because only one call was left"] if lost else []
 
 
 def trips_calling(state: State, stops: list[int]) -> list[Trip]:

@@ -20,7 +20,7 @@ def speed(state: State, entry: Entry) -> list[str]:
     found, changed = [(trip, span_of(state, entry, trip)) for trip in chosen(state, entry)], 0
     spans = [(trip, span) for trip, span in found if span is not None]
     if not spans:
-        raise entry.fault("no trip of the route calls there and at to_stop afterwards", "from_stop")
+        raise entry.fault("no trip of the route calls there and later at to_stop", "from_stop")
     for trip, span in spans:
         after = paced(trip, span, factor, more)
         if (after.arrive != trip.arrive).any() or (after.depart != trip.depart).any():
@@ -28,7 +28,7 @@ def speed(state: State, entry: Entry) -> list[str]:
             changed += 1
     if not changed:
         raise entry.fault("changes no time", "factor" if entry.has("factor") else "dwell")
-    return [f"{len(spans) - changed:,} of {len(spans):,} trips have the times that they had"] * (changed < len(spans))
+    return [f"{len(spans) - changed:,} of {len(spans):,} trips keep their times"] * (changed < len(spans))
 
 
 def span_of(state: State, entry: Entry, trip: Trip) -> tuple[int, int] | None:

@@ -25,7 +25,7 @@ def run_times(state: State, entry: Entry, way: Whole) -> tuple[Whole, int]:
     places = state.base.places
     north, east = places.latitudes[way], places.longitudes[way]
     for stop in way[np.isnan(north)].tolist():
-        raise entry.fault(f"needs places, and stop {stop_shown(state, stop)} has none: give seconds", "speed")
+        raise entry.fault(f"needs coordinates, and stop {stop_shown(state, stop)} has none: give seconds", "speed")
     metres = [straight(north[place : place + 2], east[place : place + 2]) for place in range(len(way) - 1)]
     return np.ceil(np.round(np.array(metres) * 3.6 / kilometres_an_hour, 6)).astype(np.int64), dwell
 

@@ -78,7 +78,7 @@ class Content:
 
     ground: Ground
     counts: Counts  # by place
-    people: int  # the last so many columns of counts are people
+    people: int  # the number of last columns of counts that are people
     hidden: list[str]  # what is counted, and lies in part at stops that aren't shown
     away: list[str]  # what is counted, and lies at no place at which journeys end
     measures: list[PageMeasure]
@@ -105,7 +105,7 @@ def ground_of(matrix: Matrix, stops: Stops, options: PageOptions) -> Ground:
         [name for name in places.identifiers if name in among] for among in (matrix.places, set(origins))
     )
     if np.isnan(places.latitudes).all():
-        raise BadInput(stops.path, f"none of the {options.what} has a place, so there is nothing to show")
+        raise BadInput(stops.path, f"none of the {options.what} has coordinates, so there is nothing to show")
     wanted = set(starts if options.origins is None else options.origins)
     rows = [name for name in starts if name in wanted]
     room = options.most_cells // max(1, len(columns) * len(options.scenarios) * len(options.shares))

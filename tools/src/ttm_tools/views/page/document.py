@@ -141,7 +141,7 @@ class PageKind:
     folders: tuple[Path, ...] = (ASSETS,)
     scripts: tuple[str, ...] = SCRIPTS
     styles: tuple[str, ...] = STYLES
-    connects: bool = False  # whether it asks the server that it comes from
+    connects: bool = False  # whether it sends requests to the server that it comes from
     known: dict[str, Any] = field(default_factory=dict)  # what else its template shows
 
     def texts(self, names: Sequence[str]) -> list[str]:
@@ -151,7 +151,7 @@ class PageKind:
 
 
 def policy_of(scripts: Sequence[str], styles: Sequence[str], tiles: str | None, connects: bool = False) -> str:
-    """What a browser may run and fetch: these scripts and styles, by their sums, tiles where they are asked for, and
+    """What a browser may run and fetch: these scripts and styles, by their checksums, tiles if there are any, and
     what the page's own server answers where it has one.
     """
 

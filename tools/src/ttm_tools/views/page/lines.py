@@ -16,7 +16,7 @@ from .places import MICRO
 
 Pieces = npt.NDArray[np.int32]  # latitude, longitude of both ends, in millionths of a degree
 STRAIGHT = "Lines are drawn straight from stop to stop."
-OF_PLANS = "scenarios"  # the folder beside a feed where ttm-tools scenarios writes scenario files
+OF_PLANS = "scenarios"  # the folder in a feed's folder where ttm-tools scenarios writes scenario files
 
 
 @dataclass(frozen=True)

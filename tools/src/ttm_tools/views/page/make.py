@@ -22,14 +22,14 @@ MINUTES, MOST_MINUTES = 30, 120  # of the slider: where it stands first, and whe
 
 @dataclass(frozen=True)
 class PageSettings:
-    """What is asked for, as arguments and names of files."""
+    """The settings of a page, as arguments and names of files."""
 
     feed: str
     points: str | None
     edits: list[str]
     opportunities: list[str]
     people: list[str]
-    scenarios: list[str]  # beside the base; none for all
+    scenarios: list[str]  # in addition to the base; none for all
     base: str
     share: int | None
     cutoffs: list[float]  # minutes
@@ -83,7 +83,7 @@ def options_of(matrix: Matrix, what: str, settings: PageSettings) -> PageOptions
 
 
 def page_of(matrix: Matrix, settings: PageSettings) -> Page:
-    """The page that is asked for."""
+    """The page of these settings."""
     chosen, stops = shown_of(matrix, settings.feed, settings.points)
     assert stops is not None  # there is a feed
     options = options_of(chosen, "stops" if chosen is matrix else "points", settings)
@@ -95,7 +95,7 @@ def page_of(matrix: Matrix, settings: PageSettings) -> Page:
 
 
 def with_streets(frame: Frame, ground: Ground, settings: PageSettings) -> Frame:
-    """The same with the streets that are asked for; where they are more than a page takes, this is reported."""
+    """The same with the streets of the settings; if they are more than a page takes, this is reported."""
     if settings.streets is None:
         return frame
     pace = Pace(settings.walk, settings.speed, settings.detour)
@@ -136,7 +136,7 @@ def frame_of(matrix: Matrix, content: Content, options: PageOptions, settings: P
 
 
 def end_stated(matrix: Matrix) -> str:
-    """What is reported beside a percentile where travel times have an end."""
+    """What is reported with a percentile if travel times have a maximum."""
     sentence = matrix.greatest_stated
     return f" {sentence[0].upper()}{sentence[1:]}." if sentence else ""
 
@@ -151,17 +151,19 @@ def rows_stated(content: Content, options: PageOptions) -> list[str]:
     """What is reported where the page hasn't the travel times from all origins, or can't draw all places."""
     ground, sentences = content.ground, []
     if len(ground.rows) < len(ground.origins):
-        how = "named" if options.origins is not None else f"drawn with the seed {options.seed}"
+        how = "named" if options.origins is not None else f"chosen at random with the seed {options.seed}"
         sentences.append(
             f"The page has the travel times from {len(ground.rows):,} of {len(ground.origins):,} origins, which were "
             f"{how}, and access from all."
         )
     if content.hidden:
         names = ", ".join(content.hidden)
-        sentences.append(f"{names}: part of them is at stops that aren't shown; access counts all, the slider nothing.")
+        sentences.append(
+            f"{names}: part of them is at stops that aren't shown; access counts all of them, the slider none."
+        )
     lost = sum(1 for latitude in ground.places.latitudes if math.isnan(latitude))
     if lost:
-        sentences.append(f"{lost:,} places have no coordinates: they are found by name, and aren't on the map.")
+        sentences.append(f"{lost:,} places have no coordinates: you can find them by name, but they aren't on the map.")
     return sentences
 
 

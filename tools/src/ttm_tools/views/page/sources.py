@@ -62,10 +62,10 @@ def table(names: Mapping[str, Sequence[str]], feed: str, arguments: RunArguments
     """
     rows = [
         ("Feed", shown(os.path.basename(os.path.abspath(feed)))),
-        ("Date", arguments.date or "not told"),
-        ("Departures", arguments.window or "not told"),
-        ("Words of the run", arguments.text or "not told"),
-        ("Made by", f"ttm-tools {__version__}"),
+        ("Date", arguments.date or "not stated"),
+        ("Departures", arguments.window or "not stated"),
+        ("Arguments of the run", arguments.text or "not stated"),
+        ("Written by", f"ttm-tools {__version__}"),
     ]
     of_feed = [str(path) for path in (Path(feed) / f"{name}.txt" for name in FEED) if path.is_file()]
     for kind, paths in [*names.items(), ("Feed", of_feed)]:

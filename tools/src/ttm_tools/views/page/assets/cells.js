@@ -1,9 +1,9 @@
 "use strict";
-// Travel times out of the page: its parts of cells, inflated where they are asked for.
+// Travel times out of the page: its parts of cells, inflated when they are needed.
 
 const BLOCKS_KEPT = 400; // blocks of cells that are kept inflated
 
-const blocks = new Map(); // inflated blocks of cells by their names, the one that was asked for last at the end
+const blocks = new Map(); // inflated blocks of cells by their names, the most recent one at the end
 
 /** The cells of a block, as minutes. */
 async function readBlock(scenario, share, number) {

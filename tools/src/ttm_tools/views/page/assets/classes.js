@@ -11,7 +11,7 @@ const LOST = { 3: ["#f9c6ac", "#d55d4c", "#a21328"], 4: ["#f9c6ac", "#e37e64", "
 const GAINED = { 3: ["#b8d8e9", "#4291c2", "#1b5a9c"], 4: ["#b8d8e9", "#65a9cf", "#3480b9", "#1b5a9c"] };
 
 const NOT_REACHED = { label: "not reached", colour: "#8a8a8a", shape: "thin", size: 0.8 };
-const NO_ORIGIN = { label: "no origin of the matrix", colour: "#c4c4c4", shape: "dot", size: 0.5 };
+const NO_ORIGIN = { label: "not an origin of the matrix", colour: "#c4c4c4", shape: "dot", size: 0.5 };
 const UNKNOWN = { label: "places", colour: "#7d8a99", shape: "circle", size: 0.8 };
 
 /** A colour of a scale, at a part of its length. */
@@ -92,7 +92,7 @@ function changeClasses() {
   return { marks, classOf };
 }
 
-/** A round number that steps over a span in about so many steps: 1, 2 or 5 times a power of ten. */
+/** A round number that steps over a span in about this many steps: 1, 2 or 5 times a power of ten. */
 function roundStep(span, count) {
   const least = Math.max(span / count, 1e-9);
   const power = 10 ** Math.floor(Math.log10(least));
@@ -134,8 +134,8 @@ function sidesTold(before, now) {
   const sides = Array.from(now, (after, origin) => sideOf(before[origin], after));
   const [lose, gain, cut, joined] = ["lose", "gain", "cut", "joined"].map((name) =>
     sides.filter((side) => side[name]).length);
-  return `${told(lose)} lose${cut ? ` (${told(cut)} of them cut off)` : ""}, `
-    + `${told(gain)} gain${joined ? ` (${told(joined)} of them newly reached)` : ""}`;
+  return `${told(lose)} lose${lose === 1 ? "s" : ""}${cut ? ` (${told(cut)} of them cut off)` : ""}, `
+    + `${told(gain)} gain${gain === 1 ? "s" : ""}${joined ? ` (${told(joined)} of them newly reached)` : ""}`;
 }
 
 /** The marks of changed access, and which of them an origin is in, by its access before and after. */

@@ -11,9 +11,9 @@ const DEGREE = 111195; // metres of latitude
 const MANY_LINES = 2000, FAINT = "#dcdcdc"; // pieces of lines from which on they are thin, and their colour
 const LINES = {
   running: { colour: "#b9b9b9", width: 1.1, dash: [], label: "where vehicles run" },
-  taken: { colour: "#222222", width: 3.2, dash: [], label: "trips that are taken out" },
-  changed: { colour: "#882255", width: 3.2, dash: [2, 4], label: "trips that are changed" },
-  added: { colour: "#117733", width: 3.6, dash: [9, 5], label: "trips that are added" },
+  taken: { colour: "#222222", width: 3.2, dash: [], label: "removed trips" },
+  changed: { colour: "#882255", width: 3.2, dash: [2, 4], label: "changed trips" },
+  added: { colour: "#117733", width: 3.6, dash: [9, 5], label: "added trips" },
 };
 
 /** Degrees as places on the map of zoom 0, where the world is 256 wide; NaN where there is none. */

@@ -5,10 +5,10 @@
 const MOST_MINUTES = 120; // of the slider
 const ADDRESS_EVERY = 250; // milliseconds between changes of the address, of which browsers take 20 a second at most
 const ADDRESS_AFTER = 50; // milliseconds from a picture to its address: first the picture is painted
-const BEYOND = { label: "no destination of the matrix", colour: "#c4c4c4", shape: "dot", size: 0.5 };
+const BEYOND = { label: "not a destination of the matrix", colour: "#c4c4c4", shape: "dot", size: 0.5 };
 const HAVING = [
-  { ...UNKNOWN, label: "travel times from there are in the page" },
-  { ...NO_ORIGIN, label: "not from there" },
+  { ...UNKNOWN, label: "with travel times" },
+  { ...NO_ORIGIN, label: "without travel times" },
 ];
 
 const state = {
@@ -18,7 +18,7 @@ const state = {
   share: 0,
   place: -1, // that is chosen; -1 for none
   minutes: head.minutes, // of the slider
-  of: "", // what access is told of
+  of: "", // what access counts
   within: 0, // which of its limits
   weight: -1, // of the histogram: a column of counts, or -1 for places
 };
@@ -84,9 +84,9 @@ function showNoTimes() {
   element("from-here").hidden = true;
   element("heading").textContent = chosen ? `Travel times from ${nameOf(state.place)}` : "Choose a place";
   element("told").textContent = !chosen
-    ? "Click on the map, or search by name: it is coloured by the travel times from there."
-    : numbers.originsAt[state.place] < 0 ? "It is no origin of the matrix: choose another place."
-      : "The page hasn't its travel times, but its access: choose another place.";
+    ? "Click on the map, or search by name: the map is coloured by the travel times from there."
+    : numbers.originsAt[state.place] < 0 ? "This place is not an origin of the matrix: choose another one."
+      : "The page has the access of this place, but not its travel times: choose another one.";
   fill("sums");
   fill("all");
   const classes = Uint8Array.from(numbers.rowsAt, (row) => Number(row < 0));
@@ -193,7 +193,7 @@ function choose(place, event) {
   return additions.some((addition) => addition.takes(place, event)) ? show() : set({ place });
 }
 
-/** What is told of a place under the pointer. */
+/** The text on a place under the pointer. */
 function tipOf(place) {
   const { now, before } = current, name = nameOf(place);
   if (state.view === "access") {

@@ -24,7 +24,7 @@ function showNearest(words, now, before) {
   showOnMap(title, classesOfOrigins(classes, marks.length), [...marks, NO_ORIGIN], null);
 }
 
-/** From how many places so many are reached, and within how many minutes from half of these. */
+/** The number of places from which this many are reached, and the minutes from half of these. */
 function nearestSentence(words, now) {
   const reached = Array.from(now).filter((minutes) => minutes !== NEVER).sort((a, b) => a - b);
   const half = reached.length ? `, from half of these within ${minutesTold(reached[(reached.length - 1) >> 1])}` : "";
@@ -59,7 +59,7 @@ function showLosersOfNearest(now, before) {
   fill("losers", ...(some.length ? [heads("Place", "before", "after", "change")] : []), ...lines);
 }
 
-/** The histogram of the minutes, or of their change, over the origins that reach so many. */
+/** The histogram of the minutes, or of their change, over the origins that reach this many. */
 function showHistogramOfNearest(now, before, colourOf) {
   const there = Array.from(now.keys()).filter((origin) =>
     now[origin] < LATER && (before === null || before[origin] < LATER));
@@ -72,7 +72,7 @@ function showHistogramOfNearest(now, before, colourOf) {
   fill("histogram", ...(values.length ? [histogramOf(values, weights, colourOf, { of, counted })] : []));
 }
 
-/** What is told of a place under the pointer. */
+/** The text on a place under the pointer. */
 function nearestTip(name, now, before) {
   return `${name}: ${before === null ? "" : `${minutesTold(before)}, now `}${minutesTold(now)}`;
 }

@@ -1,5 +1,5 @@
 "use strict";
-// What stands beside the map: sentences, sums, the key, the histogram, and tables. All text is set as text.
+// The panel next to the map: sentences, sums, the key, the histogram, and tables. All text is set as text.
 
 const MOST_LINES = 500; // of the table of all travel times
 const MOST_LOSERS = 10;
@@ -151,7 +151,7 @@ function changesTold(now, before) {
       faster += Number(earlier - after >= CHANGES[0]);
     }
   }
-  return `of ${places(now.length)} ${told(cut)} are cut off, ${told(slower)} slower by ${CHANGES[0]} minutes or more, `
+  return `of ${places(now.length)} ${told(cut)} cut off, ${told(slower)} slower by ${CHANGES[0]} minutes or more, `
     + `${told(faster)} faster, ${told(joined)} new.`;
 }
 

@@ -13,7 +13,7 @@ class ReachedAreas {
     this.painted = {}; // what the areas are of that it shows
   }
 
-  /** The area of each band that ends within the slider's minutes, the widest first; one walks so many seconds at most. */
+  /** The area of each band that ends within the slider's minutes, the widest first; with a maximum walk in seconds. */
   paint(pen, view, cells, walk) {
     const ends = classEnds.map((end, number) => ({ end, number })).filter(({ end }) => end <= state.minutes).reverse();
     const { width, height } = pen.canvas, words = [cells.byteOffset, width, height, view, walk, ends, this.start()];

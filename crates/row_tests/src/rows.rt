@@ -1,59 +1,12 @@
 //! Worked examples of rows, matrices and limits of studies.
 
-use crate::small_networks::{SmallNetwork, at, network_with, trip_of};
+use crate::ride_networks::{A, B, C, DAY, FIRST, Ride, SECOND, networks_of};
 use collector::{Matrix, Row};
 use rounds::Window;
 use std::alloc::{AllocError, Global};
-use timetable::{Event, Network, StopNo};
+use timetable::{Network, StopNo};
 use work_book::{Lease, Settled};
 use workers::{Gate, Open, Study, Verdict, limits_fit, one_thread, row_of, shares_fit};
-
-/// The stops of the small feed.
-pub(crate) const A: u32 = 0;
-
-pub(crate) const B: u32 = 1;
-
-pub(crate) const C: u32 = 2;
-
-/// A day on the axis, which begins a day before the study's own.
-const DAY: u32 = 86_400;
-
-/// A ride: from a stop at a second of the study's day, to a stop at another.
-pub(crate) type Ride = (u32, u32, u32, u32);
-
-/// 08:00 from A to B by 08:10, and 08:15 from B to C by 08:30.
-pub(crate) const FIRST: Ride = (A, 28_800, B, 29_400);
-
-pub(crate) const SECOND: Ride = (B, 29_700, C, 30_600);
-
-/// An event on the study's day where everybody may board and alight.
-fn at_time(stop: u32, time: u32) -> Event {
-    let time = DAY.saturating_add(time);
-    at(stop, time, time)
-}
-
-/// The network of so many stops and these rides, if it is one.
-fn network_of(alloc: Global, stops: u32, rides: &[Ride]) -> Result<SmallNetwork, AllocError> {
-    let mut trips = Vec::with_capacity(alloc, rides.len())?;
-    for (from, leaves, to, reaches) in rides {
-        trips.push(trip_of(alloc, &[at_time(*from, *leaves), at_time(*to, *reaches)])?)?;
-    }
-    network_with(alloc, stops, &[], trips)
-}
-
-/// One network of three stops for each scenario's rides.
-pub(crate) fn networks_of(
-    alloc: Global,
-    scenarios: &[&[Ride]],
-) -> Result<Vec<Network>, AllocError> {
-    let mut networks = Vec::with_capacity(alloc, scenarios.len())?;
-    for rides in scenarios {
-        if let Some(network) = network_of(alloc, 3, rides)? {
-            networks.push(Box::into_inner(network))?;
-        }
-    }
-    Ok(networks)
-}
 
 /// The window of so many minutes from a minute of the study's day.
 fn window(minute: u32, minutes: u32) -> Window {

@@ -1,7 +1,8 @@
 //! Runs of workers: the same matrix by one, two and seven of them, and what becomes of it where leases are lost.
 ghost use Rattle.std.specs.Prelude.{◌≤◌};
 
-use crate::rows::{A, B, C, EDITED, EVERY_ROW, has, networks_of, study_of};
+use crate::ride_networks::{A, B, C, networks_of};
+use crate::rows::{EDITED, EVERY_ROW, has, study_of};
 use collector::Matrix;
 use std::sync::Wait;
 use std::sync::atomic::{AtomicU64, Ordering};
@@ -72,7 +73,7 @@ impl Gate for Overlap {
     fn before(&self, lease: &Lease) -> Verdict {
         let mine = (lease.job % 2) as usize;
         self.begun[mine].store(1, Ordering::SeqCst);
-        for _ in 0..100_000_000u64 {
+        for _ in 0..10_000_000_000u64 {
             if self.begun[1 - mine].load(Ordering::SeqCst) == 1 {
                 return Verdict::Work;
             }

@@ -42,7 +42,7 @@ const REFUSED: Answer = Answer::Refused;
 
 // Steps of two seats over two jobs and two tries, in an order that shows each answer. A function, so that the tests'
 // proofs don't compute the whole list.
-fn steps() -> [Step; 12] {
+pub(crate) fn steps() -> [Step; 12] {
     [
         Step::Draw(0),
         Step::Draw(1),
@@ -59,7 +59,8 @@ fn steps() -> [Step; 12] {
     ]
 }
 
-fn answers() -> [Answer; 12] {
+// What they answer.
+pub(crate) fn answers() -> [Answer; 12] {
     [
         FIRST, SECOND, KEPT, THIRD, SETTLED, DOUBLE, FOURTH, NOTHING, REFUSED, KEPT, LOST, REFUSED,
     ]

@@ -1,10 +1,11 @@
 //! Worked examples of offers, of finishing, and of steps of a book and a collector together.
 ghost use Rattle.std.specs.Prelude.{◌≡◌, IfOk};
 
+use crate::book_steps::{answers, steps};
 use collector::{Cells, Collector, CoreAnswer, CoreStep, Matrix, Offer, Row, Unfinished, run_core};
 use std::alloc::{AllocError, Global};
 use std::test::Fail;
-use work_book::{Answer, Book, Lease, Step};
+use work_book::Book;
 
 /// How many shares a row has, and how many cells and access sums each of them.
 #[derive(Clone, Copy)]
@@ -23,13 +24,9 @@ const SIZE: Size = Size {
 
 /// What a share gives that reaches no stop, but for its own.
 fn cells_from(alloc: Global, origin: u32, size: Size) -> Result<Cells, AllocError> {
-    let mut cells = Vec::with_capacity(alloc, size.cells)?;
-    for stop in 0..size.cells {
-        cells.push(if stop == origin as usize {
-            Some(0)
-        } else {
-            None
-        })?;
+    let mut cells = vec![in alloc; None; size.cells]?;
+    if let Some(own) = cells.get_mut(origin as usize) {
+        *own = Some(0);
     }
     Ok(Cells {
         cells,
@@ -169,19 +166,31 @@ fn hands_strangers_back(rt: HostRuntime) {
     assert!(rt; ends(rt.alloc(), 3, &strangers, End::Empty(0, 0)));
 }
 
-/// Whether a row comes back of which only the last share lacks a cell.
-fn hands_back_a_short_share(alloc: Global) -> Result<bool, AllocError> {
-    let mut collector = Collector::new(alloc, 1, 3, 3, 3, 2, 4)?;
+/// Adds a share that lacks a cell.
+fn push_a_short_share(alloc: Global, shares: &mut Vec<Cells>) -> Result<(), AllocError> {
+    shares.push(cells_from(alloc, 0, Size { cells: 2, ..SIZE })?)?;
+    Ok(())
+}
+
+/// A row of which only the last share lacks a cell.
+fn short_row(alloc: Global) -> Result<Row, AllocError> {
     let mut row = row(alloc, 1, 0, 0, Size { shares: 1, ..SIZE })?;
-    row.shares
-        .push(cells_from(alloc, 0, Size { cells: 2, ..SIZE })?)?;
-    Ok(became(&mut collector, row) == Outcome::Stranger)
+    push_a_short_share(alloc, &mut row.shares)?;
+    Ok(row)
+}
+
+/// Whether a row comes back of which only the last share lacks a cell.
+fn hands_back_a_short_share(alloc: Global) -> bool {
+    match (Collector::new(alloc, 1, 3, 3, 3, 2, 4), short_row(alloc)) {
+        (Ok(mut collector), Ok(row)) => became(&mut collector, row) == Outcome::Stranger,
+        _ => false,
+    }
 }
 
 /// `Collector::new`.
 #[test]
 fn hands_a_row_with_a_short_share_back(rt: HostRuntime) {
-    assert!(rt; hands_back_a_short_share(rt.alloc()) == Ok(true));
+    assert!(rt; hands_back_a_short_share(rt.alloc()));
 }
 
 /// `Collector::new`.
@@ -336,69 +345,32 @@ const ONE: Size = Size {
     sums: 1,
 };
 
-/// Steps of two seats over two jobs and two tries, and then a row that seat 1 hands over twice.
-fn steps(alloc: Global) -> Result<Vec<CoreStep>, AllocError> {
-    let mut steps = Vec::new(alloc);
-    for step in [
-        Step::Draw(0),
-        Step::Draw(1),
-        Step::Settle(0, 0),
-        Step::Draw(0),
-        Step::Look(0, 0),
-        Step::Settle(0, 2),
-        Step::Draw(1),
-        Step::Draw(1),
-        Step::Settle(1, 0),
-        Step::Settle(1, 1),
-        Step::Loss(1),
-        Step::Draw(1),
-    ] {
-        if steps.push(CoreStep::Book(step)).is_err() {
+/// Adds the steps of the book alone.
+fn push_book_steps(all: &mut Vec<CoreStep>) -> Result<(), AllocError> {
+    for step in &steps() {
+        if all.push(CoreStep::Book(*step)).is_err() {
             return Err(AllocError);
         }
     }
-    for _ in 0..2 {
-        if steps
-            .push(CoreStep::Hand(1, row(alloc, 1, 0, 1, ONE)?))
-            .is_err()
-        {
-            return Err(AllocError);
-        }
-    }
-    Ok(steps)
+    Ok(())
 }
 
-fn answers() -> [Answer; 12] {
-    [
-        Answer::Lease(Lease {
-            number: 0,
-            job: 0,
-            pass: 0,
-        }),
-        Answer::Lease(Lease {
-            number: 1,
-            job: 1,
-            pass: 0,
-        }),
-        Answer::Kept,
-        Answer::Lease(Lease {
-            number: 2,
-            job: 0,
-            pass: 1,
-        }),
-        Answer::Mark(true),
-        Answer::Double,
-        Answer::Lease(Lease {
-            number: 3,
-            job: 1,
-            pass: 1,
-        }),
-        Answer::Nothing,
-        Answer::Refused,
-        Answer::Kept,
-        Answer::Lost,
-        Answer::Refused,
-    ]
+/// Adds a row that seat 1 hands over.
+fn push_row(alloc: Global, all: &mut Vec<CoreStep>) -> Result<(), AllocError> {
+    let handed = CoreStep::Hand(1, row(alloc, 1, 0, 1, ONE)?);
+    if all.push(handed).is_err() {
+        return Err(AllocError);
+    }
+    Ok(())
+}
+
+/// Steps of two seats over two jobs and two tries, and then a row that seat 1 hands over twice.
+fn core_steps(alloc: Global) -> Result<Vec<CoreStep>, AllocError> {
+    let mut all = Vec::new(alloc);
+    push_book_steps(&mut all)?;
+    push_row(alloc, &mut all)?;
+    push_row(alloc, &mut all)?;
+    Ok(all)
 }
 
 /// Whether the core's answers are those of the book's steps, and then of a row that was handed over twice.
@@ -436,7 +408,7 @@ fn answer_so(
 
 /// Whether a core of two jobs answers as it should, and its book has gone on by four numbers.
 fn core_answers(alloc: Global, book: &mut Book) -> bool {
-    match (Collector::new(alloc, 1, 1, 2, 1, 1, 1), steps(alloc)) {
+    match (Collector::new(alloc, 1, 1, 2, 1, 1, 1), core_steps(alloc)) {
         (Ok(mut collector), Ok(steps)) => {
             answer_so(alloc, book, &mut collector, steps) && book.next() == 4
         }
