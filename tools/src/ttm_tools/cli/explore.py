@@ -97,9 +97,11 @@ def run(args: argparse.Namespace) -> int:
     from ..explore.making import with_generated
     from ..explore.serving import bound, serve
     from ..files import scratch
+    from ..memory import give_back_at_once
     from ..views.page.document import leaflet_files
 
     leaflet_files(options.leaflet)
+    give_back_at_once()
     own = bound(args.port)
     guard = Guard(int(own.getsockname()[1]))
     with own, scratch("explore") as room:

@@ -41,12 +41,13 @@ class SearchNetwork:
         return groups_of(self.stop)
 
     @cached_property
-    def walks_to_vehicles(self) -> tuple[Footpaths, tuple[Places, Places, Places]]:
-        """The walks that end where one can board something, and these by their ends."""
+    def walks_to_vehicles(self) -> tuple[Footpaths, Places, Places]:
+        """The walks that end where one can board something, by their ends; where each end begins, and these ends."""
         boarded = np.zeros(len(self.changes), dtype=np.bool_)
         boarded[self.stop[self.board]] = True
         walks = self.walks.of(boarded[self.walks.end])
-        return walks, groups_of(walks.end)
+        order, begins, ends = groups_of(walks.end)
+        return walks.of(order), begins, ends
 
     def within(self, first: int, last: int) -> "SearchNetwork":
         """What departs, or arrives, between two times; nothing else counts for journeys between them."""
@@ -73,13 +74,14 @@ class SearchNetwork:
         """The least time of each stop at the end of a walk from where others have these times; of a stop where one can
         board nothing NEVER.
         """
-        walks, by_end = self.walks_to_vehicles
-        return least_of(times[walks.begin] + walks.seconds, by_end, len(times))
+        walks, begins, ends = self.walks_to_vehicles
+        return least_of(times[walks.begin] + walks.seconds, begins, ends, len(times))
 
     def carried(self, ready: Narrow) -> Narrow:
         """The least time of each stop at which a ride ends there, if travellers are ready to board at these times."""
+        order, begins, stops = self.events_by_stop
         times = np.where(self.aboard(ready) & self.alight, self.arrive, np.int32(NEVER))
-        return least_of(times, self.events_by_stop, len(ready))
+        return least_of(times[order], begins, stops, len(ready))
 
     def aboard(self, ready: Narrow) -> Mask:
         """Whether somebody who boarded at an event before sits in the vehicle when it comes to an event."""
@@ -105,12 +107,13 @@ def groups_of(keys: Codes) -> tuple[Places, Places, Places]:
     return order, begins, ordered[begins]
 
 
-def least_of(values: Codes, groups: tuple[Places, Places, Places], count: int) -> Narrow:
-    """The least value of each group, NEVER where there is none."""
-    order, begins, keys = groups
+def least_of(values: Codes, begins: Places, keys: Places, count: int) -> Narrow:
+    """The least value of each key, NEVER where there is none: the values stand by their keys, each of which begins
+    somewhere.
+    """
     least = np.full(count, NEVER, np.int32)
     if len(keys):
-        least[keys] = np.minimum(np.minimum.reduceat(values[order], begins), NEVER)
+        least[keys] = np.minimum(np.minimum.reduceat(values, begins), NEVER)
     return least
 
 
