@@ -70,11 +70,12 @@ def test_runs_and_durations_are_those_of_the_feed_that_is_written(
         pytest.skip("the plan that is drawn changes nothing")
     monkeypatch.setattr(search_network, "CHOSEN_AT_ONCE", draw.choice([1, 3, 1 << 16]))
     timetables, plan = planned(drawn, tmp_path)
+    assert plan.files
     whole = read_timetable(read_stops(plan.folder))
     assert [name for part in timetables.parts for name in part.trips] == whole.trips
     date = datetime.datetime.strptime(DATE, "%Y%m%d").date()
     departures = [MIDNIGHT + HALF_AN_HOUR * number for number in range(0, 48, 5)]
-    for path in plan.files or [None]:
+    for path in plan.files:
         edits = read_edits(path)
         parts = [(part, runs_of(part, date, DAYS, edits)) for part in timetables.parts]
         runs = runs_of(whole, date, DAYS, edits)
