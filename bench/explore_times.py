@@ -15,6 +15,7 @@ import statistics
 import subprocess
 import sys
 import threading
+from dataclasses import dataclass
 from pathlib import Path
 from typing import Iterator
 
@@ -159,23 +160,36 @@ def further(size: str, browser: Browser, server: int, folder: Path) -> Iterator[
     """The rows of what isn't asked at each click: two networks at once, and journeys."""
     with watched(server) as most:
         browser.awaited("await routes.undo();")
-    yield row(size, "memory above a run while a network begins, MB", most[0] - run_like(server, folder), None)
+    run = run_like(server, folder)
+    yield row(size, "memory above a run while a network begins, MB", most.whole - run, None)
+    yield row(size, "of it the server itself, MB", most.server, MEMORY)
+    yield row(size, "of it both conversations above a run, MB", most.whole - most.server - run, None)
     for name, change in (("with changes", ""), ("as it is", "await routes.change({ actions: [], walk: live.walk });")):
         script = f"{change} await set({{ place: numbers.columns[5] }}); {JOURNEY}"
         yield row(size, f"a journey of the feed {name}, ms", browser.awaited(script), None)
         above = resident(server) - run_like(server, folder)
-        yield row(size, f"memory above a run with journeys of the feed {name}, MB", above, None)
+        yield row(size, f"memory above a run with journeys of the feed {name}, MB", above, MEMORY)
+
+
+@dataclass
+class Most:
+    """The most memory that was seen, in MB: of a process with those that it began, and of it alone at that moment."""
+
+    whole: int = 0
+    server: int = 0
 
 
 @contextlib.contextmanager
-def watched(server: int) -> Iterator[list[int]]:
-    """While the block runs: MB of a process and of those that it began, at most, each page of memory once."""
-    most, is_over = [0], threading.Event()
+def watched(server: int) -> Iterator[Most]:
+    """While the block runs: memory of a process and of those that it began, at most, each page of memory once."""
+    most, is_over = Most(), threading.Event()
 
     def watch() -> None:
         while not is_over.wait(0.05):
             with contextlib.suppress(OSError):  # of a process that ends
-                most[0] = max(most[0], shared_out(server))
+                whole = shared_out(server)
+                if whole > most.whole:
+                    most.whole, most.server = whole, own_share(server)
 
     watcher = threading.Thread(target=watch)
     watcher.start()
@@ -187,10 +201,14 @@ def watched(server: int) -> Iterator[list[int]]:
 
 
 def shared_out(process: int) -> int:
-    """MB of a process and of those that it began now; what several have in common is shared out among them."""
+    """MB of a process and of those that it began now."""
+    return own_share(process) + sum(map(shared_out, children(process)))
+
+
+def own_share(process: int) -> int:
+    """MB of a process now; what several have in common is shared out among them."""
     lines = Path(f"/proc/{process}/smaps_rollup").read_text().splitlines()
-    own = next((int(line.split()[1]) for line in lines if line.startswith("Pss:")), 0) // 1000
-    return own + sum(map(shared_out, children(process)))
+    return next((int(line.split()[1]) for line in lines if line.startswith("Pss:")), 0) // 1000
 
 
 def row(size: str, what: str, value: float, goal: float | None) -> str:

@@ -12,7 +12,7 @@ from ttm_tools.explore.timetables import timetable_of
 from ttm_tools.gtfs import call_numbers, growing, reading
 from ttm_tools.gtfs.stops import read_stops
 from ttm_tools.gtfs.tables import read_table
-from ttm_tools.gtfs.timetable import read_narrow_timetable, read_timetable
+from ttm_tools.gtfs.timetable import read_timetable
 from ttm_tools.plans.base import read_base, read_taken_base
 
 COLUMNS = ("begins", "stop", "arrive", "depart", "row")
@@ -51,7 +51,7 @@ def test_they_are_those_of_the_table(
 @pytest.mark.parametrize("in_order", [True, False])
 @pytest.mark.parametrize("seed", range(4))
 def test_a_timetable_of_such_numbers_is_that_of_the_table(tmp_path: Path, seed: int, in_order: bool) -> None:
-    """Also the one that explore takes from the feed of its plans."""
+    """The one that explore takes from the feed of its plans."""
     folder, draw = DrawnPlan(seed, tmp_path / "feed").folder, random.Random(seed)
     path = folder / "stop_times.txt"
     header, *lines = path.read_text().splitlines()
@@ -61,11 +61,11 @@ def test_a_timetable_of_such_numbers_is_that_of_the_table(tmp_path: Path, seed: 
     path.write_text("\n".join([f"{header},pickup_type,drop_off_type", *texts, ""]))
     stops = read_stops(str(folder))
     expected, base = read_timetable(stops), read_taken_base(str(folder), [])
-    for found in (read_narrow_timetable(stops), timetable_of(base, stops)):
-        for name in ("begins", "stop", "arrive", "depart", "board", "alight", "earliest", "latest"):
-            assert np.array_equal(getattr(found.events, name), getattr(expected.events, name)), name
-        for name in ("stops", "trips", "routes", "headways", "folder"):
-            assert getattr(found, name) == getattr(expected, name)
+    found = timetable_of(base, stops)
+    for name in ("begins", "stop", "arrive", "depart", "board", "alight", "earliest", "latest"):
+        assert np.array_equal(getattr(found.events, name), getattr(expected.events, name)), name
+    for name in ("stops", "trips", "routes", "headways", "folder"):
+        assert getattr(found, name) == getattr(expected, name)
 
 
 def test_columns_grow_piece_by_piece(monkeypatch: pytest.MonkeyPatch) -> None:

@@ -14,7 +14,8 @@ import pytest
 from helpers import CALENDAR, STOP_TIMES, Room
 from test_damages import damaged
 from ttm_tools.gtfs.stops import read_stops
-from ttm_tools.measures.journeys import NEVER, Leg, Schedule, Search, cell, durations, journey
+from ttm_tools.measures.journeys import Leg, Search, cell, durations, journey
+from ttm_tools.measures.search_network import NEVER, Schedule
 from ttm_tools.gtfs.footpaths import read_walks
 from ttm_tools.gtfs.timetable import read_edits, read_timetable, runs_of
 from ttm_tools.views.itineraries import parts_of

@@ -20,7 +20,8 @@ from ttm_tools import r5py  # noqa: E402
 from ttm_tools.gtfs.footpaths import read_walks  # noqa: E402
 from ttm_tools.gtfs.stops import read_stops  # noqa: E402
 from ttm_tools.gtfs.timetable import Edits, Events, read_timetable, runs_of  # noqa: E402
-from ttm_tools.measures import journeys as search  # noqa: E402
+from ttm_tools.measures.journeys import Search  # noqa: E402
+from ttm_tools.measures.search_network import NEVER, Schedule  # noqa: E402
 from ttm_tools.points.table import Points  # noqa: E402
 from ttm_tools.r5py.doors import stops_in, write_whole  # noqa: E402
 from ttm_tools.r5py.long_walks import LongWalks, reached_directly  # noqa: E402
@@ -87,8 +88,8 @@ def durations(folder: Path, limit: int) -> Any:
     timetable = read_timetable(read_stops(str(folder / "feed")))
     walks, changes = read_walks(timetable, str(folder / "footpaths.csv"), limit)
     runs = runs_of(timetable, DATE, (0, 0), Edits(set(), set(), {}))
-    schedule = search.Schedule(timetable.events, runs, walks, changes, 0)
-    network = schedule.within(0, search.NEVER)
+    schedule = Schedule(timetable.events, runs, walks, changes, 0)
+    network = schedule.within(0, NEVER)
     origins, ends = (
         [timetable.stops.index(name) for name in stops_in(folder / f"{end}.csv")] for end in ("origins", "destinations")
     )
@@ -96,7 +97,7 @@ def durations(folder: Path, limit: int) -> Any:
     for minute in range(4):
         at = 27_000 + 900 * minute
         for row, origin in enumerate(origins):
-            found = search.Search(network, origin, at, RIDES)
+            found = Search(network, origin, at, RIDES)
             arrivals = [found.arrival(end) for end in ends]
             result[minute, row] = [math.inf if arrival is None else arrival - at for arrival in arrivals]
     direct = reached_directly(folder)

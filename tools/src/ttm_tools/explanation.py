@@ -14,7 +14,8 @@ from .faults import BadInput, say
 from .gtfs.stops import Stops, read_stops
 from .files import scratch
 from .matrices import BASE, TODAY, Matrix, open_matrix
-from .measures.journeys import Schedule, Search, cell, durations, journey
+from .measures.journeys import Search, cell, durations, journey
+from .measures.search_network import Schedule
 from .records import shown
 from .gtfs.fields import Whole
 from .gtfs.footpaths import Footpaths, read_walks
@@ -163,15 +164,19 @@ def cells_of(matrix: Matrix, names: Sequence[str], share: int, pairs: Pairs) -> 
 
 def found_in(what: ExplainOptions, name: str, runs: Runs, trips: int, walks: Footpaths, changes: Whole) -> Found:
     """What this search finds in a scenario."""
-    schedule = Schedule(what.timetable.events, runs, walks, changes, what.departures[0])
+    return found_by(what, name, trips, Schedule(what.timetable.events, runs, walks, changes, what.departures[0]))
+
+
+def found_by(what: ExplainOptions, name: str, trips: int, schedule: Schedule) -> Found:
+    """What this search finds among the runs of a schedule."""
     times = durations(schedule, what.origin, what.destination, what.departures, trips)
     seconds = cell(times, what.share)
     if seconds is None:
-        return Found(name, None, times, None, [], runs)
+        return Found(name, None, times, None, [], schedule.runs)
     chosen = times.index(seconds)
     departure = what.departures[chosen]
     search = Search(schedule.within(departure, departure + seconds), what.origin, departure, trips)
-    return Found(name, seconds, times, chosen, journey(search, what.destination), runs)
+    return Found(name, seconds, times, chosen, journey(search, what.destination), schedule.runs)
 
 
 def tell_difference(found: Found, seconds: int | None, origin: str, destination: str) -> None:

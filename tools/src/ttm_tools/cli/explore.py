@@ -24,9 +24,8 @@ has copies of them.
 
 `ttm` keeps the network in memory and answers the page. The page sends requests to nobody else, and only this machine
 can send requests to it: the address has a token that changes with each start. Ctrl-C ends it. Only --out is written to.
-Needs flask, jinja2, pandas and Leaflet from Debian's libjs-leaflet. Memory: that of a run of ttm, 120 MB, and 30 bytes
-for each stop time; a journey takes 30 bytes more for each, and 55 bytes in a network with changes. While a changed
-network starts, there are two networks."""
+Needs flask, jinja2, pandas and Leaflet from Debian's libjs-leaflet. Memory: that of a run of ttm, 100 MB, and 35 bytes
+for each stop time, journeys and changes included. While a changed network starts, `ttm` takes its memory twice."""
 
 
 def describe(parser: argparse.ArgumentParser) -> None:
@@ -97,9 +96,11 @@ def run(args: argparse.Namespace) -> int:
     from ..explore.making import with_generated
     from ..explore.serving import bound, serve
     from ..files import scratch
+    from ..memory import give_back_at_once
     from ..views.page.document import leaflet_files
 
     leaflet_files(options.leaflet)
+    give_back_at_once()
     own = bound(args.port)
     guard = Guard(int(own.getsockname()[1]))
     with own, scratch("explore") as room:

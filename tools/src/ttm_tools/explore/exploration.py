@@ -23,12 +23,13 @@ from ..walks import Pace
 from ..walks.osm import Streets, read_streets
 from . import keeping, planning
 from .changes import Namer, Values
+from .journeys import JourneyQuestion, Journeys
 from .lines import FeedLines
 from .point import Point, Walk, walks_from
 from .question import Question
 from .routes import Routes, routes_of
 from .standing import Plan, Seconds, Standing
-from .timetables import Journeys
+from .timetables import timetable_of
 from .turnstile import Turnstile
 from .options import ExploreOptions
 
@@ -172,15 +173,17 @@ class Exploration:
 
     @cached_property
     def journeys(self) -> Journeys:
-        return Journeys(self.options, lambda: self.base)
+        return Journeys(self.options, lambda: timetable_of(self.base, self.feed_lines.stops))
 
     def journey(
         self, ends: tuple[int, int], scenario: int, window: tuple[str, str], trips: int, share: int
     ) -> dict[str, Any]:
         """The journey from one place to another, leg by leg, and all departures."""
         with self.reading:
-            names = [self.ground.columns[end] for end in ends]
-            return self.journeys.journey(self.standing, self.ground.columns, names, scenario, window, trips, share)
+            standing, columns = self.standing, self.ground.columns
+            named = columns[ends[0]], columns[ends[1]]
+            question = JourneyQuestion(named, standing.scenarios[scenario], window, trips, share)
+            return self.journeys.journey(standing, columns, question)
 
     def save(self, body: Any) -> dict[str, Any]:
         """Writes a study that computes what is shown."""

@@ -18,6 +18,7 @@ from ..plans.writing import write_all, written_of
 from .changes import Values, name_among, scenario_text
 from .lines import FeedLines
 from .standing import Plan
+from .timetables import own_timetable
 
 PLAN, FEED, SCENARIOS = "plan.toml", "feed", "scenarios"
 
@@ -64,4 +65,5 @@ def carried(base: Base, lines: FeedLines, text: str, room: Path, walk: int, acti
         names.remove(f"{TODAY}.csv")
     files = [os.fspath(room / SCENARIOS / name) for name in names]
     lines_said, changes = list(sentences(finished)), lines.changes(written)
-    return Plan(os.fspath(feed), files, walk, actions, text, lines_said, room, changes)
+    trips = own_timetable(written, lines.stops)
+    return Plan(os.fspath(feed), files, walk, actions, text, lines_said, room, trips, changes)

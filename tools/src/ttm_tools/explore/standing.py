@@ -9,6 +9,7 @@ import numpy.typing as npt
 
 from ..engine import Result, matrix
 from ..files import remove
+from ..gtfs.timetable import Timetable
 from ..matrices import BASE, TODAY
 from ..network import Network
 from ..views.page.lines import LineChange
@@ -32,6 +33,7 @@ class Plan:
     text: str  # of the plan of its scenarios; empty where there is none
     sentences: list[str]  # what the plan's actions did
     own: Path | None  # a folder that goes with it
+    trips: Timetable | None = None  # those that the scenarios add; None where they add none
     changes: list[LineChange] = field(default_factory=lambda: [UNCHANGED])  # of the lines, by scenario
 
     @property

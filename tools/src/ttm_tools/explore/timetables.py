@@ -1,139 +1,130 @@
-"""Journeys of the network that answers, by the search of `ttm-tools explain`, with the timetable kept in memory.
+"""The timetable of the network that answers: that of the feed, and that of the trips which a plan adds to it.
 
-The timetable of the feed that is explored is that of its plans; of a changed feed it is read.
+Both are views of what plans hold in memory, so no feed is read again.
 """
 
-from dataclasses import dataclass, replace
-from pathlib import Path
-from typing import Any, Callable, Sequence
+from dataclasses import dataclass
+from functools import cached_property
 
-from ..explanation import found_in, tell_difference, told_of
-from ..engine import Pathlike, Run
+import numpy as np
+
 from ..gtfs.call_numbers import CALLS, CallNumbers
-from ..gtfs.stops import Stops, has_file, read_stops
-from ..measures.journeys import Leg
-from ..memory import give_back
+from ..gtfs.columns import Codes, coded, where
+from ..gtfs.feeds import Feed
+from ..gtfs.fields import Mask, Whole, number
+from ..gtfs.footpaths import Footpaths, closed, direct_walks
+from ..gtfs.stops import Stops
+from ..gtfs.tables import Table, joined, unnumbered
+from ..gtfs.timetable import ALLOWED, NOT_ALLOWED, Events, Runs, Timetable, headways_of, narrow_events
 from ..plans.base import Base
-from ..records import shown
-from ..gtfs.footpaths import read_walks
-from ..gtfs.timetable import DAY, Timetable, headways_of, narrow_events, read_edits, read_narrow_timetable, runs_of
-from ..views.journeys import ExplainOptions, Found, names_of_routes
-from .standing import Standing
-from .options import ExploreOptions
+from ..plans.new_records import new_days, timed, together
+from ..plans.writing import Written
+
+CALENDARS, DATES = "calendar.txt", "calendar_dates.txt"
 
 
-@dataclass
-class Kept:
-    """What was read of a feed."""
+@dataclass(frozen=True)
+class Timetables:
+    """The timetable of a feed, and behind it that of a plan's own trips if there are any; both have the same stops."""
 
-    version: int
+    parts: list[Timetable]
+    footpaths: str | None  # the file
+    limit: int  # seconds, the longest walk
+
+    @property
+    def stops(self) -> list[str]:
+        return self.parts[0].stops
+
+    @cached_property
+    def called(self) -> Mask:
+        """At which stops vehicles call."""
+        called = np.zeros(len(self.stops), dtype=np.bool_)
+        for part in self.parts:
+            called[part.events.stop] = True
+        return called
+
+    @cached_property
+    def from_called(self) -> tuple[Footpaths, Whole]:
+        """The walks from these stops, and the change time at each stop."""
+        direct, changes = self.direct()
+        return closed(direct, self.limit, self.called), changes
+
+    def direct(self) -> tuple[Footpaths, Whole]:
+        return direct_walks(self.parts[0], self.footpaths, self.limit)
+
+    def walks(self, start: int) -> tuple[Footpaths, Whole]:
+        """The walks of journeys from a stop, and the change time at each stop."""
+        if self.called[start]:
+            return self.from_called
+        direct, changes = self.direct()
+        begins = self.called.copy()
+        begins[start] = True
+        return closed(direct, self.limit, begins), changes
+
+
+@dataclass(frozen=True)
+class Ran:
+    """A run of a trip of some timetable, which is one of a schedule's."""
+
     timetable: Timetable
-    routes: dict[str, str]  # what people call them
+    trip: int  # its number
+    shift: int  # seconds that are added to the trip's times
 
 
-class Journeys:
-    """Finds journeys, one after another."""
-
-    def __init__(self, options: ExploreOptions, base: Callable[[], Base]) -> None:
-        self.options, self.base = options, base
-        self.kept: Kept | None = None
-
-    def of(self, standing: Standing) -> Kept:
-        """The timetable of a network's feed."""
-        if self.kept is None or self.kept.version != standing.version:
-            self.kept, folder = None, standing.plan.folder
-            routes = names_of_routes(folder) if has_file(folder, "routes.txt") else {}
-            stops = read_stops(folder)
-            is_feed = Path(folder) == Path(self.options.feed)
-            timetable = timetable_of(self.base(), stops) if is_feed else read_narrow_timetable(stops)
-            self.kept = Kept(standing.version, timetable, routes)
-            give_back()
-        return self.kept
-
-    def journey(
-        self,
-        standing: Standing,
-        columns: Sequence[str],
-        ends: Sequence[str],
-        scenario: int,
-        window: tuple[str, str],
-        trips: int,
-        share: int,
-    ) -> dict[str, Any]:
-        """A journey and all departures; an error where `ttm` has another travel time."""
-        kept, options, name = self.of(standing), self.options, standing.scenarios[scenario]
-        files: dict[str, Pathlike] = {} if options.footpaths is None else {"footpaths": options.footpaths}
-        run = Run(standing.plan.folder, options.date, window, trips, standing.plan.walk, (share,), files=files)
-        run = replace(run, back=options.back, ahead=options.ahead)
-        begin, end = map(kept.timetable.stops.index, ends)
-        walks, changes = read_walks(kept.timetable, options.footpaths, standing.plan.walk, begin)
-        first, last = (60 * int(text[:2]) + int(text[3:]) for text in window)
-        departures = [DAY * options.back + 60 * minute for minute in range(first, last + 1)]
-        explain_options = ExplainOptions(
-            kept.timetable, begin, end, departures, options.back, share, told_of(run, options.date)
-        )
-        path = next((path for path in standing.plan.files if path.endswith(f"/{name}.csv")), None)
-        runs = runs_of(kept.timetable, options.date, (options.back, options.ahead), read_edits(path))
-        found = found_in(explain_options, name, runs, trips, walks, changes)
-        times = standing.ask(ends[0], window, trips, [share]).times(standing.plan.name_of(name))
-        seconds = times.at[ends[0], ends[1]]
-        tell_difference(found, None if seconds != seconds else int(seconds), *ends)
-        numbers = {stop: number for number, stop in enumerate(columns)}
-        return as_json(explain_options, found, kept, [numbers.get(stop, -1) for stop in kept.timetable.stops])
+def run_of(parts: list[tuple[Timetable, Runs]], run: int) -> Ran:
+    """A run by its number among those of all parts."""
+    for timetable, runs in parts:
+        if run < len(runs.trip):
+            return Ran(timetable, int(runs.trip[run]), int(runs.shift[run]))
+        run -= len(runs.trip)
+    raise AssertionError("no part has the run")
 
 
 def timetable_of(base: Base, all_stops: Stops) -> Timetable:
-    """The timetable of the feed that plans begin from."""
+    """The timetable of the feed that plans begin from, among its stops and those of the plan."""
     calls = CallNumbers(base.begins, base.row, base.stop, base.arrive, base.depart, base.records)
-    events, stops = narrow_events(calls, base.feed.tables[CALLS]), base.places.identifiers[: base.old_stops]
+    events, stops = narrow_events(calls, base.feed.tables[CALLS]), base.places.identifiers
     return Timetable(base.feed, all_stops, stops, base.trips, base.routes, events, headways_of(base.feed, base.trips))
 
 
-def as_json(options: ExplainOptions, found: Found, kept: Kept, places: Sequence[int]) -> dict[str, Any]:
-    """What the page shows of it; stops by their numbers there."""
-    journey: dict[str, Any] = {
-        "cell": found.cell,
-        "durations": found.durations,
-        "departures": [options.clock(departure)[:-3] for departure in options.departures],
-        "chosen": found.chosen,
-        "legs": [],
+def own_timetable(written: Written, all_stops: Stops) -> Timetable | None:
+    """The timetable of the trips that a plan's scenarios add, as they are written; None where they add none."""
+    base, own = written.base, written.own
+    if not own:
+        return None
+    columns = {
+        "route_id": coded(one.route for one in own),
+        "service_id": coded(one.trip.service for one in own),
+        "trip_id": coded(one.name for one in own),
     }
-    if found.chosen is not None:
-        time = options.departures[found.chosen]
-        for leg in found.legs:
-            journey["legs"].append(leg_as_json(options, found, kept, places, leg, time))
-            time = leg.finish
-    return journey
+    tables = {"trips.txt": Table("trips.txt", columns, unnumbered(len(own)))}
+    tables[DATES] = joined(base.feed.get(DATES), new_days(base, own))
+    if CALENDARS in base.feed.tables:
+        tables[CALENDARS] = base.feed.tables[CALENDARS]
+    headways = {
+        place: [(row.start, row.end, row.seconds) for row in one.trip.headways]
+        for place, one in enumerate(own)
+        if one.trip.headways
+    }
+    trips, routes = [one.name for one in own], [one.route for one in own]
+    feed = Feed(base.feed.name, tables)
+    return Timetable(feed, all_stops, base.places.identifiers, trips, routes, own_events(written), headways)
 
 
-def leg_as_json(
-    options: ExplainOptions, found: Found, kept: Kept, places: Sequence[int], leg: Leg, time: int
-) -> dict[str, Any]:
-    """A leg, whose traveller is at its start at a time."""
-    fields: dict[str, Any] = {
-        "from": places[leg.start],
-        "to": places[leg.end],
-        "begin": options.clock(leg.begin),
-        "end": options.clock(leg.finish),
-        "seconds": leg.finish - leg.begin,
-        "via": [places[leg.start], places[leg.end]],
-    }
-    if leg.run is None:
-        return fields
-    timetable, trip = kept.timetable, int(found.runs.trip[leg.run])
-    route, events = timetable.routes[trip], timetable.events
-    moved = int(found.runs.shift[leg.run])
-    own = range(int(events.begins[trip]), int(events.begins[trip + 1]))
-    on = [
-        event
-        for event in own
-        if leg.begin <= events.depart[event] + moved and events.arrive[event] + moved <= leg.finish
-    ]
-    more = {
-        "route": kept.routes.get(route, shown(route)),
-        "trip": shown(timetable.trips[trip]),
-        "change": leg.change,
-        "wait": leg.begin - time - leg.change,
-        "via": [places[int(events.stop[event])] for event in on],
-    }
-    return {**fields, **more}
+def own_events(written: Written) -> Events:
+    """The events of these trips."""
+    base, own = written.base, written.own
+    begins = np.cumsum([0, *(len(one.trip.stop) for one in own)])
+    stop, row = (together([getattr(one.trip, name) for one in own]) for name in ("stop", "row"))
+    arrive, depart = (together([timed(one.trip, name) for one in own]) for name in ("arrive", "depart"))
+    board, alight = (allowed(base.feed.tables[CALLS], name, row) for name in ALLOWED)
+    times = arrive.astype(base.arrive.dtype), depart.astype(base.depart.dtype)
+    return Events(begins, stop.astype(base.stop.dtype), *times, board, alight)
+
+
+def allowed(table: Table, name: str, rows: Codes) -> Mask:
+    """What records of stop_times.txt say of boarding or alighting: it is allowed where there is no record."""
+    found = np.ones(len(rows), dtype=np.bool_)
+    stated = np.flatnonzero(rows >= 0)
+    found[stated] = where(table[name].at(rows[stated]), lambda text: number(text) != NOT_ALLOWED)
+    return found

@@ -1,4 +1,4 @@
-"""The calls of a feed that `ttm` takes, as numbers of four bytes each, read some records at a time.
+"""The calls of a feed that `ttm` takes, as numbers of two or four bytes each, read some records at a time.
 
 `calls_of` reads the whole file as a table first, which takes several times as much memory.
 """
@@ -13,7 +13,7 @@ import numpy.typing as npt
 
 from ..records import names_of
 from .calls import Calls
-from .columns import Texts, column_of, constant, empty, positions_of, times_of, values_of
+from .columns import Codes, Texts, column_of, constant, empty, positions_of, times_of, values_of
 from .fields import Narrow, Whole, number
 from .growing import Growing
 from .reading import ODD, Columns, known_codes, ways_to_read
@@ -31,7 +31,7 @@ class CallNumbers:
 
     begins: Whole  # where the calls of each trip begin, and behind the last one how many there are
     rows: Narrow | range  # of each call the place of its record
-    stop: Narrow  # a place among the stops
+    stop: Codes  # a place among the stops
     arrive: Narrow  # seconds
     depart: Narrow
     records: int  # of the file
@@ -42,7 +42,7 @@ class Stated:
     """What records state of calls, one number for each record."""
 
     trip: Narrow  # -1 for one that isn't there
-    stop: Narrow  # -1 for one that isn't there, NO_STOP where none is named
+    stop: Codes  # -1 for one that isn't there, NO_STOP where none is named
     sequence: npt.NDArray[np.uint32]
     arrive: Narrow  # -2 where there is no time
     depart: Narrow
@@ -127,6 +127,7 @@ class CallReader:
         self, path: Path, trips: Sequence[str], stops: Mapping[str, int], others: Sequence[str] | None = None
     ) -> None:
         self.path, self.count, self.stops = path, len(trips), dict(stops)
+        self.kind = np.min_scalar_type(min(NO_STOP, -len(stops)))  # of the places of stops
         self.trips = {name: place for place, name in enumerate(trips)}
         there = names_of(path)
         self.others = [name for name in there if name not in NAMES and (others is None or name in others)]
@@ -170,7 +171,7 @@ class CallReader:
         first, last = (times_of(column(name)) for name in ("arrival_time", "departure_time"))
         sequence = np.maximum(values_of(piece["stop_sequence"], number), 0).astype(np.uint32)
         arrive, depart = np.where(first >= 0, first, last), np.where(last >= 0, last, first)
-        return Stated(narrow(trip), narrow(stop), sequence, narrow(arrive), narrow(depart))
+        return Stated(narrow(trip), stop.astype(self.kind), sequence, narrow(arrive), narrow(depart))
 
 
 def narrow(numbers: npt.NDArray[Any]) -> Narrow:

@@ -13,7 +13,7 @@ from .tables import Table
 from .timetable import Timetable
 
 NO_CHANGE = 16_777_216  # seconds: a change time that lets nobody change
-AT_ONCE = 1 << 20  # walks that are lengthened at once, about
+AT_ONCE = 1 << 18  # walks that are lengthened at once, about
 NO_STOP, SEVERAL = -1, -2
 Ends = Mapping[str, Sequence[int]]  # the stops that an end of a stated walk stands for
 

@@ -7,19 +7,18 @@ import datetime
 import os
 from dataclasses import dataclass
 from functools import cached_property
-from pathlib import Path
 from typing import Callable, Sequence
 
 import numpy as np
 
 from ..records import rows
-from .call_numbers import CALLS, CallNumbers, CallReader
+from .call_numbers import CallNumbers
 from .calls import begins_of, calls_of
 from .columns import Codes, one_of, positions_of, times_of, values_of, where
 from .feeds import Feed, read_files
 from .fields import Mask, Whole, number
 from .service_days import services_on
-from .stops import Stops, in_folder
+from .stops import Stops
 from .tables import Table
 
 DAY = 86_400
@@ -87,17 +86,6 @@ def read_timetable(all_stops: Stops) -> Timetable:
     trips, routes = (feed.tables["trips.txt"].texts(name) for name in ("trip_id", "route_id"))
     events = events_of(feed.tables.pop("stop_times.txt"), trips, stops)
     return Timetable(feed, all_stops, stops, trips, routes, events, headways_of(feed, trips))
-
-
-def read_narrow_timetable(all_stops: Stops) -> Timetable:
-    """The same by numbers of four bytes, some records at a time: it takes 14 bytes for each stop time, not 190."""
-    folder = os.path.dirname(all_stops.path)
-    feed = read_files(folder, [name for name in FILES_READ if name != CALLS])
-    stops = [name for name, kind in zip(all_stops.identifiers, all_stops.kinds.tolist()) if kind == 0]
-    trips, routes = (feed.tables["trips.txt"].texts(name) for name in ("trip_id", "route_id"))
-    numbers = {name: place for place, name in enumerate(stops)}
-    calls, table = CallReader(Path(in_folder(folder, CALLS)), trips, numbers, ALLOWED).read()
-    return Timetable(feed, all_stops, stops, trips, routes, narrow_events(calls, table), headways_of(feed, trips))
 
 
 def narrow_events(calls: CallNumbers, table: Table) -> Events:

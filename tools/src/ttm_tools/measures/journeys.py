@@ -10,132 +10,12 @@ from dataclasses import dataclass
 from functools import cached_property
 
 import numpy as np
-import numpy.typing as npt
 
-from ..gtfs.fields import Mask, Whole
-from ..gtfs.footpaths import Footpaths
-from ..gtfs.timetable import Events, Runs
+from ..gtfs.fields import Narrow
+from .search_network import NEVER, Schedule, SearchNetwork
 
-NEVER = 1 << 40
 AT_ONCE = 30  # departures that share a part of the network
 NEAR = (5400, 4 * 3600)  # seconds after the last departure that are looked at first
-FEW = 1 << 16  # stops, which numpy puts in order by counting
-Places = npt.NDArray[np.intp]
-
-
-@dataclass(frozen=True)
-class SearchNetwork:
-    """Events of runs on the axis of times, run after run, and how one walks and changes."""
-
-    run: Whole  # of each event the run, ascending
-    begin: Whole  # of each event the place of its run's first event that is there
-    stop: Whole
-    arrive: Whole
-    depart: Whole
-    board: Mask
-    alight: Mask
-    walks: Footpaths
-    changes: Whole  # seconds at each stop
-
-    @cached_property
-    def events_by_stop(self) -> tuple[Places, Places, Places]:
-        return groups_of(self.stop)
-
-    @cached_property
-    def walks_to_vehicles(self) -> tuple[Footpaths, tuple[Places, Places, Places]]:
-        """The walks that end where one can board something, and these by their ends."""
-        boarded = np.zeros(len(self.changes), dtype=np.bool_)
-        boarded[self.stop[self.board]] = True
-        walks = self.walks.of(boarded[self.walks.end])
-        return walks, groups_of(walks.end)
-
-    def within(self, first: int, last: int) -> "SearchNetwork":
-        """What departs, or arrives, between two times; nothing else counts for journeys between them."""
-        return self.only((self.depart >= first) & (self.arrive <= last))
-
-    def taken_by(self, search: "Search") -> "SearchNetwork":
-        """What somebody can take who sets out later than in a search of this network: no journey has anything else."""
-        ready = search.ready(search.ridden[-2])
-        kept = self.aboard(ready) | (self.board & (ready[self.stop] <= self.depart))
-        return self.only(kept)
-
-    def only(self, kept: Mask) -> "SearchNetwork":
-        """Some events alone."""
-        run, stop, board, alight = self.run[kept], self.stop[kept], self.board[kept], self.alight[kept]
-        times = self.arrive[kept], self.depart[kept]
-        return SearchNetwork(run, first_of_each(run), stop, *times, board, alight, self.walks, self.changes)
-
-    def mirrored(self) -> "SearchNetwork":
-        """The same with time running backwards: a journey becomes one from its end to its start."""
-        run, stop, board, alight = self.run[::-1], self.stop[::-1], self.alight[::-1], self.board[::-1]
-        times = -self.depart[::-1], -self.arrive[::-1]
-        walks = Footpaths(self.walks.end, self.walks.begin, self.walks.seconds)
-        return SearchNetwork(run, first_of_each(run), stop, *times, board, alight, walks, self.changes)
-
-    def walked(self, times: Whole) -> Whole:
-        """The least time of each stop at the end of a walk from where others have these times; of a stop where one can
-        board nothing NEVER.
-        """
-        walks, by_end = self.walks_to_vehicles
-        return least_of(times[walks.begin] + walks.seconds, by_end, len(times))
-
-    def carried(self, ready: Whole) -> Whole:
-        """The least time of each stop at which a ride ends there, if travellers are ready to board at these times."""
-        return least_of(np.where(self.aboard(ready) & self.alight, self.arrive, NEVER), self.events_by_stop, len(ready))
-
-    def aboard(self, ready: Whole) -> Mask:
-        """Whether somebody who boarded at an event before sits in the vehicle when it comes to an event."""
-        count = np.arange(len(self.stop))
-        caught = np.maximum.accumulate(np.where(self.board & (ready[self.stop] <= self.depart), count, -1))
-        ridden: Mask = np.concatenate([[-1], caught[:-1]])[: len(count)] >= self.begin
-        return ridden
-
-
-def first_of_each(run: Whole) -> Whole:
-    """Of each event the place of the first one of its run."""
-    new = np.concatenate([[True], run[1:] != run[:-1]])[: len(run)]
-    firsts: Whole = np.maximum.accumulate(np.where(new, np.arange(len(run)), 0))
-    return firsts
-
-
-def groups_of(keys: Whole) -> tuple[Places, Places, Places]:
-    """An order by keys, which are places of stops, where each key begins in it, and these keys."""
-    order = np.argsort(keys.astype(np.uint16) if keys.max(initial=0) < FEW else keys, kind="stable")
-    ordered = keys[order]
-    begins = np.flatnonzero(np.concatenate([[True], ordered[1:] != ordered[:-1]])[: len(ordered)])
-    return order, begins, ordered[begins]
-
-
-def least_of(values: Whole, groups: tuple[Places, Places, Places], count: int) -> Whole:
-    """The least value of each group, NEVER where there is none."""
-    order, begins, keys = groups
-    least = np.full(count, NEVER, np.int64)
-    if len(keys):
-        least[keys] = np.minimum(np.minimum.reduceat(values[order], begins), NEVER)
-    return least
-
-
-@dataclass(frozen=True)
-class Schedule:
-    """All runs of some days from a time on, how one walks, and how one changes."""
-
-    events: Events  # of trips
-    runs: Runs
-    walks: Footpaths
-    changes: Whole  # seconds at each stop
-    first: int
-
-    def within(self, first: int, last: int) -> SearchNetwork:
-        """The network of what departs, or arrives, between two times."""
-        first, trip, shift, events = max(first, self.first), self.runs.trip, self.runs.shift, self.events
-        chosen = np.flatnonzero((events.latest[trip] + shift >= first) & (events.earliest[trip] + shift <= last))
-        lengths = events.counts[trip[chosen]]
-        run, begins = np.repeat(chosen, lengths), np.cumsum(lengths) - lengths
-        place = np.arange(len(run)) + np.repeat(events.begins[trip[chosen]] - begins, lengths)
-        times = events.arrive[place] + shift[run], events.depart[place] + shift[run]
-        places = np.repeat(begins, lengths), events.stop[place]
-        allowed = events.board[place], events.alight[place]
-        return SearchNetwork(run, *places, *times, *allowed, self.walks, self.changes).within(first, last)
 
 
 @dataclass(frozen=True)
@@ -150,19 +30,24 @@ class Search:
     rides: int
 
     @cached_property
-    def ridden(self) -> list[Whole]:
-        times = np.full(len(self.network.changes), NEVER, np.int64)
+    def ridden(self) -> list[Narrow]:
+        times = np.full(len(self.network.changes), NEVER, np.int32)
         times[self.origin] = self.departure
         rounds = [times]
         for _ in range(self.rides):
             rounds.append(np.minimum(rounds[-1], self.network.carried(self.ready(rounds[-1]))))
         return rounds
 
-    def ready(self, times: Whole) -> Whole:
+    def ready(self, times: Narrow) -> Narrow:
         """When one is ready to board: after the change time, or after a walk at once, as at the start."""
-        times_ready = np.minimum(np.minimum(times + self.network.changes, self.network.walked(times)), NEVER)
+        changed = np.minimum(times + self.network.changes, NEVER).astype(np.int32)
+        times_ready: Narrow = np.minimum(changed, self.network.walked(times))
         times_ready[self.origin] = min(times_ready[self.origin], self.departure)
         return times_ready
+
+    def taken(self) -> SearchNetwork:
+        """What somebody can take who sets out later: no journey of theirs has anything else of this network."""
+        return self.network.taken_by(self.ready(self.ridden[-2]))
 
     def arrival(self, stop: int) -> int | None:
         """The least time at which a journey ends at a stop."""
@@ -227,7 +112,7 @@ def ridden_to(search: Search, stop: int, rides: int) -> list[Leg]:
     return [*ridden_to(search, start, rides - 1), *walk, ride]
 
 
-def way_to(search: Search, times: Whole, stop: int, departure: int) -> tuple[int, int]:
+def way_to(search: Search, times: Narrow, stop: int, departure: int) -> tuple[int, int]:
     """From where, and by how many seconds of walking, one is ready at a stop in time, the least walk first."""
     stays = times[stop] == search.departure and stop == search.origin
     if stays or times[stop] + search.network.changes[stop] <= departure:
@@ -254,9 +139,8 @@ def durations(schedule: Schedule, origin: int, stop: int, departures: list[int],
 
 def between(network: SearchNetwork, origin: int, departure: int, stop: int, arrival: int, rides: int) -> SearchNetwork:
     """What somebody can take who sets out at a departure or later, and arrives at a time or earlier."""
-    network = network.taken_by(Search(network, origin, departure, rides))
-    back = network.mirrored()
-    return back.taken_by(Search(back, stop, -arrival, rides)).mirrored()
+    network = Search(network, origin, departure, rides).taken()
+    return Search(network.mirrored(), stop, -arrival, rides).taken().mirrored()
 
 
 def arriving(schedule: Schedule, origin: int, stop: int, departures: list[int], rides: int) -> tuple[int, int]:
@@ -271,7 +155,7 @@ def arriving(schedule: Schedule, origin: int, stop: int, departures: list[int], 
     found = first.arrival(stop)
     if found is None:
         return 0, 0
-    network, low, high = network.taken_by(first), 0, len(departures) - 1  # `low` gets there
+    network, low, high = first.taken(), 0, len(departures) - 1  # `low` gets there
     while low < high:
         place = (low + high + 1) // 2
         arrival = Search(network, origin, departures[place], rides).arrival(stop)

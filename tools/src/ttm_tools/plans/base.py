@@ -15,7 +15,7 @@ import numpy as np
 from ..faults import BadInput
 from ..gtfs.call_numbers import CALLS, CallNumbers, CallReader, narrow
 from ..gtfs.calls import begins_of, calls_of
-from ..gtfs.columns import positions_of, values_of
+from ..gtfs.columns import Codes, positions_of, values_of
 from ..gtfs.feeds import Feed, is_stop, read_feed, read_folder
 from ..gtfs.fields import MOST_STOPS, Floats, Narrow, Whole, date, number, time
 from ..gtfs.service_days import MOST_DAYS, Days, days_of, ordinals
@@ -76,7 +76,7 @@ class Base:
     routes: list[str]  # of each trip
     services: list[str]
     begins: Whole  # where each trip's calls begin, and behind the last one how many there are
-    stop: Narrow  # of each call, a place among the stops
+    stop: Codes  # of each call, a place among the stops
     arrive: Narrow
     depart: Narrow
     row: Narrow | range  # the record of stop_times.txt

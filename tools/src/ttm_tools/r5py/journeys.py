@@ -13,6 +13,7 @@ from ..faults import BadInput
 from ..gtfs.stops import read_stops
 from ..measures import journeys as search
 from ..measures.journeys import Leg
+from ..measures.search_network import Schedule
 from ..network import Network
 from ..gtfs.footpaths import Footpaths, read_walks
 from ..gtfs.timetable import DAY, Edits, Runs, Timetable, read_timetable, runs_of
@@ -46,7 +47,7 @@ class JourneySearch:
         first = DAY * BACK + 60 * task.times.first
         self.departures = [first + 60 * minute for minute in range(task.times.count)]
         walks = with_direct(walks, doors, self.places)
-        self.whole = search.Schedule(self.timetable.events, self.runs, walks, changes, first)
+        self.whole = Schedule(self.timetable.events, self.runs, walks, changes, first)
 
     def between(self, origin: str, destination: str) -> list[Journey]:
         """The journeys from one place to another, by their departures."""
