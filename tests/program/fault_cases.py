@@ -255,7 +255,7 @@ def explained(name: str, *rows: tuple[str, str, str, str]) -> list[Case]:
 
 
 NINES = "123456789_" * 6
-NAME_IT = "it must be in stops.txt, as a stop (location_type 0 or empty)"
+NAME_IT = "stops.txt has to name it, as a stop (location_type 0 or empty)"
 EXPLAINED = [
     *explained(
         "identifiers that are empty, or given twice",
@@ -269,13 +269,13 @@ EXPLAINED = [
             "stops.txt",
             "stop_id,stop_name\nA,Alpha\nA,Beta\n",
             "stops.txt: record 3: duplicate id",
-            'column stop_id is "A"; an earlier record has the same',
+            'column stop_id is "A"; a record before has the same',
         ),
         (
             "routes.txt",
             "route_id\nR1\nR1\n",
             "routes.txt: record 3: duplicate id",
-            'column route_id is "R1"; an earlier record has the same',
+            'column route_id is "R1"; a record before has the same',
         ),
         (
             "trips.txt",
@@ -296,13 +296,13 @@ EXPLAINED = [
             "trips.txt",
             TRIPS + "R9,MON,T1\n",
             "trips.txt: record 2: unknown route",
-            'column route_id is "R9"; it must be in routes.txt',
+            'column route_id is "R9"; routes.txt has to name it',
         ),
         (
             "stop_times.txt",
             TIMES + "T9,08:00:00,08:00:00,A,1\n",
             "stop_times.txt: record 2: unknown trip",
-            'column trip_id is "T9"; it must be in trips.txt',
+            'column trip_id is "T9"; trips.txt has to name it',
         ),
         (
             "stop_times.txt",
@@ -314,13 +314,13 @@ EXPLAINED = [
             "transfers.txt",
             TRANSFERS + "A,Z,2,60\n",
             "transfers.txt: record 2: unknown stop",
-            'column to_stop_id is "Z"; it must be in stops.txt',
+            'column to_stop_id is "Z"; stops.txt has to name it',
         ),
         (
             "footpaths.csv",
             WALKS + "Y,Z,60\n",
             "footpaths.csv: record 2: unknown stop",
-            'column from_stop_id is "Y"; it must be in stops.txt',
+            'column from_stop_id is "Y"; stops.txt has to name it',
         ),
         (
             "origins.csv",
@@ -335,7 +335,7 @@ EXPLAINED = [
             "stops.txt",
             "stop_id,location_type\nA,x\n",
             "stops.txt: record 2: bad number",
-            'column location_type is "x"; it is empty or a number: digits only, 0 to 4294967295',
+            'column location_type is "x"; it is empty or a number: digits alone, 0 to 4294967295',
         ),
         (
             "calendar.txt",
@@ -359,13 +359,13 @@ EXPLAINED = [
             "transfers.txt",
             TRANSFERS + "A,B,2,1.5\n",
             "transfers.txt: record 2: bad number",
-            'column min_transfer_time is "1.5"; a number has digits only, 0 to 4294967295',
+            'column min_transfer_time is "1.5"; a number is digits alone, 0 to 4294967295',
         ),
         (
             "opportunities.csv",
             "stop_id,opportunities\nA,-1\n",
             "opportunities: record 2: bad number",
-            'column opportunities is "-1"; a number has digits only, 0 to 4294967295',
+            'column opportunities is "-1"; a number is digits alone, 0 to 4294967295',
         ),
     ),
     *explained(
@@ -386,7 +386,7 @@ EXPLAINED = [
             "stop_times.txt",
             TIMES + "T1,08:00:00,08:00:00,A,one\n",
             "stop_times.txt: record 2: bad number",
-            'column stop_sequence is "one"; a number has digits only, 0 to 4294967295',
+            'column stop_sequence is "one"; a number is digits alone, 0 to 4294967295',
         ),
         (
             "stop_times.txt",
@@ -457,7 +457,7 @@ EXPLAINED = [
             "cut.csv",
             ACTIONS + "remove_trip,T9,\n",
             "scenario cut: record 2: unknown trip",
-            'column id is "T9"; it must be in trips.txt',
+            'column id is "T9"; trips.txt has to name it',
         ),
         (
             "cut.csv",

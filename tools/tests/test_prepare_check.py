@@ -72,13 +72,13 @@ def test_all_faults_are_told_at_once_in_the_order_of_ttm(feed: Room) -> None:
         "ttm: stop_times.txt: record 4: no time",
         "ttm: frequencies.txt: record 2: bad number",
     ]
-    message = "it is empty or a number: digits only, 0 to 4294967295; 2 times: records 5, 7"
+    message = "it is empty or a number: digits alone, 0 to 4294967295; 2 times: records 5, 7"
     assert lines[1] == f'  column location_type is "1.0"; {message}'
     single = (feed.folder / "faults.csv").read_text().splitlines()
     assert single[0] == "file,record,column,value,fault,allowed"
     assert single[3:5] == [
         "stops.txt,7,stop_id,,empty id,it may not be empty",
-        'stops.txt,7,location_type,x,bad number,"it is empty or a number: digits only, 0 to 4294967295"',
+        'stops.txt,7,location_type,x,bad number,"it is empty or a number: digits alone, 0 to 4294967295"',
     ]
 
 

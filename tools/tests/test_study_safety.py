@@ -317,7 +317,7 @@ def test_scenarios_of_long_and_like_names_have_files_of_their_own(place: Place) 
         shutil.copyfile(place.path("cut.csv"), place.path(f"{name}.csv"))
     _, said, status = place.ran("study", place.path("nine.toml"))
     assert status == 0, said
-    assert f"files of {'x' * 245} are called {'x' * 80}_" in said
+    assert f"files of {'x' * 245} are named {'x' * 80}_" in said
     result = sorted(path.name for path in (place.folder / "nine").glob("compare_*"))
     assert len(result) == 6
 

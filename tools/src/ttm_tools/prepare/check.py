@@ -15,10 +15,10 @@ from ..gtfs.fields import FILES, WEEKDAYS, Mask, Whole, date, number, time
 from ..gtfs.tables import Table, no_table
 
 ID = "it may not be empty"
-ONCE = "an earlier record has the same"
-STOP = "it must be in stops.txt, as a stop (location_type 0 or empty)"
-NUMBER = "a number has digits only, 0 to 4294967295"
-OPEN_NUMBER = "it is empty or a number: digits only, 0 to 4294967295"
+ONCE = "a record before has the same"
+STOP = "stops.txt has to name it, as a stop (location_type 0 or empty)"
+NUMBER = "a number is digits alone, 0 to 4294967295"
+OPEN_NUMBER = "it is empty or a number: digits alone, 0 to 4294967295"
 TIME = "a time is H:MM:SS, 0:00:00 to 167:59:59"
 BACK = "no departure before the arrival, and no arrival before the departure before it"
 TOO_MANY, TOO_LONG, UNREAD = "too many", "too long", "read fault"
@@ -109,7 +109,7 @@ def unread_in(feed: Feed) -> Iterator[Fault]:
     """The folders that stand in the places of files: `ttm` reads all files before it looks at one."""
     none = np.zeros(0, np.int64)
     for name, path in feed.unread.items():
-        allowed = "it must be a file, and is a folder"
+        allowed = "a file has to be there, and it is a folder"
         yield Fault(no_table(name, path), UNREAD, "", allowed, none, none, True)
 
 
@@ -122,13 +122,13 @@ def faults_in(feed: Feed, name: str) -> list[Fault]:
         optional = ("calendar_dates.txt", "frequencies.txt", "transfers.txt")
         if name in optional or (name == "calendar.txt" and "calendar_dates.txt" in feed.tables):
             return []
-        allowed = "the file must exist" + (", or calendar_dates.txt" if name == "calendar.txt" else "")
+        allowed = "the file has to be there" + (", or calendar_dates.txt" if name == "calendar.txt" else "")
         return [Fault(table, "missing file", "", allowed, none, none, missing=True)]
     if table.source is not None and table.source.stat().st_size > fields.MOST_BYTES:
         return [Fault(table, TOO_LONG, "", "a file has at most 1,073,741,824 bytes", none, none)]
     lacking = [column for column in FILES[name].needed if column not in table]
     if lacking:
-        allowed = f"the header must have {', '.join(lacking)}"
+        allowed = f"the header has to name {', '.join(lacking)}"
         return [Fault(table, "missing column", "", allowed, none, none)]
     checks = Checks(table)
     CHECKS[name](feed, checks)
@@ -178,7 +178,7 @@ def check_calendar_dates(_: Feed, checks: Checks) -> None:
 def check_trips(feed: Feed, checks: Checks) -> None:
     checks.few(fields.MOST_TRIPS)
     checks.filled("route_id")
-    checks.named("route_id", "unknown route", names_in(feed, "routes.txt", "route_id"), "it must be in routes.txt")
+    checks.named("route_id", "unknown route", names_in(feed, "routes.txt", "route_id"), "routes.txt has to name it")
     checks.filled("service_id")
     checks.filled("trip_id")
     checks.once("trip_id")
@@ -186,7 +186,7 @@ def check_trips(feed: Feed, checks: Checks) -> None:
 
 def named_trips(feed: Feed, checks: Checks) -> None:
     checks.filled("trip_id")
-    checks.named("trip_id", "unknown trip", names_in(feed, "trips.txt", "trip_id"), "it must be in trips.txt")
+    checks.named("trip_id", "unknown trip", names_in(feed, "trips.txt", "trip_id"), "trips.txt has to name it")
 
 
 def check_stop_times(feed: Feed, checks: Checks) -> None:
@@ -222,7 +222,7 @@ def check_transfers(feed: Feed, checks: Checks) -> None:
     used = used_transfers(table)
     for column in ("from_stop_id", "to_stop_id"):
         names = names_in(feed, "stops.txt", "stop_id")
-        checks.named(column, "unknown stop", names, "it must be in stops.txt", but=~used)
+        checks.named(column, "unknown stop", names, "stops.txt has to name it", but=~used)
     wrong = values_of(table["min_transfer_time"], number) == fields.NONE
     checks.add("min_transfer_time", "bad number", NUMBER, used & wrong)
 
