@@ -5,7 +5,8 @@ to do with what was planted in other bodies. An edit is refused where the check 
 proved. Where it says that a function has no proof, since one that it calls isn't proved, the edit waits for the next
 check; so does one whose function or text another edit has taken. What can't be decided so (an edit of a constant or a
 definition, or of one of two functions of one name) is tried alone: then the crate must not be proved. An edit that the
-prover can't read is not refused, and no edit is where the crate isn't proved without any.
+prover can't read is not refused, and no edit is where the crate isn't proved without any. Where a proof only names a
+goal that the edit took away, such as one that has an operator in its name, the refusal says little, and this is said.
 
 Standard library only.
 """
@@ -22,6 +23,8 @@ PROVED, REFUSED, WAITS, UNKNOWN = "proved", "refused", "waits", "unknown"
 VERDICT = re.compile(r"(fn|impl) (\S+): (proved|not proved|no proof: expected answers|no proof: it calls)\b")
 LOGIC = re.compile(r"logic=(proved|not-proved)\b")
 ERROR = re.compile(r"(?:\./)?(?:src|specs)/\S+:\d+:\d+: error(\[[\w-]+\])?: (?:(`[^`]*`): )?(.*)")
+OF_PROOF = re.compile(r"(?:note: )?(?:\./)?proofs/(\S+)/\w+\.antt:\d+:\d+: (.*)")
+NAMES_ONLY = re.compile(r"has no field|is not in scope|has no `|was not admitted")
 UNREADABLE = re.compile(r"is not in scope|has no field|is no name|operand is missing|expected the end|cannot continue")
 
 Texts = Callable[[str], str]
@@ -140,6 +143,14 @@ def verdict_of(crate: str, edit: Edit, lines: list[str]) -> str:
     return {"proved": PROVED, "no proof: it calls": WAITS}.get(verdicts[0], REFUSED)
 
 
+def is_by_name(edit: Edit, lines: list[str]) -> bool:
+    """Whether all that a check finds in the proofs of the edit's function are names that the edit took away."""
+    module, function = edit.function or ("", "")
+    folder = re.compile(re.escape(module.replace("::", "/")) + r"(/\w+)?/" + re.escape(function))
+    found = [match[2] for match in map(OF_PROOF.match, lines) if match and folder.fullmatch(match[1])]
+    return bool(found) and all(NAMES_ONLY.search(text) for text in found)
+
+
 def logic_of(lines: list[str]) -> str | None:
     """The logic's verdict on the crate; none where the check came to none."""
     found = [match[1] for match in map(LOGIC.match, lines) if match]
@@ -148,14 +159,19 @@ def logic_of(lines: list[str]) -> str | None:
 
 @dataclass
 class Outcome:
-    """What came of a crate's edits: the names of those refused, and why each other one wasn't."""
+    """What came of a crate's edits: the names of those refused, of these those by a missing name alone, and why each
+    other one wasn't.
+    """
 
     crate: str
     refused: list[str] = field(default_factory=list)
+    by_name: list[str] = field(default_factory=list)
     others: dict[str, str] = field(default_factory=dict)
 
     def tell(self) -> None:
         sentences = [f"{self.crate}/{name}: NOT REFUSED: {why}" for name, why in self.others.items()]
+        why = "refused only because a proof names what it took away: change a value and keep the names"
+        sentences += [f"{self.crate}/{name}: {why}" for name in self.by_name]
         count = len(self.refused) + len(self.others)
         print("\n".join([*sentences, f"{self.crate}: {len(self.refused)} of {count} edits refused"]), flush=True)
 
@@ -166,6 +182,7 @@ class Trial:
     def __init__(self, folder: Path, jobs: int) -> None:
         self.folder, self.crate, self.jobs = folder, folder.name, jobs
         self.base: dict[str, str] = {}
+        self.by_name: list[str] = []
 
     def texts(self, file: str) -> str:
         if file not in self.base:
@@ -211,6 +228,8 @@ class Trial:
             half = len(chosen) // 2
             return self.together(chosen[:half]) + self.together(chosen[half:])
         for edit, verdict in verdicts.items():
+            if verdict == REFUSED and is_by_name(edit, lines):
+                self.by_name.append(edit.name)
             if verdict in (PROVED, UNKNOWN):
                 edit.function = None
         return [edit for edit, verdict in verdicts.items() if verdict == REFUSED]
@@ -238,4 +257,5 @@ class Trial:
                 outcome.others[edit.name] = why
             else:
                 outcome.refused.append(edit.name)
+        outcome.by_name = self.by_name
         return outcome

@@ -33,6 +33,9 @@ try)
     fi ;;
 check)
     if grep -q 'count + [2-9]' src/lib.rt; then
+        if grep -q 'count + 9' src/lib.rt; then
+            echo 'proofs/lib/bump/Answers.antt:7:46: error: module `Goals` has no `then-count`'
+        fi
         echo "fn $crate::bump: not proved"
         echo "logic=not-proved"
     else
@@ -173,6 +176,13 @@ def test_a_planted_bug_that_proves_fails(small: Gate) -> None:
     run = small.run("--planted")
     assert (run.status, run.lines[-1]) == (1, "4 passed, 1 failed")
     assert "one/lib.bump.turned_round.edit: NOT REFUSED: the crate is still proved with it" in run.lines
+
+
+def test_a_refusal_by_a_missing_name_alone_is_said(small: Gate) -> None:
+    small.repository.write("crates/one/planted/lib.bump.nine_more.edit", PROVES.replace("1 + count", "count + 9"))
+    run = small.run("--planted", "one")
+    said = [line for line in run.lines if "only because a proof names" in line]
+    assert (run.status, len(said)) == (0, 1) and said[0].startswith("one/lib.bump.nine_more.edit: ")
 
 
 def test_the_prover_refuses_what_it_should(
