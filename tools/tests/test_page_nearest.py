@@ -30,7 +30,7 @@ def schools(town: Town) -> list[str]:
 
 def test_the_time_to_the_nearest_is_that_of_the_matrix(town: Town, browser: Browser) -> None:
     browser.open(page(town, *schools(town)), "view=access&scenario=base&of=nearest+schools&within=0")
-    assert browser.text("heading") == "Time to the nearest: schools"
+    assert browser.text("heading") == "Time to the nearest: school"
     # from A 300 seconds to B, from D 600 to C
     assert browser.text("told") == "base: reached from 2 of 2 places, from half of these within 5 min."
     assert browser.key() == {"up to 10 min": "2", "not an origin of the matrix": "2"}

@@ -174,15 +174,16 @@ function classesOfOrigins(classes, otherwise) {
   return all;
 }
 
-/** The least and the most access of a measure in all scenarios, so that classes stay where scenarios are switched. */
+/** The least and the most access of a measure in all scenarios, so that classes stay where scenarios are switched; and
+    whether all of it is whole numbers. */
 function spanOf(measure) {
-  let [least, most] = [Infinity, -Infinity];
+  let [least, most, whole] = [Infinity, -Infinity, true];
   for (let scenario = 0; scenario < head.scenarios.length; scenario++) {
     for (const access of accessOf(scenario, state.share, measure)) {
-      [least, most] = [Math.min(least, access), Math.max(most, access)];
+      [least, most, whole] = [Math.min(least, access), Math.max(most, access), whole && Number.isInteger(access)];
     }
   }
-  return [least, most];
+  return [least, most, whole];
 }
 
 /** Takes a place as the one from which travel times are shown, where no addition takes it for something else. */
