@@ -44,6 +44,14 @@ def test_the_time_to_the_nearest_is_that_of_the_matrix(town: Town, browser: Brow
     assert browser.complaints() == []
 
 
+def test_a_page_opens_at_the_nearest_where_it_has_that(town: Town, browser: Browser) -> None:
+    path = page(town, *schools(town))
+    browser.open(path)
+    assert browser.text("heading") == "Time to the nearest: school" and "of=nearest+schools" in browser.address()
+    browser.open(path, "view=access&of=schools")
+    assert browser.text("heading").startswith("Access: schools within ")
+
+
 def test_the_difference_says_who_waits_longer_for_the_nearest(town: Town, browser: Browser) -> None:
     arguments = "view=access&scenario=cut&difference=1&of=nearest+schools&within=1&from=A"
     browser.open(page(town, *schools(town)), arguments)

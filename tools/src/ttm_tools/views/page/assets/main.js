@@ -271,7 +271,8 @@ function readAddress() {
   state.share = place(head.shares.map(String), "share", Math.floor((head.shares.length - 1) / 2));
   state.place = place(head.identifiers, "from", -1);
   state.minutes = minutes >= 1 && minutes <= MOST_MINUTES ? minutes : head.minutes;
-  state.of = names[place(names, "of", 0)] ?? "";
+  const sought = head.measures.findIndex((measure) => measure.nearest !== null);
+  state.of = names[place(names, "of", Math.max(0, sought))] ?? ""; // who asked for the nearest wants to see it first
   const limits = head.measures.filter((it) => it.of === state.of).map((it) => it.seconds);
   const first = Math.max(0, limits.indexOf(60 * head.minutes));
   state.within = words.has("within") ? Math.max(0, Math.round(Number(words.get("within"))) || 0) : first;
