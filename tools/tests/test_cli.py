@@ -83,6 +83,15 @@ def test_wrong_words_have_the_status_2(town: Town) -> None:
         assert errors.splitlines()[-1].startswith("ttm-tools"), arguments
 
 
+def test_no_words_at_all_list_the_commands() -> None:
+    ran = launched()
+    lines = ran.stderr.decode().splitlines()
+    assert (ran.returncode, ran.stdout) == (2, b"")
+    assert lines[-1] == "ttm-tools: error: the following arguments are required: COMMAND"
+    assert {line.split()[0] for line in lines if line.startswith("    ") and line.split()} >= set(cli.COMMANDS)
+    assert "a feed that ttm reads, from published feeds" in ran.stderr.decode()
+
+
 def test_a_range_is_told_with_its_unit() -> None:
     ran = launched("compare", "--share", "101", "m.csv")
     assert ran.returncode == 2

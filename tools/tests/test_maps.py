@@ -8,6 +8,7 @@ import numpy as np
 import pytest
 
 from helpers import CALENDAR, STOP_TIMES, TOWN, Table, Town, read, town_matrix
+from ttm_tools.faults import counted, singular
 from ttm_tools.gtfs.lines import lines_of, pieces, read_trips, removed_trips
 from ttm_tools.gtfs.stops import Projection, read_stops
 
@@ -16,6 +17,7 @@ matplotlib = pytest.importorskip("matplotlib")
 from matplotlib.figure import Figure  # noqa: E402
 
 from ttm_tools.views import drawing  # noqa: E402
+from ttm_tools.views.pictures import labels_of_counts  # noqa: E402
 
 
 def figure(town: Town, monkeypatch: pytest.MonkeyPatch, *arguments: str) -> tuple[list[str], str, list[str]]:
@@ -54,10 +56,37 @@ def test_access_in_round_numbers(town: Town, monkeypatch: pytest.MonkeyPatch) ->
     assert figure(town, monkeypatch, "access")[0][0] == "Access from each stop: opportunities"
 
 
+def test_classes_of_whole_numbers_end_at_the_last_of_them() -> None:
+    assert labels_of_counts((1, 2)) == ["less than 1", "1", "2 and more"]
+    assert labels_of_counts((10, 20, 1000, 2000)) == [
+        "less than 10",
+        "10 to 19",
+        "20 to 999",
+        "1,000 to 1,999",
+        "2,000 and more",
+    ]
+    assert labels_of_counts((0.5, 1, 2)) == ["less than 0.5", "0.5 to 1", "1", "2 and more"]
+
+
+def test_one_is_named_in_the_singular() -> None:
+    for plural, one in (("jobs", "1 job"), ("primary schools", "1 primary school"), ("opportunities", "1 opportunity")):
+        assert (counted(1, plural), counted(2000, plural)) == (one, f"2,000 {plural}")
+    for plural, one in (("churches", "church"), ("boxes", "box"), ("access", "access"), ("Arbeit", "Arbeit")):
+        assert singular(plural) == one
+    assert counted(0, "jobs") == "0 jobs"
+
+
+def test_a_note_without_a_full_stop_gets_one(town: Town, monkeypatch: pytest.MonkeyPatch) -> None:
+    town.matrix(town_matrix(True))
+    for note, written in (("two vehicles", "two vehicles."), ("Why?", "Why?"), ("One. ", "One.")):
+        texts, *_ = figure(town, monkeypatch, "access", "--note", note)
+        assert f"stop. {written} In brackets: number of stops." in texts[2].replace("\n", " ")
+
+
 def test_the_difference_of_access(town: Town, monkeypatch: pytest.MonkeyPatch) -> None:
     town.matrix(town_matrix(True))
     texts, _, classes = figure(town, monkeypatch, "difference")
-    message = "Of 2 stops 1 loses, 1 gains; the greatest loss: 33 % (1 opportunities) at Alpha (A)"
+    message = "Of 2 stops 1 loses, 1 gains; the greatest loss: 33 % (1 opportunity) at Alpha (A)"
     assert texts[1] == message
     lost, gained = "25 % or more lost  (1)", "25 % or more gained  (1)"
     assert classes[:3] == [lost, gained, "not an origin of the matrix  (2)"]

@@ -94,15 +94,16 @@ def test_a_map_of_the_nearest(small: Town, monkeypatch: pytest.MonkeyPatch) -> N
 
     arguments = ["--opportunities", small.path("schools.csv")]
     texts, key, classes = figure(small, monkeypatch, "nearest", *arguments)
-    message = "From 3 of 3 stops this number is reached, from half of these within 30 minutes"
-    assert texts[:2] == ["Travel time to the nearest schools", message] and key.startswith("Travel time in minutes")
+    message = "3 of 3 stops reach at least 1 school, half of these within 30 minutes"
+    assert texts[:2] == ["Travel time to the nearest school", message] and key.startswith("Travel time in minutes")
     assert classes[:2] == ["up to 10  (1)", "20 to 30  (2)"]
     texts, _, classes = figure(small, monkeypatch, "difference", "--nearest", "1", *arguments)
-    assert texts[0] == "Travel time to the nearest schools: cut compared with base"
+    assert texts[0] == "Travel time to the nearest school: cut compared with base"
     assert texts[1] == "Of 3 stops 2 cut off, 0 slower, 0 faster"
     assert classes[:2] == ["cut off: not reached now  (2)", "less than 1 min either way  (1)"]
     texts, *_ = figure(small, monkeypatch, "nearest", "--nearest", "11", "--opportunities", small.path("jobs.csv"))
-    assert texts[:2] == ["Travel time to the 11 nearest jobs", message.replace("3 of 3", "2 of 3")]
+    message = message.replace("3 of 3", "2 of 3").replace("1 school", "11 jobs")
+    assert texts[:2] == ["Travel time to the 11 nearest jobs", message]
 
 
 def test_a_map_of_the_nearest_needs_to_know_of_what(small: Town) -> None:

@@ -30,7 +30,7 @@ def schools(town: Town) -> list[str]:
 
 def test_the_time_to_the_nearest_is_that_of_the_matrix(town: Town, browser: Browser) -> None:
     browser.open(page(town, *schools(town)), "view=access&scenario=base&of=nearest+schools&within=0")
-    assert browser.text("heading") == "Time to the nearest: schools"
+    assert browser.text("heading") == "Time to the nearest: school"
     # from A 300 seconds to B, from D 600 to C
     assert browser.text("told") == "base: reached from 2 of 2 places, from half of these within 5 min."
     assert browser.key() == {"up to 10 min": "2", "not an origin of the matrix": "2"}
@@ -42,6 +42,14 @@ def test_the_time_to_the_nearest_is_that_of_the_matrix(town: Town, browser: Brow
     bars = browser.run("return [...document.querySelectorAll('#histogram title')].map((it) => it.textContent)")
     assert [bar.split(": ")[1] for bar in bars if not bar.endswith(": 0 residents")] == ["7 residents"]
     assert browser.complaints() == []
+
+
+def test_a_page_opens_at_the_nearest_where_it_has_that(town: Town, browser: Browser) -> None:
+    path = page(town, *schools(town))
+    browser.open(path)
+    assert browser.text("heading") == "Time to the nearest: school" and "of=nearest+schools" in browser.address()
+    browser.open(path, "view=access&of=schools")
+    assert browser.text("heading").startswith("Access: schools within ")
 
 
 def test_the_difference_says_who_waits_longer_for_the_nearest(town: Town, browser: Browser) -> None:

@@ -466,6 +466,15 @@ FAULTS = [
         "line 5: route 'R@new' can't be the name of a new route: a scenario's name follows an @",
     ),
     ('name = "x"', "line 3: do needed"),
+    (
+        'do = "headway"\nroute = "R"\ntimes = 2',
+        'line 3: from needed; from = "00:00", to = "30:00" takes the whole day',
+    ),
+    (
+        'do = "headway"\nroute = "R"\ntimes = 2\nfrom = "00:00"',
+        'line 3: to needed; from = "00:00", to = "30:00" takes the whole day',
+    ),
+    ('do = "headway"\nroute = "R"\nevery = 600', "line 3: from needed"),
 ]
 
 

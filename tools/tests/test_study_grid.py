@@ -44,6 +44,17 @@ def test_the_cells_are_those_of_points_with_a_grid(place: Place) -> None:  # noq
     assert place.ran("study", "--verify", place.path("nine"))[2] == 0
 
 
+def test_people_outside_all_cells_are_a_warning_of_the_report(place: Place) -> None:  # noqa: F811
+    path = laid_out(place, '[opportunities]\ncolumns = ["doctors"]\ngroups = ["residents"]\n')
+    place.say((place.folder / "nine.toml").read_text() + "bands = [1]\n")
+    rows = [["a", 50, 7, 2, 0], ["b", 50.032, 7, 5, 1], ["far", 51, 7, 3, 0]]  # three live 111 km away
+    place.write("addresses.csv", "id,lat,lon,residents,doctors", rows)
+    assert place.ran("study", path)[2] == 0
+    report = Path(place.path("nine/report.md")).read_text().replace("\\", "")
+    assert f"Warnings: {place.path('addresses.csv')}: 3 of 10 residents are outside all cells" in report
+    assert "People by number of opportunities (bands.csv); percentages are of the people in cells" in report
+
+
 def test_cells_are_the_end_that_no_file_names(place: Place) -> None:  # noqa: F811
     more = 'destinations = ["doctors.csv"]\n[opportunities]\ngroups = ["residents"]\n'
     assert place.ran("study", laid_out(place, more))[2] == 0

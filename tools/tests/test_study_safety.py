@@ -273,6 +273,20 @@ def test_inputs_that_change_while_ttm_runs_end_the_stage(
     assert (said.splitlines()[-1], status) == (f"ttm-tools study: {line}", 1)
 
 
+@pytest.mark.parametrize("is_absolute", [False, True])
+def test_verification_finds_a_changed_source_by_its_path_as_the_study_gives_it(place: Place, is_absolute: bool) -> None:
+    given = place.path("jobs.csv") if is_absolute else "jobs.csv"
+    path = place.lay_out(NO_MAPS.replace('"jobs.csv"', f'"{given}"'))
+    assert place.ran("study", path)[2] == 0
+    _, said, status = place.ran("study", "--verify", place.path("nine"), "--seed", "7")
+    assert status == 0 and "no longer exist" not in said
+    place.write("jobs.csv", "stop_id,jobs,schools", [[stop, 1, 1] for stop in STOPS])
+    _, said, status = place.ran("study", "--verify", place.path("nine"), "--seed", "7")
+    source = given if is_absolute else "../jobs.csv"
+    line = f"{source}: has another checksum than study.json says: it was changed since the study read it"
+    assert (said.splitlines()[-1], status) == (f"ttm-tools study: {line}", 1)
+
+
 def test_verification_tells_files_beside_the_stated_ones_and_sources_that_are_gone(place: Place) -> None:
     assert place.ran("study", place.lay_out(NO_MAPS))[2] == 0
     (place.folder / "nine/maps").mkdir()

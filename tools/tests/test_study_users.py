@@ -72,6 +72,17 @@ def test_people_at_points_that_are_left_out_are_told(place: Place) -> None:  # n
     assert status == 0 and "not counted, at points that are left out: 4 residents" in errors
 
 
+def test_points_without_a_stop_in_reach_are_a_warning_of_the_report(place: Place) -> None:  # noqa: F811
+    path = doors(place)
+    place.write("schools.csv", "id,lat,lon,schools", [["s0", 50.032, 7, 1], ["west", 50, 6, 1]])
+    place.write("people.csv", "id,residents", [["h0", 3], ["h1", 4]])
+    place.say((place.folder / "nine.toml").read_text() + 'bands = [1]\n[opportunities]\npeople = "people.csv"\n')
+    assert place.ran("study", path)[2] == 0
+    report = report_of(place).replace("\\", "")
+    assert "Warnings: 1 point without a stop in reach: west\n" in report
+    assert "People by number of opportunities (bands.csv); percentages are of the people at the origins" in report
+
+
 @pytest.mark.parametrize(
     "name, header, rows, message",
     [

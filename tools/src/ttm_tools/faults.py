@@ -86,6 +86,19 @@ def quantity(count: int, noun: str) -> str:
     return f"{count:,} {noun}{'' if count == 1 else 's'}"
 
 
+def singular(name: str) -> str:
+    """The name of one of what a name counts: `job` for `jobs`; other names than plain plurals stay as they are."""
+    for ending, one in (("ies", "y"), ("sses", "ss"), ("ches", "ch"), ("shes", "sh"), ("xes", "x")):
+        if name.endswith(ending):
+            return name.removesuffix(ending) + one
+    return name if not name.endswith("s") or name.endswith(("ss", "us", "is")) else name[:-1]
+
+
+def counted(count: int, name: str) -> str:
+    """A number of what a name counts: `1 job`, `2,000 jobs`."""
+    return f"{count:,} {singular(name) if count == 1 else name}"
+
+
 def some(names: Sequence[str], most: int = 4) -> str:
     """A few of many names, for a fault's line, and how many there are more."""
     more = len(names) - most

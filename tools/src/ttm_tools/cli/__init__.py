@@ -103,7 +103,11 @@ def main(arguments: Sequence[str] | None = None) -> int:
     """The command's exit status: 0 the whole result, 1 bad input, 2 wrong arguments, 3 out of memory, 128 and a
     signal's number where that ended it.
     """
-    args, unknown = parser_of().parse_known_args(arguments)
+    parser = parser_of()
+    if not (sys.argv[1:] if arguments is None else arguments):
+        parser.print_help(sys.stderr)
+        parser.exit(2, "ttm-tools: error: the following arguments are required: COMMAND\n")
+    args, unknown = parser.parse_known_args(arguments)
     if unknown:
         args.parser.error(f"unrecognized arguments: {' '.join(unknown)}")
     if arguments is None:

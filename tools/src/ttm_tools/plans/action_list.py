@@ -90,11 +90,11 @@ LISTED = (
         (*CHOICE, "every", "times", "from", "to"),
         "route .., every (seconds), from, to: departures from the first time on, before the second; copies of a"
         " typical trip, which is printed, replace the trips that leave in between. With times = 2 instead of every, a"
-        " copy of each trip is added halfway to the next departure",
+        " copy of each trip is added halfway to the next departure; from 00:00 to 30:00 is the whole day",
         "copies of a typical trip, one `every` number of seconds, replace the trips that leave from `from` to strictly"
         " before `to`. In each direction the typical trip, which is printed, has the median running time of the pattern"
-        " with the most departures there. With `times = 2` instead of `every` all trips stay, and a copy of each is"
-        " added halfway to the next departure from the same stop",
+        " with the most departures there. With `times = 2` in place of `every`, all trips stay, and a copy of each is"
+        ' added halfway to the next departure from the same stop; `from = "00:00"`, `to = "30:00"` takes the whole day',
         '`route = "R2"`, `every = 300`, from 08:10 to 08:20: T2 is replaced by B 08:10, C 08:25 and B 08:15, C 08:30',
         "headways.headway",
     ),

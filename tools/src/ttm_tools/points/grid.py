@@ -20,6 +20,7 @@ from .table import AREAS, Points, plain, read_frame, read_points, text_of
 MOST_CELLS = 65_535  # stops and points that `ttm` takes
 MOST_TRIED = 2_000_000  # squares of a bounding box
 POLYGONS = ("Polygon", "MultiPolygon")
+OUTSIDE = "outside all cells"
 PATH = "grid"  # what faults name in place of a file
 Squares = npt.NDArray[np.int64]
 
@@ -166,7 +167,7 @@ def filled(grid: Grid, paths: Sequence[str]) -> tuple[Points, list[str]]:
 def sentences_on_outside(path: str, names: Sequence[str], lost: Floats, totals: Floats) -> list[str]:
     """How much of each column lies in no cell."""
     return [
-        f"{path}: {plain(round(outside, 3))} of {plain(round(total, 3))} {shown(name)} are outside all cells"
+        f"{path}: {plain(round(outside, 3))} of {plain(round(total, 3))} {shown(name)} are {OUTSIDE}"
         for name, outside, total in zip(names, lost.tolist(), totals.tolist())
         if outside > 1e-6 * max(total, 1)
     ]

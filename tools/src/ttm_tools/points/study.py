@@ -28,6 +28,7 @@ from .table import Points, plain
 MOST_STOPS, MOST_PAIRS = 65_535, 4_000_000  # that `ttm` takes
 FEED, POINTS, WORDS, LABELS, FOOTPATHS = "feed", "points.csv", "words.txt", "labels.csv", "footpaths.csv"
 SCENARIOS, NEW_STOPS = "scenarios", "new_stops.csv"  # of a plan, in its feed's folder
+UNREACHED = "without a stop in reach"
 HELPS, HELPS_AFTER = "use --leave-out for points without a stop in reach, or ", "take parts of the region"
 PLACE = ("stop_name", "stop_lat", "stop_lon")
 WalkFinder = Callable[[Stops, int | None], Walks]  # of the first stops with all alone, if their number is given
@@ -183,7 +184,7 @@ def sentences_on_reach(study: PointStudy, near: Flags, left_out: bool) -> Iterat
     """The points from which no stop is in reach."""
     lost = [shown(study.points.identifiers[place]) for place in np.flatnonzero(~near).tolist()]
     if lost:
-        yield f"{quantity(len(lost), 'point')} without a stop in reach{', left out' if left_out else ''}: {some(lost)}"
+        yield f"{quantity(len(lost), 'point')} {UNREACHED}{', left out' if left_out else ''}: {some(lost)}"
 
 
 def write_feed(folder: Path, feed: str, points: Points) -> None:

@@ -20,6 +20,7 @@ from .settings import Study
 ORIGINS, OPPORTUNITIES = "inputs/origins.csv", "inputs/opportunities.csv"
 COUNTED, PEOPLE = "inputs/counted/opportunities.csv", "inputs/people.csv"
 OF_POINTS = "point of the study"
+NOT_COUNTED = "not counted, at"
 
 
 def columns_or_none(path: str) -> list[str]:
@@ -97,7 +98,7 @@ def counts_stage(
         whole = read_counts(tables, every, kind, columns)
         counts = at(every, stops, whole)
         write_counts(study.folder / COUNTED, stops, counts)
-        lost = sentences_on_lost(whole, counts, "not counted, at places where no journey ends")
+        lost = sentences_on_lost(whole, counts, f"{NOT_COUNTED} places where no journey ends")
         return [f"{COUNTED}: {', '.join(map(shown, counts.names))} at {len(stops):,} places", *lost]
 
     facts = {"stops": stops_sum, "columns": list(columns), "ends": list(stops), "own": own, "inputs": sources.sums}
@@ -116,7 +117,7 @@ def people_stage(study: Study, origins: Record, path: str) -> Stage:
         whole = read_counts([path], every, "origin of the study", groups)
         counts = at(every, names, whole)
         write_counts(study.folder / PEOPLE, names, counts)
-        lost = sentences_on_lost(whole, counts, "not counted, at points that are left out")
+        lost = sentences_on_lost(whole, counts, f"{NOT_COUNTED} points that are left out")
         return [f"{PEOPLE}: {', '.join(map(shown, counts.names))} at {len(names):,} origins", *lost]
 
     facts = {"origins": origins.outputs, "groups": groups, "inputs": sources.sums}

@@ -7,8 +7,11 @@ from pathlib import Path
 from typing import Iterator, Sequence
 
 from ..measures.access_table import read_access
+from ..points.grid import OUTSIDE
+from ..points.study import UNREACHED
 from ..records import records as records_in, shown
 from .areas import AREAS
+from .counted import NOT_COUNTED
 from .document import Document
 from .maps import StudyMap, maps_of
 from .page import PAGE
@@ -75,12 +78,18 @@ def report_of(whole: StudyMatrix, records: Records) -> Document:
         lines = Path(whole.at(path)).read_text(encoding="utf-8").splitlines()
         document.code(lines)
         warnings += [line for line in lines if line.startswith("warning") and line not in warnings]
+    warnings += [line for record in inputs.records.values() for line in record.lines if is_warning(line)]
     document.paragraph("Warnings: " + ("; ".join(warnings) if warnings else "none."))
     document.heading("What is proved, and what isn't")
     for text in PROVED:
         document.paragraph(text)
     document.code(list(whole.version))
     return document
+
+
+def is_warning(line: str) -> bool:
+    """Whether a line on the inputs names people, jobs or points that the figures miss."""
+    return any(sign in line for sign in (OUTSIDE, UNREACHED, NOT_COUNTED))
 
 
 def file_names_of(study: Study) -> list[str]:
@@ -111,7 +120,8 @@ def write_figures(document: Document, whole: StudyMatrix, records: Records) -> N
     for name, caption in OF_PEOPLE.items():
         if name in records:
             header, *lines = all_rows(whole.at(f"{name}.csv"))
-            document.table(f"{caption} ({name}.csv)", [as_phrase(column) for column in header], lines)
+            of = f"; {percent_of(study)}" if "percent" in header else ""
+            document.table(f"{caption} ({name}.csv){of}", [as_phrase(column) for column in header], lines)
             for path in (output for output in records[name].outputs if output.endswith(".png")):
                 document.picture(path, f"{caption}: {shown(Path(path).stem)}")
     write_windows(document, whole, records)
@@ -124,6 +134,12 @@ def write_figures(document: Document, whole: StudyMatrix, records: Records) -> N
         document.paragraph("The pictures are also files in the folder maps.")
         for picture in maps_of(whole):
             document.picture(picture.file, f"{picture.kind}, {shown(picture.scenario)}" + told_of(picture))
+
+
+def percent_of(study: Study) -> str:
+    """Of whom percentages are."""
+    is_grid = study.points.grid is not None and not study.points.origins
+    return f"percentages are of the people {'in cells' if is_grid else 'at the origins'}"
 
 
 def told_of(drawn: StudyMap) -> str:

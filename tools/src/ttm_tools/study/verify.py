@@ -36,7 +36,8 @@ def verify(folder: Path, seed: int | None, workers: int) -> None:
         sweep(study.path, inside_parts=False)
         with as_one_line(folder / NOTES, "isn't as a study writes it"):
             files = {name: was for stage in notes["stages"].values() for name, was in stage["files"].items()}
-            sources = {f"{notes.get('sources_in', '..')}/{name}": was for name, was in notes["sources"].items()}
+            given_from = notes.get("sources_in", "..")
+            sources = {os.path.join(given_from, name): was for name, was in notes["sources"].items()}
         with study.shown_in_faults():
             refuse_changed(study, files)
             say(f"checksums: {len(files)} files are as {NOTES} says", *unstated(study, files))

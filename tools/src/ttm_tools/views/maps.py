@@ -95,7 +95,13 @@ def lines_below(
     else:
         lines = lines_of_plan(points, folder, shaped, sheet.planned)
     drawn_from = "Lines as in shapes.txt." if shaped else "Lines drawn straight from stop to stop."
-    return lines, f"{drawn_from} {sheet.note}".strip()
+    return lines, f"{drawn_from} {as_sentence(sheet.note)}".strip()
+
+
+def as_sentence(text: str) -> str:
+    """A text that another sentence may follow: with a full stop, unless it ends in a sign of its own."""
+    text = text.rstrip()
+    return text if not text or text.endswith((".", "!", "?", ":", ";", "\u2026", "\u3002")) else f"{text}."
 
 
 def figure_of_isochrones(matrix: Matrix, stops: Stops, folder: str, sheet: Sheet, areas: Areas) -> Any:

@@ -5,6 +5,7 @@ from dataclasses import dataclass, replace
 
 import numpy as np
 
+from ..faults import singular
 from ..gtfs.fields import Floats
 from ..gtfs.stops import Stops
 from ..matrices import Matrix, Share, pair_of
@@ -43,7 +44,11 @@ class Nearest:
 
     def label(self) -> str:
         """As it stands in a title."""
-        return f"nearest {shown(self.name)}" if self.count == 1 else f"{self.count:g} nearest {shown(self.name)}"
+        return f"nearest {self.thing()}" if self.count == 1 else f"{self.count:g} nearest {self.thing()}"
+
+    def thing(self) -> str:
+        """What is looked for, in the singular if it is one."""
+        return singular(shown(self.name)) if self.count == 1 else shown(self.name)
 
     def seconds(self, matrix: Matrix, scenario: str, share: Share) -> Floats:
         """The time to it from each origin, NaN where fewer are reached."""
@@ -66,9 +71,9 @@ def picture_of_nearest(matrix: Matrix, options: PictureOptions, what: Nearest) -
     seconds = what.seconds(matrix, scenario, share)
     marks, classes = classes_of_minutes(seconds, options.breaks or MINUTES)
     there, drawn = ~np.isnan(seconds), matrix.stops_and_origins()
-    subtitle = f"From {there.sum():,} of {len(there):,} {options.what} this number is reached"
+    subtitle = f"{there.sum():,} of {len(there):,} {options.what} reach at least {what.count:g} {what.thing()}"
     if there.any():
-        subtitle += f", from half of these within {math.ceil(float(np.median(seconds[there])) / 60)} minutes"
+        subtitle += f", half of these within {math.ceil(float(np.median(seconds[there])) / 60)} minutes"
     classes = of_origins(drawn, matrix.origins(scenario, share), classes, len(marks))
     title, source = f"Travel time to the {what.label()}", source_of(shown(scenario), share, matrix)
     key = "Travel time in minutes,\nwaiting included"

@@ -12,6 +12,7 @@ from typing import Sequence
 import numpy as np
 import numpy.typing as npt
 
+from ..faults import counted
 from ..gtfs.stops import Stops
 from ..matrices import Matrix, Pair, Share, pair_of
 from ..measures.comparison import sides_of
@@ -139,22 +140,28 @@ def of_origins(drawn: Sequence[str], origins: Sequence[str], classes: Classes, o
     return places
 
 
+def labels_of_counts(breaks: Sequence[float]) -> list[str]:
+    """What the classes of whole numbers are called: `1`, or `10 to 19`; those of other breaks name both."""
+    between = list[str]()
+    for low, high in zip(breaks, breaks[1:]):
+        last = high - 1 if isinstance(low, int) and isinstance(high, int) else high
+        between.append(f"{low:,}" if last == low else f"{low:,} to {last:,}")
+    return [f"less than {breaks[0]:,}", *between, f"{breaks[-1]:,} and more"]
+
+
 def picture_of_access(matrix: Matrix, stops: Stops, options: PictureOptions) -> Picture:
     """Access of each origin, in classes of round numbers."""
     place, limit = matrix.limit(options.within)
     scenario, share = matrix.scenario(options.scenario or options.base), matrix.share(options.share)
     access = matrix.access(scenario, share)[:, place]
     breaks = options.breaks or round_breaks(int(access.min()), int(access.max()))
-    between = [f"{low:,} to {high:,}" for low, high in zip(breaks, breaks[1:])]
-    labels = [f"less than {breaks[0]:,}", *between, f"{breaks[-1]:,} and more"]
+    labels = labels_of_counts(breaks)
     marks = [Mark(label, colour) for label, colour in zip(labels, reversed(shades(len(labels))))] + [NO_ORIGIN]
     found = np.searchsorted(np.array(breaks), access, side="right")
     drawn = matrix.stops_and_origins()
     classes = of_origins(drawn, matrix.origins(scenario, share), found, len(labels))
     half, most = math.floor(float(np.median(access))), int(access.max())
-    subtitle = (
-        f"From half of {len(access):,} {options.what} at least {half:,} {options.unit} are reached, at most {most:,}"
-    )
+    subtitle = f"Half of {counted(len(access), options.what)} reach at least {counted(half, options.unit)}; the most is {most:,}"
     title = f"Access from each {options.what[:-1]}: {options.unit}{within_stated(limit)}"
     key = f"{options.unit.capitalize()} reached{within_stated(limit)}".replace(" within", "\nwithin")
     source = source_of(shown(scenario), share, matrix)
@@ -241,7 +248,7 @@ def picture_of_access_difference(matrix: Matrix, stops: Stops, options: PictureO
     worst = [pair.origins[row] for row in order[percent[order] <= -breaks[0]].tolist()]
     if worst:
         most, lost = -percent[order[0]], int(first[order[0]] - second[order[0]])
-        subtitle += f"; the greatest loss: {most:.0f} % ({lost:,} {options.unit}) at {stops.name_of(worst[0])}"
+        subtitle += f"; the greatest loss: {most:.0f} % ({counted(lost, options.unit)}) at {stops.name_of(worst[0])}"
     title = f"Access from each {options.what[:-1]}: {options.unit}{within_stated(limit)}, {beside(pair)}"
     key, source = f"Change of access:\n{options.unit}{within_stated(limit)}", source_of(
         beside(pair), pair.share, matrix

@@ -15,6 +15,8 @@ from ...opening.toml_file import Entry
 from ..state import State, Trip, in_range
 from .lines import EVERY
 
+WHOLE_DAY = 'from = "00:00", to = "30:00"'  # past midnight too; where trips stay, later departures do no harm
+
 
 def headway(state: State, entry: Entry) -> list[str]:
     """In each direction of the routes, departures from the start of the period on, strictly before its end; or some
@@ -22,7 +24,7 @@ def headway(state: State, entry: Entry) -> list[str]:
     """
     from .oftener import oftener
 
-    start, end = entry.read("from", TIME), entry.read("to", TIME)
+    start, end = time_of(entry, "from"), time_of(entry, "to")
     if end <= start:
         raise entry.fault(f"isn't after from, {clock(start)}", "to", clock(end))
     by_route: dict[str, list[Trip]] = {}
@@ -36,6 +38,13 @@ def headway(state: State, entry: Entry) -> list[str]:
     if not state.changes:
         raise entry.fault(f"adds no departure between {clock(start)} and {clock(end)}", "times")
     return sentences
+
+
+def time_of(entry: Entry, key: str) -> int:
+    """The start or the end of the period, in seconds after midnight; with `times` an error says how to take all day."""
+    if entry.has("times") and not entry.has(key):
+        raise entry.fault(f"needed; {WHOLE_DAY} takes the whole day", key)
+    return entry.read(key, TIME)
 
 
 def thinned(state: State, entry: Entry, trips: Sequence[Trip], times: range, end: int) -> list[str]:

@@ -109,12 +109,14 @@ function roundBreaks(least, most) {
   return breaks.length ? breaks : [Math.floor(most) + 1];
 }
 
-/** The marks of access, and which of them a number is in; the least access has the lightest colour. */
-function accessClasses(least, most) {
+/** The marks of access, and which of them a number is in; the least access has the lightest colour. A class of whole
+    numbers ends at the last of them. */
+function accessClasses(least, most, whole) {
   const breaks = roundBreaks(least, most);
   const labels = [`less than ${told(breaks[0])}`];
   for (let place = 1; place < breaks.length; place++) {
-    labels.push(`${told(breaks[place - 1])} to ${told(breaks[place])}`);
+    const low = breaks[place - 1], last = whole ? breaks[place] - 1 : breaks[place];
+    labels.push(last === low ? told(low) : `${told(low)} to ${told(last)}`);
   }
   labels.push(`${told(breaks[breaks.length - 1])} and more`);
   const shades = colours(labels.length).reverse();
@@ -159,6 +161,21 @@ const [WHOLE, DECIMAL] = [0, 1].map((digits) => new Intl.NumberFormat("en", { ma
 /** A number for people, with one decimal at most. */
 function told(number) {
   return (Math.abs(number) < 100 ? DECIMAL : WHOLE).format(number);
+}
+
+/** A number of what a name counts, for people: 1 job, 20 jobs. */
+function counted(number, name) {
+  return `${told(number)} ${number === 1 ? singular(name) : name}`;
+}
+
+/** The name of one of what a name counts; other names than plain plurals stay as they are. */
+function singular(name) {
+  const found = [["ies", "y"], ["sses", "ss"], ["ches", "ch"], ["shes", "sh"], ["xes", "x"]].find(([end]) =>
+    name.endsWith(end));
+  if (found !== undefined) {
+    return name.slice(0, -found[0].length) + found[1];
+  }
+  return /(?<![sui])s$/.test(name) ? name.slice(0, -1) : name;
 }
 
 /** A change for people, with its sign. */

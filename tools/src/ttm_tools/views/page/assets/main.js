@@ -174,15 +174,16 @@ function classesOfOrigins(classes, otherwise) {
   return all;
 }
 
-/** The least and the most access of a measure in all scenarios, so that classes stay where scenarios are switched. */
+/** The least and the most access of a measure in all scenarios, so that classes stay where scenarios are switched; and
+    whether all of it is whole numbers. */
 function spanOf(measure) {
-  let [least, most] = [Infinity, -Infinity];
+  let [least, most, whole] = [Infinity, -Infinity, true];
   for (let scenario = 0; scenario < head.scenarios.length; scenario++) {
     for (const access of accessOf(scenario, state.share, measure)) {
-      [least, most] = [Math.min(least, access), Math.max(most, access)];
+      [least, most, whole] = [Math.min(least, access), Math.max(most, access), whole && Number.isInteger(access)];
     }
   }
-  return [least, most];
+  return [least, most, whole];
 }
 
 /** Takes a place as the one from which travel times are shown, where no addition takes it for something else. */
@@ -270,7 +271,8 @@ function readAddress() {
   state.share = place(head.shares.map(String), "share", Math.floor((head.shares.length - 1) / 2));
   state.place = place(head.identifiers, "from", -1);
   state.minutes = minutes >= 1 && minutes <= MOST_MINUTES ? minutes : head.minutes;
-  state.of = names[place(names, "of", 0)] ?? "";
+  const sought = head.measures.findIndex((measure) => measure.nearest !== null);
+  state.of = names[place(names, "of", Math.max(0, sought))] ?? ""; // who asked for the nearest wants to see it first
   const limits = head.measures.filter((it) => it.of === state.of).map((it) => it.seconds);
   const first = Math.max(0, limits.indexOf(60 * head.minutes));
   state.within = words.has("within") ? Math.max(0, Math.round(Number(words.get("within"))) || 0) : first;

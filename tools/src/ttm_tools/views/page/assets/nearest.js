@@ -7,7 +7,8 @@ function nearestTold(count) {
 }
 
 function showNearest(words, now, before) {
-  element("heading").textContent = `Time to ${nearestTold(words.nearest)}: ${words.short}`;
+  const sought = words.nearest === 1 ? singular(words.short) : words.short;
+  element("heading").textContent = `Time to ${nearestTold(words.nearest)}: ${sought}`;
   element("told").textContent = before === null ? nearestSentence(words, now)
     : `${words.scenario} compared with ${head.scenarios[0]}: ${changesTold(now, before)}`;
   showPlaceNearest(state.place, words, now, before);

@@ -184,8 +184,8 @@ function showAccessTold(words, now, before) {
   element("heading").textContent = `Access: ${words.of} within ${words.within}`;
   if (before === null) {
     const sorted = Float64Array.from(now).sort(), half = sorted[Math.floor((sorted.length - 1) / 2)];
-    element("told").textContent = `${words.scenario}: from half of ${places(now.length)} at least ${told(half)} `
-      + `${words.short} are reached, at most ${told(sorted[sorted.length - 1])}.`;
+    element("told").textContent = `${words.scenario}: half of ${places(now.length)} reach at least `
+      + `${counted(half, words.short)}; the most is ${told(sorted[sorted.length - 1])}.`;
     return;
   }
   element("told").textContent = `${words.scenario} compared with ${head.scenarios[0]}: of ${places(now.length)} `
