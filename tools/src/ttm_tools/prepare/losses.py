@@ -92,9 +92,7 @@ def sentences(feed: Feed, has_faults: bool) -> Iterator[str]:
     yield from (f"after --repair: {line}" for line in lines)
 
 
-def refuse_losses(
-    path: str, before: Mapping[str, int], changes: Sequence[Repaired], feed: Feed, hints: Hints
-) -> None:
+def refuse_losses(path: str, before: Mapping[str, int], changes: Sequence[Repaired], feed: Feed, hints: Hints) -> None:
     """Ends a repair that takes a lot of a feed, or leaves nothing that runs."""
     sentences = [*losses(before, changes, feed), *filter(None, [no_runs(feed)])]
     if sentences:
