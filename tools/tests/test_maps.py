@@ -76,6 +76,19 @@ def test_one_is_named_in_the_singular() -> None:
     assert counted(0, "jobs") == "0 jobs"
 
 
+def test_destinations_that_are_no_origins_have_a_sign_of_their_own(town: Town, monkeypatch: pytest.MonkeyPatch) -> None:
+    """Of the points A to D the matrix has A and D as origins; B and C are destinations alone."""
+    town.matrix(town_matrix(True))
+    rows = [["A", 0, 9], ["B", 0, 9.01], ["C", 0.01, 9.01], ["D", 0.02, 9.01]]
+    common = ["--points", town.write("mine.csv", "id,lat,lon", rows)]
+    for picture in ("access", "difference"):
+        _, _, classes = figure(town, monkeypatch, picture, *common)
+        assert "destinations  (2)" in classes and not [text for text in classes if "not an origin" in text]
+    schools = town.write("schools.csv", "stop_id,schools", [["B", 1], ["C", 2]])
+    _, _, classes = figure(town, monkeypatch, "nearest", "--opportunities", schools, *common)
+    assert "destinations  (2)" in classes
+
+
 def test_a_note_without_a_full_stop_gets_one(town: Town, monkeypatch: pytest.MonkeyPatch) -> None:
     town.matrix(town_matrix(True))
     for note, written in (("two vehicles", "two vehicles."), ("Why?", "Why?"), ("One. ", "One.")):

@@ -120,4 +120,4 @@ def test_squares_as_wide_as_the_file_says_and_marks_for_the_others(town: Town, m
     assert wide.tolist() == pytest.approx([0.4, 0.4])
     assert access.texts[0].get_text() == "Access from each point: opportunities within 30 minutes"
     classes = [text.get_text() for text in access.legends[0].get_texts()]
-    assert classes[1:] == ["not an origin of the matrix  (1)", "where vehicles run"]
+    assert classes[1:] == ["destinations  (1)", "where vehicles run"]

@@ -162,7 +162,9 @@ def test_walks_longer_than_ttm_takes_are_refused_and_shorter_ones_told(place: Pl
 def test_a_date_without_trips_is_refused(place: Place) -> None:  # noqa: F811
     path = place.lay_out(STUDY.replace("2026-05-04", "2027-05-04"))
     _, errors, status = place.ran("study", path)
-    assert status == 1 and "no trip runs on 2027-05-04, only from 2026-05-04 to 2026-05-31" in errors
+    message = "no trip runs on 2027-05-04, only from 2026-05-04 to 2026-05-31"
+    hint = "(name another date in [run], or let allow_loss = true of [feed] continue)"
+    assert status == 1 and f"{message} {hint}" in errors and "--" not in errors.splitlines()[-1]
     assert (
         place.ran(
             "study",
@@ -192,6 +194,7 @@ def test_a_date_without_trips_is_refused_of_a_feed_that_is_ready_and_of_a_clippe
     )
     _, errors, status = place.ran("study", path)
     assert status == 1 and f"no trip runs on {date}, " in errors.splitlines()[-1], errors
+    assert "allow_loss = true of [feed]" in errors and "--allow-loss" not in errors
     assert not (place.folder / "nine" / "matrix.omx").exists()
     if "ready" in feed:
         _, errors, status = place.ran("study", place.say(study.replace(feed, f"{feed}\nallow_loss = true")))

@@ -1,6 +1,7 @@
 """What a repair leaves of a feed, compared with what was there, and whether that is enough."""
 
 import datetime
+from dataclasses import dataclass
 from typing import Iterator, Mapping, Sequence
 
 import numpy as np
@@ -18,8 +19,18 @@ MOST_LOST = 0.1  # of a file's records, that one rule may leave out
 CALENDARS = ("calendar.txt", "calendar_dates.txt")
 NEEDED = ("stops.txt", "routes.txt", "trips.txt", "stop_times.txt")
 NO_LOSS = "same"  # the rule that leaves out a record of which another one is there
-HELP = "(--allow-loss writes the feed anyway; --check lists all errors)"
 NO_RUNS = "no trip runs on any day"
+
+
+@dataclass(frozen=True)
+class Hints:
+    """What you can do about an error, by the options of `ttm-tools prepare` or the fields of a study."""
+
+    errors: str = "--check lists all, --repair repairs what its rules cover"  # the feed has errors
+    after_repair: str = "--check lists all; no rule covers them"  # it has some that a repair leaves
+    loss: str = "--allow-loss writes the feed anyway; --check lists all errors"  # a repair takes a lot
+    day: str = loss  # no trip runs on the date
+    empty: str = "--allow-loss writes the feed anyway"  # or none does of those that are chosen
 
 
 def counts_of(feed: Feed) -> dict[str, int]:
@@ -81,15 +92,15 @@ def sentences(feed: Feed, has_faults: bool) -> Iterator[str]:
     yield from (f"after --repair: {line}" for line in lines)
 
 
-def refuse_losses(path: str, before: Mapping[str, int], changes: Sequence[Repaired], feed: Feed) -> None:
+def refuse_losses(path: str, before: Mapping[str, int], changes: Sequence[Repaired], feed: Feed, hints: Hints) -> None:
     """Ends a repair that takes a lot of a feed, or leaves nothing that runs."""
     sentences = [*losses(before, changes, feed), *filter(None, [no_runs(feed)])]
     if sentences:
-        raise BadInput(path, f"{'; '.join(sentences)} {HELP}")
+        raise BadInput(path, f"{'; '.join(sentences)} ({hints.loss})")
 
 
-def refuse_day(path: str, feed: Feed, day: datetime.date | None) -> None:
+def refuse_day(path: str, feed: Feed, day: datetime.date | None, hints: Hints) -> None:
     """Ends where no trip runs on the day of the departures."""
     sentence = no_runs(feed, day) if day is not None else None
     if sentence:
-        raise BadInput(path, f"{sentence} {HELP}")
+        raise BadInput(path, f"{sentence} ({hints.day})")

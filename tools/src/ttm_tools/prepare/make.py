@@ -19,7 +19,7 @@ from ..records import write_rows
 from .check import check
 from .clip import Clip, clip, near
 from .likely import of_days
-from .losses import counts_of, left, no_runs, refuse_day, refuse_losses
+from .losses import Hints, counts_of, left, no_runs, refuse_day, refuse_losses
 from .merge import merge
 from .repair import repair
 from .report import Repaired, counted_errors, fault_lines
@@ -31,7 +31,6 @@ LESS = {
     name: "use --box, --area, --routes or --agency" + (", or --date" if name in ("trips.txt", "stop_times.txt") else "")
     for name in FILES
 }
-HELP, HELP_AFTER = "--check lists all, --repair repairs what its rules cover", "--check lists all; no rule covers them"
 
 
 @dataclass(frozen=True)
@@ -45,6 +44,7 @@ class PrepareOptions:
     allows_loss: bool = False  # also where a repair takes much of a file, or no trip runs
     day: datetime.date | None = None  # of the departures, on which trips are to run
     same_clock: bool = False  # whether feeds of several time zones are merged
+    hints: Hints = Hints()  # what errors say that you can do
 
 
 def make(options: PrepareOptions, room: Path) -> list[str]:
@@ -56,16 +56,16 @@ def make(options: PrepareOptions, room: Path) -> list[str]:
         before = counts_of(feed)
         found = repair(feed, f"{feed.name}/" if len(options.paths) > 1 else "") if options.mends else []
         done = sorted(found, key=lambda fault: (ORDER[fault.file.rpartition("/")[2]], fault.record))
-        refuse_faults(path, feed, HELP_AFTER if options.mends else HELP)
+        refuse_faults(path, feed, options.hints.after_repair if options.mends else options.hints.errors)
         if done and not options.allows_loss:
-            refuse_losses(path, before, done, feed)
+            refuse_losses(path, before, done, feed, options.hints)
         changes += done
         lines += [*mended_lines(done), *([left(before, feed)] if done else [])]
         feeds.append(feed)
     feed, merged = merge(feeds, options.same_clock) if len(feeds) > 1 else (feeds[0], [])
     lines += [*merged, *(of_days(feed) if changes else [])]
     if not options.allows_loss:
-        refuse_day(options.paths[0] if len(feeds) == 1 else "the feeds", feed, options.day)
+        refuse_day(options.paths[0] if len(feeds) == 1 else "the feeds", feed, options.day, options.hints)
     if options.clip.is_any:
         lines += clip(feed, options.clip)
         refuse_empty(options, feed)
@@ -81,7 +81,7 @@ def refuse_empty(options: PrepareOptions, feed: Feed) -> None:
     """Ends where no trip of what was clipped runs on the day of the departures."""
     found = None if options.allows_loss or options.day is None else no_runs(feed, options.day)
     if found:
-        raise BadInput(options.out, f"no service is left: {found} (--allow-loss writes the feed anyway)")
+        raise BadInput(options.out, f"no service is left: {found} ({options.hints.empty})")
 
 
 def refuse_faults(path: str, feed: Feed, help: str) -> None:

@@ -9,12 +9,19 @@ from ..measures.opportunities import called, columns_of, numbers_of
 from ..parts import origins_in, origins_of_feed
 from ..points import read_points
 from ..prepare.check import check
-from ..prepare.losses import refuse_day
+from ..prepare.losses import Hints, refuse_day
 from ..gtfs.feeds import read_feed
 from ..records import rows, shown
 from .stages import room
 from .settings import Study
 
+HINTS = Hints(
+    errors="ttm-tools prepare --check lists all; repair = true of [feed] repairs what its rules cover",
+    after_repair="ttm-tools prepare --check lists all; no rule covers them",
+    loss="allow_loss = true of [feed] continues; ttm-tools prepare --check lists all errors",
+    day="name another date in [run], or let allow_loss = true of [feed] continue",
+    empty="keep more in [feed], name another date in [run], or let allow_loss = true of [feed] continue",
+)
 OF_STUDY, OF_ORIGINS = "point of the study", "point at which journeys begin"
 
 
@@ -58,7 +65,7 @@ def check_runs(study: Study, folder: str, days: Sequence[datetime.date]) -> None
     with room(study.folder) as aside:
         feed = read_feed(folder, aside)
         for day in days if not check(feed) else ():
-            refuse_day(study.at(study.feed.files[0]), feed, day)
+            refuse_day(study.at(study.feed.files[0]), feed, day, HINTS)
 
 
 def names_of(files: dict[str, list[str]]) -> set[str]:

@@ -19,7 +19,7 @@ from ..plans import make as plans
 from ..points import study as points
 from ..prepare.clip import Clip
 from ..records import shown
-from .checks import check_points, check_runs, check_stops
+from .checks import HINTS, check_points, check_runs, check_stops
 from .counted import (
     OPPORTUNITIES,
     ORIGINS,
@@ -228,7 +228,7 @@ def feed_stage(maker: Maker) -> Stage:
 
         with room(study.folder) as folder:
             options = PrepareOptions(
-                paths, out, settings.repair, clip, settings.allow_loss, dates[0], settings.same_clock
+                paths, out, settings.repair, clip, settings.allow_loss, dates[0], settings.same_clock, HINTS
             )
             sentences = make_ready(options, folder)
         check_runs(study, out, dates[1:])

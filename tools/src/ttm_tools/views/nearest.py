@@ -14,7 +14,6 @@ from ..records import shown
 from .pictures import (
     MINUTES,
     MINUTES_OF_DIFFERENCE,
-    NO_ORIGIN,
     NOT_REACHED,
     Classes,
     Mark,
@@ -26,6 +25,7 @@ from .pictures import (
     first_names,
     marks_of_difference,
     of_origins,
+    other_mark,
     shades,
     source_of,
     counts_stated,
@@ -77,7 +77,7 @@ def picture_of_nearest(matrix: Matrix, options: PictureOptions, what: Nearest) -
     classes = of_origins(drawn, matrix.origins(scenario, share), classes, len(marks))
     title, source = f"Travel time to the {what.label()}", source_of(shown(scenario), share, matrix)
     key = "Travel time in minutes,\nwaiting included"
-    return Picture(title, subtitle, key, [*marks, NO_ORIGIN], classes, source, drawn=drawn)
+    return Picture(title, subtitle, key, [*marks, other_mark(options)], classes, source, drawn=drawn)
 
 
 def picture_of_nearest_difference(matrix: Matrix, stops: Stops, options: PictureOptions, what: Nearest) -> Picture:
@@ -87,7 +87,8 @@ def picture_of_nearest_difference(matrix: Matrix, stops: Stops, options: Picture
     before, after = before[pair.before], after[pair.after]
     breaks, gone, new = options.breaks or MINUTES_OF_DIFFERENCE, np.isnan(after), np.isnan(before)
     labels = DifferenceLabels("min", "slower", "faster", "cut off: not reached now", "new: not reached before")
-    marks = [*marks_of_difference(breaks, labels), replace(NOT_REACHED, label="not reached in either"), NO_ORIGIN]
+    neither = replace(NOT_REACHED, label="not reached in either")
+    marks = [*marks_of_difference(breaks, labels), neither, other_mark(options)]
     change = np.nan_to_num((before - after) / 60)
     classes = classes_of_difference(change, breaks)
     classes[gone & ~new], classes[new & ~gone], classes[new & gone] = 0, len(marks) - 3, len(marks) - 2

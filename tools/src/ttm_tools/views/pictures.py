@@ -79,6 +79,12 @@ class PictureOptions:
 
 NOT_REACHED = Mark("not reached", "#9a9a9a", "x", 0.7)
 NO_ORIGIN = Mark("not an origin of the matrix", "#c4c4c4", "o", 0.07, "none")
+DESTINATION = Mark("destinations", "#c4c4c4", "D", 1.3, "#000000")
+
+
+def other_mark(options: PictureOptions) -> Mark:
+    """The mark of what isn't an origin: of points these are the destinations; stops may be anything."""
+    return DESTINATION if options.what == "points" else NO_ORIGIN
 
 
 def shades(count: int, name: str = "plasma", first: float = 0.0, last: float = 0.98) -> list[Shade]:
@@ -156,7 +162,9 @@ def picture_of_access(matrix: Matrix, stops: Stops, options: PictureOptions) -> 
     access = matrix.access(scenario, share)[:, place]
     breaks = options.breaks or round_breaks(int(access.min()), int(access.max()))
     labels = labels_of_counts(breaks)
-    marks = [Mark(label, colour) for label, colour in zip(labels, reversed(shades(len(labels))))] + [NO_ORIGIN]
+    marks = [Mark(label, colour) for label, colour in zip(labels, reversed(shades(len(labels))))] + [
+        other_mark(options)
+    ]
     found = np.searchsorted(np.array(breaks), access, side="right")
     drawn = matrix.stops_and_origins()
     classes = of_origins(drawn, matrix.origins(scenario, share), found, len(labels))
@@ -237,7 +245,7 @@ def picture_of_access_difference(matrix: Matrix, stops: Stops, options: PictureO
     pair = pair_of(matrix, options.base, options.scenario, options.share)
     breaks = options.breaks or PERCENT
     labels = DifferenceLabels("%", "lost", "gained", "cut off: all of it lost", "newly reached: none before")
-    marks = [*marks_of_difference(breaks, labels), NO_ORIGIN]
+    marks = [*marks_of_difference(breaks, labels), other_mark(options)]
     first, second = pair.access(place)
     percent = 100 * (second - first) / np.where(first == 0, 1, first)
     sides = sides_of(first, second)
