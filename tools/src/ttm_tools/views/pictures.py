@@ -169,7 +169,8 @@ def picture_of_access(matrix: Matrix, stops: Stops, options: PictureOptions) -> 
     drawn = matrix.stops_and_origins()
     classes = of_origins(drawn, matrix.origins(scenario, share), found, len(labels))
     half, most = math.floor(float(np.median(access))), int(access.max())
-    subtitle = f"Half of {counted(len(access), options.what)} reach at least {counted(half, options.unit)}; the most is {most:,}"
+    subtitle = f"Half of {counted(len(access), options.what)} reach at least {counted(half, options.unit)}"
+    subtitle += f"; the most is {most:,}"
     title = f"Access from each {options.what[:-1]}: {options.unit}{within_stated(limit)}"
     key = f"{options.unit.capitalize()} reached{within_stated(limit)}".replace(" within", "\nwithin")
     source = source_of(shown(scenario), share, matrix)
