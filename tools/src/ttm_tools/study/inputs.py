@@ -2,13 +2,11 @@
 points, walks, origins, opportunities. All paths of what is made are from that folder on; `ttm` runs there.
 """
 
-import datetime
 import shlex
 from dataclasses import asdict, dataclass, replace
 from pathlib import Path
 from typing import Any
 
-from ..dates import day_of
 from ..engine import Run
 from ..faults import BadInput
 from ..files import copy_file, many_written_aside
@@ -31,7 +29,7 @@ from .counted import (
     people_stage,
 )
 from .gridding import grid_stage, with_grid
-from .run import name_of, run_of, shown_names
+from .run import dates_of, days_of, name_of, run_of, shown_names
 from .sources import Sources
 from .stages import Folder, Record, Stage, room
 from .walking import FOOTPATHS, POINTS, points_stage, walks_stage
@@ -196,18 +194,6 @@ def make_inputs(study: Study, folder: Folder, program: str) -> Inputs:
     run = replace(run_of(study, maker.feed, maker.files, own), program=program)
     known = (maker.destinations(), maker.records, maker.sources, folder.path)
     return Inputs(run, base, tuple(scenarios), shown_as, *known)
-
-
-def dates_of(study: Study) -> list[datetime.date]:
-    """The days of the departures, of which there may be several."""
-    named = study.run.dates or (study.run.date,)
-    return [day_of(text) for text in named]
-
-
-def days_of(study: Study) -> list[datetime.date]:
-    """The days of the runs, where services that run on others are left out."""
-    span = range(-study.run.back, study.run.ahead + 1) if study.feed.only_days else range(0)
-    return sorted({day + datetime.timedelta(number) for day in dates_of(study) for number in span})
 
 
 def feed_stage(maker: Maker) -> Stage:

@@ -1,9 +1,11 @@
-"""The run of `ttm` that a study means, and what its scenarios are called there."""
+"""The run of `ttm` that a study means: its days, its arguments, and what its scenarios are called there."""
 
+import datetime
 import itertools
 from pathlib import Path
 from typing import Sequence
 
+from ..dates import day_of
 from ..engine import Run
 from ..matrices import BASE
 from ..records import records
@@ -41,3 +43,15 @@ def run_of(study: Study, feed: str, files: dict[str, str], scenarios: Sequence[s
         ahead=settings.ahead,
         files=files,
     )
+
+
+def dates_of(study: Study) -> list[datetime.date]:
+    """The days of the departures, of which there may be several."""
+    named = study.run.dates or (study.run.date,)
+    return [day_of(text) for text in named]
+
+
+def days_of(study: Study) -> list[datetime.date]:
+    """The days of the runs, where services that run on others are left out."""
+    span = range(-study.run.back, study.run.ahead + 1) if study.feed.only_days else range(0)
+    return sorted({day + datetime.timedelta(number) for day in dates_of(study) for number in span})
