@@ -71,7 +71,13 @@ def test_classes_of_whole_numbers_end_at_the_last_of_them() -> None:
 def test_one_is_named_in_the_singular() -> None:
     for plural, one in (("jobs", "1 job"), ("primary schools", "1 primary school"), ("opportunities", "1 opportunity")):
         assert (counted(1, plural), counted(2000, plural)) == (one, f"2,000 {plural}")
-    for plural, one in (("churches", "church"), ("boxes", "box"), ("access", "access"), ("Arbeit", "Arbeit")):
+    for plural, one in (
+        ("churches", "church"),
+        ("boxes", "box"),
+        ("access", "access"),
+        ("Arbeit", "Arbeit"),
+        ("s", "s"),
+    ):
         assert singular(plural) == one
     assert counted(0, "jobs") == "0 jobs"
 

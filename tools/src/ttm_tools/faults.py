@@ -91,7 +91,7 @@ def singular(name: str) -> str:
     for ending, one in (("ies", "y"), ("sses", "ss"), ("ches", "ch"), ("shes", "sh"), ("xes", "x")):
         if name.endswith(ending):
             return name.removesuffix(ending) + one
-    return name if not name.endswith("s") or name.endswith(("ss", "us", "is")) else name[:-1]
+    return name if not name.endswith("s") or name.endswith(("ss", "us", "is")) or name == "s" else name[:-1]
 
 
 def counted(count: int, name: str) -> str:

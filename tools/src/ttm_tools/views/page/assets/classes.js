@@ -175,7 +175,7 @@ function singular(name) {
   if (found !== undefined) {
     return name.slice(0, -found[0].length) + found[1];
   }
-  return /(?<![sui])s$/.test(name) ? name.slice(0, -1) : name;
+  return /[^sui]s$/.test(name) ? name.slice(0, -1) : name;
 }
 
 /** A change for people, with its sign. */
