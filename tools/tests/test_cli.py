@@ -1,6 +1,7 @@
 """The command line: help, wrong words, and faults in one line."""
 
 import argparse
+import importlib.util
 import subprocess
 import sys
 from pathlib import Path
@@ -59,6 +60,18 @@ def test_a_package_that_is_not_there_is_told_in_a_line() -> None:
         faults.needs("csv", "nosuchpackage")
     way = "apt-get install python3-nosuchpackage and use /usr/bin/python3, or pip install nosuchpackage"
     assert str(raised.value) == f"this Python, {sys.executable}, has no nosuchpackage: {way}"
+
+
+@pytest.mark.parametrize("arguments", [["study", "town.toml"], ["study", "--verify", "town"]], ids=["run", "verify"])
+def test_a_study_says_what_it_lacks_before_it_reads_anything(
+    arguments: list[str], monkeypatch: pytest.MonkeyPatch, capsys: pytest.CaptureFixture[str]
+) -> None:
+    found = importlib.util.find_spec
+    monkeypatch.setattr(importlib.util, "find_spec", lambda name: None if name == "matplotlib" else found(name))
+    assert cli.main(arguments) == 1
+    said = capsys.readouterr().err
+    assert said.startswith(f"ttm-tools study: this Python, {sys.executable}, has no matplotlib: ")
+    assert said.count("\n") == 1
 
 
 def test_wrong_words_have_the_status_2(town: Town) -> None:

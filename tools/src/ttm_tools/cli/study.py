@@ -77,23 +77,30 @@ def run(args: argparse.Namespace) -> int:
 
         sys.stdout.write(template())
         return 0
-    from ..study.elsewhere import Means
-    from ..study.study_file import read_study
-    from ..study.task import one_part
-    from ..study.work import make_study
-    from ..threads import processors
-
     if args.part is not None:
+        from ..study.task import one_part
+
         one_part(Path(args.study), args.part)
         return 0
-    needs("h5py")
-    from ..files import Interrupted
-
+    needs("h5py", "matplotlib")
     if args.verify is not None:
         from ..study.verify import verify
+        from ..threads import processors
 
         verify(Path(args.verify), args.seed, args.workers or processors())
         return 0
+    return make(args)
+
+
+def make(args: argparse.Namespace) -> int:
+    """Makes a study in its folder."""
+    from pathlib import Path
+
+    from ..files import Interrupted
+    from ..study.elsewhere import Means
+    from ..study.study_file import read_study
+    from ..study.work import make_study
+
     study = read_study(args.study)
     out = Path(args.out) if args.out else study.path.with_suffix("")
     try:
