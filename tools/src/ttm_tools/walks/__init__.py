@@ -6,18 +6,7 @@ from ..records import Rounded
 from .straight import Pace, Walks, distances, points_of, read_walks, straight_walks
 
 NEAR = 100.0  # metres to a street
-__all__ = [
-    "NEAR",
-    "Pace",
-    "Walks",
-    "distances",
-    "footpaths_of",
-    "points_of",
-    "read_walks",
-    "straight_walks",
-    "summary",
-    "walks_of",
-]
+__all__ = ["NEAR", "Pace", "Walks", "distances", "footpaths_of", "points_of", "straight_walks", "summary", "walks_of"]
 
 
 def walks_of(
