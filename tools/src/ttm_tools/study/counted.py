@@ -84,12 +84,7 @@ def sentences_on_lost(whole: Counts, chosen: Counts, what: str) -> list[str]:
 
 
 def counts_stage(
-    study: Study,
-    stops_sum: str | None,
-    tables: Sequence[str],
-    columns: Sequence[str],
-    known: Sequence[str],
-    stops: Sequence[str],
+    study: Study, stops_sum: str | None, tables: list[str], columns: list[str], known: list[str], stops: list[str]
 ) -> Stage:
     """What there is at each place at which journeys end, in one table; a table may say something of other places."""
     kind = OF_POINTS if study.points.all else "stop of the feed"
@@ -104,7 +99,7 @@ def counts_stage(
         lost = sentences_on_lost(whole, counts, f"{NOT_COUNTED} places where no journey ends")
         return [f"{COUNTED}: {', '.join(map(shown, counts.names))} at {len(stops):,} places", *lost]
 
-    facts = {"stops": stops_sum, "columns": list(columns), "ends": list(stops), "own": own}
+    facts = {"stops": stops_sum, "columns": columns, "ends": stops, "own": own}
     return Sources(study.at, study.opportunities.files).stage("counted", facts, [COUNTED], make)
 
 

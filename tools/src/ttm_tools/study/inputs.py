@@ -100,10 +100,9 @@ class Maker:
     def at(self, name: str) -> str:
         return str(self.folder.at(name))
 
-    def do(self, stage: Stage) -> Record:
+    def do(self, stage: Stage) -> None:
         self.sources |= {name: was for name, was in stage.stated.items() if name not in self.study.generated}
         self.records[stage.name] = self.folder.do(stage)
-        return self.records[stage.name]
 
     @property
     def feed_sums(self) -> dict[str, str]:

@@ -115,8 +115,8 @@ def write_figures(document: Document, whole: StudyMatrix, records: Records) -> N
     for name, caption in OF_PEOPLE.items():
         if name in records:
             header, *lines = [list(map(shown, fields)) for _, fields in records_in(whole.at(f"{name}.csv"))]
-            are_of = "in cells" if study.points.grid is not None and not study.points.origins else "at the origins"
-            of = f"; percentages are of the people {are_of}" if "percent" in header else ""
+            where = "in cells" if study.points.grid is not None and not study.points.origins else "at the origins"
+            of = f"; percentages are of the people {where}" if "percent" in header else ""
             document.table(f"{caption} ({name}.csv){of}", list(map(as_phrase, header)), lines)
             for path in (output for output in records[name].outputs if output.endswith(".png")):
                 document.picture(path, f"{caption}: {shown(Path(path).stem)}")

@@ -49,10 +49,8 @@ def path_of(whole: StudyMatrix, question: DayWindow) -> str:
 def tables_stage(whole: StudyMatrix, of: Measurement) -> Stage:
     """The table by origin, and that by people; of access the pictures, too."""
     study = whole.study
-    by_origin, by_people = (
-        f"{WINDOWS}/{of.kind}.csv",
-        EQUITY if of.heads == ACCESS else f"{WINDOWS}/equity_{of.kind}.csv",
-    )
+    by_origin = f"{WINDOWS}/{of.kind}.csv"
+    by_people = EQUITY if of.heads == ACCESS else f"{WINDOWS}/equity_{of.kind}.csv"
     pictures = [PICTURES] if study.results.maps and of.heads == ACCESS else []
 
     def make() -> list[str]:
