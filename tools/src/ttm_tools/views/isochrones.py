@@ -140,6 +140,12 @@ def along_streets(ground: AreaGround, stops: Stops, streets: str, walking: Walki
     return replace(ground, reach=reach_of(found, stops.latitudes[bare], stops.longitudes[bare], pace, near))
 
 
+def ground_on_foot(stops: Stops, points: str | None, walking: Walking, streets: str | None, near: float) -> AreaGround:
+    """Where these stops lie, with the polygons of a file of points, and along which streets one walks on."""
+    ground = ground_of(stops, polygons_of(points))
+    return along_streets(ground, stops, streets, walking, near) if streets else ground
+
+
 def polygons_of(path: str | None) -> dict[str, Any]:
     """The polygons of a file of points, by their identifiers; none where it has points, or is a table."""
     if path is None or Path(path).suffix.lower() not in AREAS:

@@ -20,7 +20,7 @@ from .streets import MOST_NODES, page_streets
 MINUTES, MOST_MINUTES = 30, 120  # of the slider: where it stands first, and where it ends
 
 
-@dataclass(frozen=True)
+@dataclass(frozen=True, kw_only=True)
 class PageSettings:
     """The settings of a page, as arguments and names of files."""
 
@@ -29,18 +29,18 @@ class PageSettings:
     edits: list[str]
     opportunities: list[str]
     people: list[str]
-    scenarios: list[str]  # in addition to the base; none for all
+    scenarios: list[str] = field(default_factory=list)  # in addition to the base; none for all
     base: str
-    share: int | None
+    share: int | None = None
     cutoffs: list[float]  # minutes
-    origins: str | None
+    origins: str | None = None
     seed: int
     unit: str
     title: str | None
     note: str | None
     arguments: str | None
-    tiles: str | None
-    attribution: str | None
+    tiles: str | None = None
+    attribution: str | None = None
     leaflet: str = LEAFLET
     within: int | None = None  # seconds, the limit with which the page opens; without it, the first of the matrix
     nearest: list[float] = field(default_factory=list)  # how many of the nearest opportunities are looked for
