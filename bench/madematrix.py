@@ -8,13 +8,12 @@ Travel times are those of a straight line at a drawn speed, with a wait and nois
 are empty, and a part of those of `cut` differ. The same arguments give the same bytes. Needs numpy.
 """
 
-import csv
-import sys
-from pathlib import Path
 from typing import BinaryIO
 
 import numpy as np
 import numpy.typing as npt
+
+from shared import numbers, parser_of, records_of
 
 EMPTY, CHANGED, GONE = 0.04, 0.25, 0.01  # shares of cells: never reached, other in cut, not reached in cut
 SPEED = 4.0  # metres a second, on a straight line
@@ -24,10 +23,9 @@ METRES = 111_195.0  # of a degree of latitude
 Cells = npt.NDArray[np.int64]
 
 
-def places_of(folder: Path) -> tuple[list[str], npt.NDArray[np.float64]]:
+def places_of(feed: str) -> tuple[list[str], npt.NDArray[np.float64]]:
     """The stops of a feed at which vehicles call, and their places in metres."""
-    with open(folder / "stops.txt", newline="", encoding="utf-8") as file:
-        rows = [row for row in csv.DictReader(file) if (row.get("location_type") or "0") == "0"]
+    rows = [row for row in records_of(f"{feed}/stops.txt") if (row.get("location_type") or "0") == "0"]
     degrees = np.array([[float(row["stop_lat"]), float(row["stop_lon"])] for row in rows])
     return [row["stop_id"] for row in rows], degrees * METRES * [1, 0.62]
 
@@ -62,10 +60,16 @@ def write(
 
 
 def main() -> None:
-    folder, origins, shares, path, *seed = sys.argv[1:]
-    names, places = places_of(Path(folder))
-    with open(path, "wb") as out:
-        write(out, names, places, min(int(origins), len(names)), list(map(int, shares.split(","))), int(*seed or ["1"]))
+    parser = parser_of(__doc__)
+    parser.add_argument("feed")
+    parser.add_argument("origins", type=int)
+    parser.add_argument("shares", type=numbers)
+    parser.add_argument("file")
+    parser.add_argument("seed", nargs="?", type=int, default=1)
+    args = parser.parse_args()
+    names, places = places_of(args.feed)
+    with open(args.file, "wb") as out:
+        write(out, names, places, min(args.origins, len(names)), args.shares, args.seed)
 
 
 if __name__ == "__main__":

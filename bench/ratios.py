@@ -26,6 +26,7 @@ from typing import Sequence
 
 from shared import DATE, HERE, built, first_origins, name_of, parser_of, print_head, print_row, stops_of, there
 from shared import write_lines, write_origins
+from variants import copy_but
 
 OWN = "durations"  # what `measure` calls its part
 BESIDE = "beside"
@@ -120,10 +121,7 @@ def least(runs: Sequence[Millis]) -> dict[str, float]:
 
 def linked(folder: str, origins: Sequence[str], place: str, for_peers: bool) -> str:
     """A folder with the feed's files and these origins; for peers, which read all from one folder, no transfers."""
-    feed = tempfile.mkdtemp(dir=place)
-    own = ["origins.csv", "transfers.txt"] if for_peers else ["origins.csv"]
-    for path in there(folder, *(name for name in os.listdir(folder) if name not in own)):
-        os.symlink(os.path.abspath(path), os.path.join(feed, os.path.basename(path)))
+    feed = copy_but(folder, place, "origins.csv", *["transfers.txt"] * for_peers)
     write_origins(os.path.join(feed, "origins.csv"), origins)
     if for_peers:
         write_lines(feed, "transfers.txt", "from_stop_id,to_stop_id,transfer_type,min_transfer_time", [])

@@ -194,10 +194,9 @@ def test_what_a_group_of_processes_takes_is_seen() -> None:
 def test_questions_are_of_origins_that_a_seed_draws(tmp_path: Path) -> None:
     write_stops(tmp_path, "stops.txt", "G,1", "A,0", "B,", "C,0")
     arguments = ["--city", str(tmp_path), "--program", "ttm", "--parts", "first,many"]
-    setting, parts = ask.setting_of(arguments)
-    setting = replace(setting, place=str(tmp_path))
+    setting = replace(ask.setting_of(arguments), place=str(tmp_path))
     drawn = setting.drawn("city", 40)
-    assert parts == ["first", "many"] and setting.drawn("city", 40) == drawn
+    assert setting.parts == ["first", "many"] and setting.drawn("city", 40) == drawn
     assert {Path(item).read_text() for item in drawn} == {"stop_id\nA\n", "stop_id\nB\n", "stop_id\nC\n"}
     with pytest.raises(SystemExit):
         ask.setting_of([*arguments[:-1], "nothing"])

@@ -6,14 +6,11 @@
 FEED is a made feed (feedgen.py), whose jobs lie at its stops. It wants the built program (TTM_PROGRAM, or that of this
 clone), numpy, pandas, h5py, matplotlib and jinja2.
 """
-import csv
 import os
-import subprocess
 import sys
-import time
 from pathlib import Path
 
-from shared import PROGRAM, PYTHON, TOOLS, wait_for
+from shared import PROGRAM, PYTHON, TOOLS, parser_of, records_of, run, write_lines
 
 STUDY = """\
 title = "Times of day"
@@ -39,34 +36,29 @@ nearest = [1000]
 """
 
 
-def write_addresses(feed: Path, path: Path) -> None:
+def write_addresses(feed: Path, folder: Path) -> None:
     """Jobs and residents at the stops."""
-    with open(feed / "opportunities.csv", newline="") as file:
-        jobs = {row["stop_id"]: row["opportunities"] for row in csv.DictReader(file)}
-    with open(feed / "stops.txt", newline="") as file, open(path, "w", newline="") as out:
-        writer = csv.writer(out, lineterminator="\n")
-        writer.writerow(["id", "lat", "lon", "jobs", "residents"])
-        there = [row for row in csv.DictReader(file) if row["stop_id"] in jobs]
-        writer.writerows(
-            [item["stop_id"], item["stop_lat"], item["stop_lon"], jobs[item["stop_id"]], 50 + 37 * number % 90]
-            for number, item in enumerate(there)
-        )
+    jobs = {row["stop_id"]: row["opportunities"] for row in records_of(feed / "opportunities.csv")}
+    stops = [row for row in records_of(feed / "stops.txt") if row["stop_id"] in jobs]
+    places = (f"{row['stop_id']},{row['stop_lat']},{row['stop_lon']},{jobs[row['stop_id']]}" for row in stops)
+    rows = (f"{place},{50 + 37 * number % 90}" for number, place in enumerate(places))
+    write_lines(str(folder), "addresses.csv", "id,lat,lon,jobs,residents", rows)
 
 
-def main(arguments: list[str]) -> int:
-    if len(arguments) not in (2, 3):
-        print(__doc__, file=sys.stderr)
-        return 2
-    feed, folder, metres = Path(arguments[0]).resolve(), Path(arguments[1]), [*arguments, "425"][2]
-    folder.mkdir(parents=True, exist_ok=True)
-    write_addresses(feed, folder / "addresses.csv")
-    (folder / "windows.toml").write_text(STUDY.format(feed=feed, metres=metres), encoding="utf-8")
-    begin = time.monotonic()
-    command = [PYTHON, TOOLS, "study", str(folder / "windows.toml")]
-    ran = wait_for(subprocess.Popen(command, env={**os.environ, "TTM_PROGRAM": PROGRAM}), begin)
+def main() -> int:
+    parser = parser_of(__doc__)
+    parser.add_argument("feed", type=Path)
+    parser.add_argument("folder", type=Path)
+    parser.add_argument("metres", nargs="?", default="425")
+    args = parser.parse_args()
+    args.folder.mkdir(parents=True, exist_ok=True)
+    write_addresses(args.feed, args.folder)
+    path = args.folder / "windows.toml"
+    path.write_text(STUDY.format(feed=args.feed.resolve(), metres=args.metres), encoding="utf-8")
+    ran = run([PYTHON, TOOLS, "study", str(path)], env={**os.environ, "TTM_PROGRAM": PROGRAM})
     print(f"{ran.seconds:.0f} s by the clock, {ran.busy:.0f} s of processor time")
     return ran.status
 
 
 if __name__ == "__main__":
-    sys.exit(main(sys.argv[1:]))
+    sys.exit(main())
