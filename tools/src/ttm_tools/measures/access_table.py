@@ -28,14 +28,16 @@ class AccessKind:
 
     @property
     def label(self) -> str:
-        share = f", share {self.percentile} %" if self.percentile else ""
-        return f"{shown(self.opportunity)} within {self.cutoff} minutes{share}"
+        return f"{shown(self.opportunity)} within {self.cutoff} minutes{self.share}"
 
     @property
     def label_of_nearest(self) -> str:
-        share = f", share {self.percentile} %" if self.percentile else ""
         count = "" if self.cutoff == "1" else f"{self.cutoff} "
-        return f"time to the {count}nearest {shown(self.opportunity)}{share}"
+        return f"time to the {count}nearest {shown(self.opportunity)}{self.share}"
+
+    @property
+    def share(self) -> str:
+        return f", share {self.percentile} %" if self.percentile else ""
 
 
 @dataclass(frozen=True)

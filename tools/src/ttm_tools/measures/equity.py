@@ -30,11 +30,11 @@ def mean(numbers: Floats, people: Floats) -> float:
     return float(numbers @ people / people.sum())
 
 
-def median(access: Floats, people: Floats) -> float:
-    """The least access such that half of the people, or more, have no more."""
-    order = np.argsort(access, kind="stable")
+def within(numbers: Floats, people: Floats, part: float) -> float:
+    """The least number such that this part of the people, or more, have no more; NaN stands last."""
+    order = np.argsort(numbers, kind="stable")
     sums = np.cumsum(people[order])
-    return float(access[order][np.argmax(sums >= sums[-1] / 2 * NEARLY)])
+    return float(numbers[order][np.argmax(sums >= sums[-1] * part * NEARLY)])
 
 
 def ratio(number: float, other: float) -> float:
@@ -92,7 +92,8 @@ class Equity:
     people: float = column(lambda case: float(case.people.sum()))
     mean: float = column(lambda case: mean(case.access, case.people), "Σ *p a* / *P*")
     median: float = column(
-        lambda case: median(case.access, case.people), "the least access that at least half of the people don't exceed"
+        lambda case: within(case.access, case.people, 0.5),
+        "the least access that at least half of the people don't exceed",
     )
     losers_percent: float = column(
         losers_percent,

@@ -10,7 +10,7 @@ from shapely.geometry import LineString
 
 from ..walks import points_of
 from ..walks.ways import Ways, degrees_of
-from .doors import doors_of, network_at
+from .doors import doors_of
 from .journeys import JourneySearch
 from .legs import DrawnLegs, Row
 from .matrix import ends_of
@@ -46,7 +46,7 @@ def ridden(
 ) -> Iterator[Row]:
     """The journeys of each pair, which take vehicles or walk."""
     doors = doors_of(network, task, feed, *ends)
-    found = JourneySearch(doors, network_at(network, task, doors), task)
+    found = JourneySearch(doors, network.network_of(doors.folder, doors.key, task.times, doors.walk), task)
     numbers = [dict(zip(places.placed.tolist(), own)) for places, own in zip(ends, doors.ends)]
     options = {(one, other): found.between(numbers[0][one], numbers[1][other]) for one, other in pairs}
     drawn = DrawnLegs(network, found)
@@ -92,9 +92,8 @@ def frame_of(
     task = RegionalTask(network, **kwargs)
     begins, others, *_ = ends_of(network, origins, destinations, snaps)
     pairs, feed = pairs_of(begins, others, all_to_all), network.feed_with(task.vehicles)
-    found = list[Row]()
+    both, found = (begins, others), list[Row]()
     if pairs:
-        both = (begins, others)
         found += walked(network, task, both, pairs) if feed is None else ridden(network, task, feed, both, pairs)
     columns = {name: [row.get(name) for row in found] for name in COLUMNS[:-1]}
     shapes = [row["geometry"] for row in found]

@@ -1,7 +1,6 @@
 """The legs of journeys as rows: what each is called, when it begins, how long it takes, and how it goes."""
 
 import datetime
-from dataclasses import dataclass
 from typing import Any, Iterator, Sequence
 
 import numpy as np
@@ -20,19 +19,10 @@ from .task import NEAR
 Row = dict[str, Any]
 
 
-@dataclass(frozen=True)
-class LegRoutes:
-    """Of each route its agency and its mode."""
-
-    agencies: dict[str, str | None]
-    modes: dict[str, TransportMode | None]
-
-
-def routes_of(folder: str) -> LegRoutes:
-    """The routes of a feed."""
-    found = [fields for _, fields in rows(f"{folder}/routes.txt", ["route_id"], ["agency_id", "route_type"])]
-    agencies = {route: agency or None for route, agency, _ in found}
-    return LegRoutes(agencies, {route: mode_of(int(kind.strip() or -1)) for route, _, kind in found})
+def routes_of(folder: str) -> dict[str, tuple[str | None, TransportMode | None]]:
+    """Of each route of a feed its agency and its mode."""
+    found = rows(f"{folder}/routes.txt", ["route_id"], ["agency_id", "route_type"])
+    return {route: (agency or None, mode_of(int(kind.strip() or -1))) for _, (route, agency, kind) in found}
 
 
 class DrawnLegs:
@@ -105,7 +95,7 @@ class DrawnLegs:
         if leg.run is None:
             return {"transport_mode": TransportMode.WALK, "feed": None, "agency_id": None, "route_id": None, **names}
         route = self.found.timetable.routes[int(self.found.runs.trip[leg.run])]
-        mode, agency = self.routes.modes[route], self.routes.agencies[route]
+        agency, mode = self.routes[route]
         return {"transport_mode": mode, "feed": self.network.feed_name, "agency_id": agency, "route_id": route, **names}
 
     def at(self, seconds: int) -> datetime.datetime:
