@@ -67,7 +67,6 @@ class Setting:
         return [paths[stop] for stop in stops]
 
     def arguments(self, size: str, origins: str) -> list[str]:
-        """The words of a run."""
         return [self.program or built("ttm"), *Study().arguments(self.folders[size], origins, 1)]
 
     def conversation(self, size: str, origins: str) -> contextlib.AbstractContextManager[Conversation]:
@@ -177,7 +176,6 @@ PARTS: dict[str, Callable[[Setting, str], Iterator[Figure]]] = {
 
 
 def setting_of(arguments: Sequence[str] | None = None) -> Setting:
-    """What the arguments ask for."""
     parser = parser_of(__doc__)
     for size in SIZES:
         parser.add_argument(f"--{size}", metavar="FOLDER", help="an unpacked feed")

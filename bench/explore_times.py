@@ -14,7 +14,6 @@ import statistics
 import subprocess
 import sys
 import threading
-from dataclasses import dataclass
 from pathlib import Path
 from typing import Iterator
 
@@ -150,12 +149,12 @@ def measure(size: str, folder: Path, count: int, program: str | None) -> Iterato
 
 def further(size: str, browser: Browser, server: int, folder: Path) -> Iterator[list[str]]:
     """The rows of what isn't asked at each click: two networks at once, and journeys."""
-    with watched(server) as most:
+    with watched(server) as seen:
         browser.awaited("await routes.undo();")
-    least = run_like(server, folder)
-    yield row(size, "memory above a run while a network begins, MB", most.whole - least)
-    yield row(size, "of it the server itself, MB", most.server, MEMORY)
-    yield row(size, "of it both conversations above a run, MB", most.whole - most.server - least)
+    (whole, own), least = max(seen), run_like(server, folder)
+    yield row(size, "memory above a run while a network begins, MB", whole - least)
+    yield row(size, "of it the server itself, MB", own, MEMORY)
+    yield row(size, "of it both conversations above a run, MB", whole - own - least)
     for name, change in (("with changes", ""), ("as it is", "await routes.change({ actions: [], walk: live.walk });")):
         script = f"{change} await set({{ place: numbers.columns[5] }}); {JOURNEY}"
         yield row(size, f"a journey of the feed {name}, ms", browser.awaited(script))
@@ -163,30 +162,23 @@ def further(size: str, browser: Browser, server: int, folder: Path) -> Iterator[
         yield row(size, what, above_run(server, folder), MEMORY)
 
 
-@dataclass
-class Most:
-    """The most memory that was seen, in MB: of a process with those that it began, and of it alone at that moment."""
-
-    whole: int = 0
-    server: int = 0
-
-
 @contextlib.contextmanager
-def watched(server: int) -> Iterator[Most]:
-    """While the block runs: memory of a process and of those that it began, at most, each page of memory once."""
-    most, is_over = Most(), threading.Event()
+def watched(server: int) -> Iterator[list[tuple[int, int]]]:
+    """MB of a process with those that it began, each page of memory once, and of it alone, again and again while the
+    block runs.
+    """
+    seen, is_over = [(0, 0)], threading.Event()
 
     def watch() -> None:
         while not is_over.wait(0.05):
             with contextlib.suppress(OSError):  # of a process that ends
-                whole = megabytes(server, "Pss", "smaps_rollup")
-                if whole > most.whole:
-                    most.whole, most.server = whole, kilobytes(server, "Pss", "smaps_rollup") // 1000
+                own = kilobytes(server, "Pss", "smaps_rollup") // 1000
+                seen.append((megabytes(server, "Pss", "smaps_rollup"), own))
 
     watcher = threading.Thread(target=watch)
     watcher.start()
     try:
-        yield most
+        yield seen
     finally:
         is_over.set()
         watcher.join()

@@ -71,7 +71,6 @@ class Figure:
     aim: float | None = None
 
     def cells(self) -> list[str]:
-        """The cells of its row."""
         met = self.value >= self.goal if self.at_least else self.value <= self.goal
         goal = f"{'at least' if self.at_least else 'at most'} {self.goal:g}"
         aim = f", aim {self.aim:g}" if self.aim else ""
@@ -105,7 +104,6 @@ class GoalOptions:
         return replace(plain, **more)
 
     def origins_of(self, size: str) -> list[str]:
-        """A feed's origins."""
         return self.of(size).origins_of(self.folders[size])
 
     def means(self, size: str, folder: str, **more: Any) -> dict[str, float]:
@@ -229,7 +227,6 @@ PARTS: dict[str, Callable[[GoalOptions], Iterator[Figure]]] = {
 
 
 def options_of(arguments: Sequence[str] | None = None) -> GoalOptions:
-    """What the arguments ask for."""
     parser = parser_of(__doc__)
     for size in FILES:
         parser.add_argument("--" + size, metavar="FOLDER", required=size in NEEDED, help="an unpacked feed")

@@ -2,7 +2,7 @@
 
 import math
 import random
-from dataclasses import dataclass, field
+from dataclasses import dataclass
 from typing import Iterable, Iterator, Sequence, TextIO
 
 from made_lines import Line
@@ -68,8 +68,6 @@ class Course:
 
 @dataclass(frozen=True)
 class Trip:
-    """A trip of a course."""
-
     course: Course
     name: str  # its identifier
     service: str
@@ -122,28 +120,20 @@ def courses_of(streets: Streets, stops: Stops, lines: Sequence[Line]) -> Iterato
     for line, route in zip(lines, routes_of(lines)):
         for direction, nodes in enumerate((line.nodes, line.nodes[::-1])):
             if line.is_rail:
-                calls = [stops.stops[stops.stations[node].platforms[direction]].name for node in nodes]
+                calls = [stops.stops[stops.stations[node] + direction].name for node in nodes]
             else:
                 calls = [stop_towards(streets, stops, nodes, at) for at in range(len(nodes))]
             legs = [leg(streets, line, start, end) for start, end in zip(nodes, nodes[1:])]
             yield Course(line, route, direction, calls, legs)
 
 
-@dataclass
-class Trips:
-    """What is kept of the trips once their stop times are written."""
-
-    records: list[str] = field(default_factory=list)  # of trips.txt
-    events: int = 0
-
-
-def write_stop_times(file: TextIO, courses: Iterable[Course], rnd: random.Random) -> Trips:
-    """Draws all trips, and writes their stop times as they come."""
+def write_stop_times(file: TextIO, courses: Iterable[Course], rnd: random.Random) -> tuple[list[str], int]:
+    """Draws all trips and writes their stop times as they come; gives their records, and the number of events."""
     file.write("trip_id,arrival_time,departure_time,stop_id,stop_sequence,pickup_type,drop_off_type\n")
-    trips = Trips()
+    records, events = list[str](), 0
     for course in courses:
         for trip in course.trips(rnd):
             file.write("".join(trip.stop_times()))
-            trips.records.append(trip.record())
-            trips.events += len(trip.calls)
-    return trips
+            records.append(trip.record())
+            events += len(trip.calls)
+    return records, events

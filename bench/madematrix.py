@@ -1,7 +1,7 @@
 #!/usr/bin/env python3
 """Made matrices, in the form in which `ttm` prints them, to measure the tools with where no engine is built.
 
-    madematrix.py FEED ORIGINS SHARES FILE [SEED]        SHARES such as 25,50,75
+    madematrix.py FEED ORIGINS SHARES FILE        SHARES such as 25,50,75
 
 The stops are those of the feed's stops.txt, the origins the first so many of them, the scenarios `base` and `cut`.
 Travel times are those of a straight line at a drawn speed, with a wait and noise, ascending with the share; some cells
@@ -30,29 +30,27 @@ def places_of(feed: str) -> tuple[list[str], npt.NDArray[np.float64]]:
     return [row["stop_id"] for row in rows], degrees * METRES * [1, 0.62]
 
 
-def cells_of(origin: int, scenario: str, places: npt.NDArray[np.float64], shares: list[int], seed: int) -> Cells:
+def cells_of(origin: int, scenario: str, places: npt.NDArray[np.float64], shares: list[int]) -> Cells:
     """The travel times from an origin, a row for each share, -1 where there is none."""
-    draw = np.random.default_rng([seed, origin])
+    draw = np.random.default_rng([1, origin])
     metres = np.hypot(*(places - places[origin]).T)
     middle = metres / SPEED * draw.uniform(0.8, 1.6, len(places)) + draw.uniform(60, 900, len(places))
     empty, changed, gone = (draw.random(len(places)) < part for part in (EMPTY, CHANGED, GONE))
     longer = draw.uniform(-200, 900, len(places))
     if scenario == "cut":
         middle, empty = np.where(changed, np.maximum(middle + longer, 60), middle), empty | gone
-    times = np.stack([middle * (0.7 + share / 170) for share in shares]).astype(np.int64)
+    times: Cells = np.stack([middle * (0.7 + share / 170) for share in shares]).astype(np.int64)
     times[:, empty] = -1
     times[:, origin] = 0
-    cells: Cells = times
-    return cells
+    return times
 
 
-def write(
-    out: BinaryIO, names: list[str], places: npt.NDArray[np.float64], origins: int, shares: list[int], seed: int
-) -> None:
+def write(out: BinaryIO, feed: str, origins: int, shares: list[int]) -> None:
+    names, places = places_of(feed)
     out.write(f"scenario,origin,share,access_{WITHIN},{','.join(names)}\n".encode())
     for scenario in ("base", "cut"):
-        for origin in range(origins):
-            for share, times in zip(shares, cells_of(origin, scenario, places, shares, seed)):
+        for origin in range(min(origins, len(names))):
+            for share, times in zip(shares, cells_of(origin, scenario, places, shares)):
                 access = int(((times >= 0) & (times <= WITHIN)).sum())
                 cells = np.char.mod("%d", times)
                 cells[times < 0] = ""
@@ -65,11 +63,9 @@ def main() -> None:
     parser.add_argument("origins", type=int)
     parser.add_argument("shares", type=numbers)
     parser.add_argument("file")
-    parser.add_argument("seed", nargs="?", type=int, default=1)
     args = parser.parse_args()
-    names, places = places_of(args.feed)
     with open(args.file, "wb") as out:
-        write(out, names, places, min(args.origins, len(names)), args.shares, args.seed)
+        write(out, args.feed, args.origins, args.shares)
 
 
 if __name__ == "__main__":

@@ -153,7 +153,6 @@ def names_of(programs: Sequence[Program]) -> list[str]:
 
 
 def row_of(folder: str, options: RatioOptions, programs: Sequence[Program], place: str) -> list[str]:
-    """The cells of a feed."""
     names = names_of(programs)
     mean = means_of(folder, options, programs, place)
     ratios = [f"{mean[name] / mean['ttm']:.2f}" for name in names[:-1]]
@@ -161,7 +160,6 @@ def row_of(folder: str, options: RatioOptions, programs: Sequence[Program], plac
 
 
 def options_of(arguments: Sequence[str] | None = None) -> RatioOptions:
-    """What the arguments ask for."""
     parser = parser_of(__doc__)
     which = "how many origins, of the folder's origins.csv or else of its stops; or a file of origins, in each folder"
     parser.add_argument("--times", type=int, default=3, help="runs of each program (default: 3)")

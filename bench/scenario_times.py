@@ -55,7 +55,6 @@ def part(names: list[str], first: int, count: int) -> list[str]:
 
 
 def plan_of(folder: Path, count: int) -> str:
-    """The plan."""
     ways, lines = longest_ways(folder), list[str]()
     routes = list(ways)
     for number in range(SCENARIOS):

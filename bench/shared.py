@@ -82,7 +82,6 @@ def first_origins(folder: str, count: int, all_of_them: bool = False) -> list[st
 
 
 def write_origins(path: str, stops: Sequence[str]) -> None:
-    """Writes a file of origins."""
     with open(path, "w", newline="", encoding="utf-8") as file:
         csv.writer(file, lineterminator="\n").writerows([["stop_id"]] + [[stop] for stop in stops])
 
@@ -186,6 +185,5 @@ def print_row(cells: Iterable[str]) -> None:
 
 
 def print_head(names: Sequence[str]) -> None:
-    """Prints the head of a table."""
     print_row(names)
     print("|" + "---|" * len(names), flush=True)

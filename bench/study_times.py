@@ -14,7 +14,6 @@ import contextlib
 import json
 import os
 import re
-import resource
 import signal
 import subprocess
 import sys
@@ -125,7 +124,7 @@ def text_of(path: Path) -> str:
 
 def run(command: list[str], folder: Path, until: float, pieces: Pieces, end: str = DONE) -> None:
     """Runs a command until it ends, or until so many of the parts are done."""
-    piece, begin, used = pieces.begin(), time.monotonic(), processors_of_ended()
+    piece, begin, used = pieces.begin(), time.monotonic(), sum(os.times()[2:4])  # of processes that have ended
     die_with_this = ["setpriv", "--pdeathsig", "KILL", "--"]
     process = subprocess.Popen([*die_with_this, PYTHON, TOOLS, "study", *command], start_new_session=True)
     for look in count():
@@ -134,7 +133,9 @@ def run(command: list[str], folder: Path, until: float, pieces: Pieces, end: str
             break
         is_enough = piece.parts >= until
         if look % LOOKS_A_SUM == 0 or is_enough:
-            note(piece, process.pid, folder)
+            memory, processors = taken_by(process.pid)
+            piece.memory, piece.processors = max(piece.memory, memory), max(piece.processors, processors)
+            piece.disk = max(piece.disk, disk_of(folder))
             pieces.keep()
         if is_enough:
             os.killpg(process.pid, signal.SIGKILL)
@@ -143,22 +144,9 @@ def run(command: list[str], folder: Path, until: float, pieces: Pieces, end: str
         time.sleep(SECONDS_BETWEEN_LOOKS)
     if process.returncode not in (0, -signal.SIGKILL):
         sys.exit(f"the study ended with status {process.returncode}")
-    piece.processors = max(piece.processors, processors_of_ended() - used)
+    piece.processors = max(piece.processors, sum(os.times()[2:4]) - used)
     piece.ended = end if process.returncode == 0 else KILLED
     pieces.keep()
-
-
-def note(piece: Piece, group: int, folder: Path) -> None:
-    """Notes what a group of processes takes now."""
-    memory, processors = taken_by(group)
-    piece.memory, piece.processors = max(piece.memory, memory), max(piece.processors, processors)
-    piece.disk = max(piece.disk, disk_of(folder))
-
-
-def processors_of_ended() -> float:
-    """Seconds of processors of all processes that were begun here and have ended, and of theirs."""
-    used = resource.getrusage(resource.RUSAGE_CHILDREN)
-    return used.ru_utime + used.ru_stime
 
 
 def tell(what: str, pieces: Pieces, folder: Path) -> None:

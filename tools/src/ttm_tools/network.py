@@ -12,17 +12,7 @@ from types import TracebackType
 from typing import Iterable, Iterator, Mapping, Sequence
 
 from .conversation import Answer, Conversation
-from .engine import (
-    EngineFault,
-    Pathlike,
-    Result,
-    Run,
-    footpaths_file,
-    program_at,
-    question_files,
-    refusal_of,
-    result_of,
-)
+from .engine import EngineFault, Pathlike, Result, Run, files_of, program_at, refusal_of, result_of
 from .faults import WrongWords
 from .files import remove
 from .matrices import open_matrix
@@ -117,10 +107,8 @@ class Network:
         named, self.rounded = program_at(program), Rounded()
         self.folder = Path(tempfile.mkdtemp(prefix=f"ttm-tools-network.{os.getpid()}."))
         try:
-            files = {}
-            if footpaths is not None:
-                files["footpaths"] = absolute(footpaths_file(self.folder, footpaths, self.rounded))
-            paths = [absolute(path) for path in scenarios]
+            found = files_of(self.folder, self.rounded, footpaths=footpaths)
+            files, paths = {name: absolute(path) for name, path in found.items()}, [*map(absolute, scenarios)]
             kept = Run(absolute(feed), date, MIDNIGHT, 4, walk, scenarios=paths, back=back, ahead=ahead, files=files)
             self.processes = Processes(command_of(named, kept.arguments()), workers)
         except BaseException:
@@ -148,7 +136,8 @@ class Network:
         named: dict[str, object] = {"from": window[0], "to": window[1], **numbers}
         named |= {"share": ",".join(map(str, shares)), "within": ",".join(map(str, limits))}
         with self.room() as folder:
-            files = question_files(folder, origins, opportunities, destinations, rounded)
+            given = {"origins": origins, "opportunities": opportunities, "destinations": destinations}
+            files = files_of(folder, rounded, **given)
             named |= {name: absolute(path) for name, path in files.items()}
             answer = self.processes.ask([word for name, value in named.items() for word in (f"--{name}", str(value))])
             if answer.status != 0:

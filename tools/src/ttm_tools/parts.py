@@ -49,16 +49,12 @@ def parts_of(origins: Sequence[Item], parts: int) -> list[Sequence[Item]]:
 
 def write_parts(origins: Sequence[str], parts: int, folder: str) -> int:
     """Writes part_0001.csv .. and origins.csv with the origins of all, and gives the number of parts."""
-    cut = parts_of(origins, parts)
-    own = {f"part_{number:04}.csv" for number in range(1, len(cut) + 1)}
+    cut = {f"part_{number:04}.csv": part for number, part in enumerate(parts_of(origins, parts), 1)}
     for other in sorted(Path(folder).glob("part_[0-9]*.csv")):
-        if other.name not in own:
+        if other.name not in cut:
             raise BadInput(other, "belongs to another split: name another folder, or remove it")
     with many_written_aside(folder) as aside:
-        for name, stops in [
-            ("origins.csv", origins),
-            *((f"part_{number:04}.csv", part) for number, part in enumerate(cut, 1)),
-        ]:
+        for name, stops in {"origins.csv": origins, **cut}.items():
             with open(aside / name, "wb") as file:
                 write_stops(file, stops)
     return len(cut)

@@ -9,14 +9,12 @@ from dataclasses import dataclass
 from typing import Sequence
 
 import numpy as np
-import numpy.typing as npt
 
 from ..gtfs.fields import Floats
 from ..matrices import Matrix, Seconds, Share
+from ..matrices.matrix import Places
 from .access import Weighting, by_blocks
 from .measure_list import COMPETITIONS
-
-Places = npt.NDArray[np.intp]
 
 
 @dataclass(frozen=True)

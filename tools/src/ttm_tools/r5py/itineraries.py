@@ -2,6 +2,7 @@
 
 import datetime
 import warnings
+from functools import partial
 from typing import Any, Iterator, Sequence
 
 import geopandas
@@ -136,10 +137,10 @@ class DetailedItinerariesComputer:
     ) -> None:
         text = "DetailedItineraries replaces DetailedItinerariesComputer in r5py 1.0"
         warnings.warn(text, DeprecationWarning, stacklevel=2)
-        self.arguments = (transport_network, origins, destinations, snap_to_network, force_all_to_all)
-        self.kwargs = kwargs
         RegionalTask(transport_network, **kwargs)
+        ends = (origins, destinations)
+        self.compute = partial(frame_of, transport_network, *ends, snap_to_network, force_all_to_all, **kwargs)
 
     def compute_travel_details(self) -> geopandas.GeoDataFrame:
         """The journeys."""
-        return frame_of(*self.arguments, **self.kwargs)
+        return self.compute()

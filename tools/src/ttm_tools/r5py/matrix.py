@@ -1,6 +1,7 @@
 """Matrices of travel times, as frames with r5py's columns."""
 
 import warnings
+from functools import partial
 from typing import Any
 
 import numpy as np
@@ -94,13 +95,11 @@ class TravelTimeMatrixComputer:
         snap_to_network: bool | float = False,
         **kwargs: Any,
     ) -> None:
-        warnings.warn(
-            "TravelTimeMatrix replaces TravelTimeMatrixComputer in r5py 1.0", DeprecationWarning, stacklevel=2
-        )
-        self.arguments = (transport_network, origins, destinations, snap_to_network)
-        self.kwargs = kwargs
+        text = "TravelTimeMatrix replaces TravelTimeMatrixComputer in r5py 1.0"
+        warnings.warn(text, DeprecationWarning, stacklevel=2)
         RegionalTask(transport_network, **kwargs)
+        self.compute = partial(table_of, transport_network, origins, destinations, snap_to_network, **kwargs)
 
     def compute_travel_times(self) -> pandas.DataFrame:
         """The matrix."""
-        return table_of(*self.arguments, **self.kwargs)
+        return self.compute()
