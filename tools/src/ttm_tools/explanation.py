@@ -30,8 +30,8 @@ def all_found(
     date: datetime.date,
     pairs: Sequence[tuple[str, str]],
     *,
-    program: Pathlike | None = None,
-    matrix: str | None = None,
+    program: Pathlike | None,
+    matrix: str | None,
 ) -> Iterator[tuple[ExplainOptions, list[Found]]]:
     """What is found for the base and each scenario, of some pairs of an origin and a destination, one after the other.
     The travel times for comparison are those of a matrix, or of one run of the program.

@@ -8,7 +8,6 @@ import tempfile
 import threading
 import weakref
 from pathlib import Path
-from types import TracebackType
 from typing import Iterable, Iterator, Mapping, Sequence
 
 from .conversation import Answer, Conversation
@@ -40,7 +39,6 @@ class Processes:
         self.free.put(self.begun())
 
     def begun(self) -> Conversation:
-        """A new process."""
         with self.lock:
             if self.closed:
                 raise WrongWords("the network is closed")
@@ -169,9 +167,7 @@ class Network:
     def __enter__(self) -> "Network":
         return self
 
-    def __exit__(
-        self, kind: type[BaseException] | None, fault: BaseException | None, trace: TracebackType | None
-    ) -> None:
+    def __exit__(self, *_: object) -> None:
         self.close()
 
 

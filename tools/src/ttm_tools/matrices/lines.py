@@ -88,7 +88,11 @@ def seconds_of(cells: bytes, count: int) -> Seconds | None:
     if longest > MOST_DIGITS:
         return None
     values = values_of(digits, ends, lengths, longest)
-    return None if values.max() > MOST else with_gaps(values, lengths)
+    if values.max() > MOST:
+        return None
+    seconds: Seconds = values.astype(np.float32)
+    seconds[lengths == 0] = np.nan
+    return seconds
 
 
 def values_of(
@@ -100,12 +104,6 @@ def values_of(
         digit = digits.take(ends - (1 + place), mode="clip")
         values += (digit * (lengths > place)).astype(np.int32) * POWERS[place]
     return values
-
-
-def with_gaps(values: npt.NDArray[np.int32], lengths: npt.NDArray[np.intp]) -> Seconds:
-    seconds = values.astype(np.float32)
-    seconds[lengths == 0] = np.nan
-    return seconds
 
 
 def first_bad(cells: bytes) -> tuple[int, str]:

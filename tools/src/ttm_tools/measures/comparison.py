@@ -39,13 +39,11 @@ class Changes:
 
 @dataclass(frozen=True)
 class Comparison:
-    """How two scenarios differ: for each origin its reached stops, and to how many it is cut off, slower, new and
-    faster; and the pairs, where kept.
+    """How two scenarios differ: for each origin to how many stops it is cut off, slower, new and faster; and the pairs,
+    where kept.
     """
 
     counts: npt.NDArray[np.int64]  # a row for each origin, a column for each of KINDS
-    reached_before: npt.NDArray[np.int64]
-    reached_after: npt.NDArray[np.int64]
     changes: Changes
 
 
@@ -90,17 +88,15 @@ def compare(pair: Pair, limit: float, with_pairs: bool) -> Comparison:
     """Compares all origins that both scenarios have, some at a time; a pair that differs takes 17 bytes where it is
     kept, and as many again while all are put in order.
     """
-    counts, reached = [np.zeros((0, len(KINDS)), np.int64)], [np.zeros((2, 0), np.int64)]
+    counts = [np.zeros((0, len(KINDS)), np.int64)]
     none = np.zeros((0, 0), np.float32)
     found = [[column] for column in columns_of(0, none, none, np.zeros((0, 0), np.int8))]
     for begin, before, after in progress.shown(pair.blocks(), pair.count_of_blocks(), "comparing", "blocks"):
         kinds = kinds_of(before, after, limit)
         counts.append(np.stack([np.count_nonzero(kinds == kind, axis=1) for kind in range(len(KINDS))], axis=1))
-        reached.append(np.stack([np.count_nonzero(~np.isnan(times), axis=1) for times in (before, after)]))
         for column, piece in zip(found, columns_of(begin, before, after, kinds) if with_pairs else ()):
             column.append(piece)
-    all_reached = np.concatenate(reached, axis=1)
-    return Comparison(np.concatenate(counts), all_reached[0], all_reached[1], Changes(*map(put_together, found)))
+    return Comparison(np.concatenate(counts), Changes(*map(put_together, found)))
 
 
 def put_together(pieces: list[npt.NDArray[Any]]) -> npt.NDArray[Any]:

@@ -47,7 +47,6 @@ def theil(access: Floats, people: Floats) -> float:
 
 
 def theil_of_group(access: Floats, people: Floats) -> Theil:
-    """The T of one group."""
     return Theil(float(people.sum()), theil(access, people), float("nan"), float("nan"))
 
 

@@ -13,8 +13,6 @@ from ..column_list import table
 
 @dataclass(frozen=True)
 class Measure:
-    """A measure."""
-
     name: str
     formula: str
     source: str

@@ -137,7 +137,6 @@ def write_doors(folder: Path, walks: LongWalks, merges: bool) -> None:
 
 
 def write_whole(folder: Path, walks: LongWalks) -> None:
-    """Writes the folder with all walks."""
     count = len(walks.files)
     begins, ends = ([True], [True]) if count == 1 else ([True, False], [False, True])
     limit, only = int(walks.pace.limit), None if count == 1 else walks.ends

@@ -73,13 +73,17 @@ def cells_along(begin: Floats, end: Floats, side: float) -> GridCells:
 def frame_of(
     transport_network: Any, origins: Any, isochrones: Iterable[Any], resolution: float, **kwargs: Any
 ) -> geopandas.GeoDataFrame:
-    """A row for each limit, ascending: the area that is reached from the nearest of the origins."""
+    """A row for each limit, ascending: the area that is reached from the nearest of the origins, which may be a point
+    of shapely in degrees.
+    """
     limits, network = limits_of(isochrones), network_from(transport_network)
     kwargs["max_time"] = limits[-1]
     task = RegionalTask(network, **kwargs)
     if len(task.percentiles) != 1:
         raise NotAvailable("percentiles", f"{task.percentiles} are several", "use one at a time")
-    begins, *_, frame, _ = ends_of(network, as_frame(origins), None, False)
+    if isinstance(origins, Point):
+        origins = geopandas.GeoDataFrame({"id": ["origin"]}, geometry=[origins], crs=DEGREES)
+    begins, *_, frame, _ = ends_of(network, origins, None, False)
     grid = StreetGrid(network.streets, frame.estimate_utm_crs(), resolution)
     found = seconds_between(network, task, begins, grid.places())[task.percentiles[0]]
     least = np.fmin.reduce(found, axis=0)
@@ -87,13 +91,6 @@ def frame_of(
         areas = [grid.area(least <= limit.total_seconds()) for limit in limits]
     table = {"travel_time": pandas.to_timedelta(limits)}
     return geopandas.GeoDataFrame(table, geometry=areas, crs=grid.crs).to_crs(DEGREES)
-
-
-def as_frame(origins: Any) -> Any:
-    """Origins as they are, or a point of shapely in degrees as the only one."""
-    if isinstance(origins, Point):
-        return geopandas.GeoDataFrame({"id": ["origin"]}, geometry=[origins], crs=DEGREES)
-    return origins
 
 
 class Isochrones(geopandas.GeoDataFrame):  # type: ignore[misc]

@@ -69,7 +69,6 @@ class DrawnLegs:
         return [stop for stop, before in zip(called, [-1, *called]) if stop != before]
 
     def rows_of(self, journey: Journey) -> Iterator[Row]:
-        """A row for each leg."""
         time = self.found.departures[journey.minute]
         for segment, leg in enumerate(journey.legs):
             line, metres = self.line_of(leg)

@@ -80,15 +80,18 @@ class LongWalks:
         folder.mkdir()
         split = split_of(timetable, places, len(places) * (1 if len(self.files) > 1 else 2))
         direct, changes = direct_walks(timetable, None, int(self.pace.limit))
-        table = self.table(timetable, direct)
+        table = self.table(direct)
         walks = [changes_at(changes)]
         for begins, ends in needed_walks(table, timetable.events, changes, merges):
             walks.append(Footpaths(begins, ends, table.seconds[begins, ends].astype(np.int64)))
             refuse_many(folder, walks)
         self.write_folder(folder, timetable, split, joined(walks))
-        np.save(folder / DIRECT, self.direct(table, len(split.stops)))
+        seconds = table.seconds[len(split.stops) :, len(split.stops) :]
+        if len(self.files) == 1:
+            np.fill_diagonal(seconds, 0)
+        np.save(folder / DIRECT, seconds)
 
-    def table(self, timetable: Timetable, stated: Footpaths) -> WalkTable:
+    def table(self, stated: Footpaths) -> WalkTable:
         """The walks along streets and those that the feed states, and chains of both."""
         table = street_table(self.placed, self.streets, self.pace, self.ends)
         stops = np.flatnonzero(self.own.kinds == 0)
@@ -97,13 +100,6 @@ class LongWalks:
         inside = [station in self.placed.entrances for station in self.placed.stations]
         table.chain(put | set(self.placed.chosen[np.array(inside, np.bool_)].tolist()))
         return table
-
-    def direct(self, table: WalkTable, stops: int) -> npt.NDArray[np.uint16]:
-        """The walks from origins to destinations."""
-        seconds = table.seconds[stops:, stops:]
-        if len(self.files) == 1:
-            np.fill_diagonal(seconds, 0)
-        return seconds
 
     def write_folder(self, folder: Path, timetable: Timetable, split: Split, walks: Footpaths) -> None:
         """Writes the feed, the footpaths, and the names of origins, destinations and split stops."""

@@ -37,12 +37,9 @@ def ends_of(
 
 def columns_of(task: RegionalTask, seconds: dict[int, Seconds]) -> dict[str, Seconds]:
     """A column for each percentile, in minutes; the median alone has no number in its name."""
-    if task.percentiles == [50]:
-        return {"travel_time": minutes_of(seconds[50], task.max_time).ravel()}
-    return {
-        f"travel_time_p{percentile}": minutes_of(seconds[percentile], task.max_time).ravel()
-        for percentile in task.percentiles
-    }
+    alone = task.percentiles == [50]
+    names = {percentile: "travel_time" if alone else f"travel_time_p{percentile}" for percentile in task.percentiles}
+    return {name: minutes_of(seconds[percentile], task.max_time).ravel() for percentile, name in names.items()}
 
 
 def table_of(

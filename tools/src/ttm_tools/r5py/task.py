@@ -112,7 +112,6 @@ def times_of(departure: datetime.datetime | None, window: datetime.timedelta) ->
 
 
 def percentiles_of(given: Sequence[int]) -> list[int]:
-    """The percentiles as they are given."""
     percentiles = [int(number) for number in given]
     if not 1 <= len(set(percentiles)) <= MOST_PERCENTILES or percentiles != list(given):
         allowed = f"one to {MOST_PERCENTILES} whole numbers"
