@@ -107,28 +107,21 @@ def answers(setting: Setting, size: str) -> Iterator[Figure]:
     yield Figure(what, size, sum(least) / len(least), OF_ROW * row + SIZES[size], False)
 
 
-def first_answer(setting: Setting, size: str, path: str) -> float:
-    """Milliseconds from the start of a process to its first answer."""
-    begun = time.monotonic()
-    with setting.conversation(size, path) as conversation:
-        ask(conversation, path)
-        return 1000 * (time.monotonic() - begun)
-
-
 def first(setting: Setting, size: str) -> Iterator[Figure]:
     """The first answer, over a run."""
     path = setting.drawn(size, 1)[0]
     arguments, runs, spans = setting.arguments(size, path), list[float](), list[float]()
     for _ in range(setting.rounds):
         runs.append(timed(lambda: subprocess.run(arguments, stdout=subprocess.PIPE, check=True)))
-        spans.append(first_answer(setting, size, path))
+        begun = time.monotonic()
+        with setting.conversation(size, path) as conversation:
+            ask(conversation, path)
+            spans.append(1000 * (time.monotonic() - begun))
     yield Figure(f"the first answer, over a run of {min(runs):.0f} ms", size, min(spans) / min(runs), 1.0, False)
 
 
 def many(setting: Setting, size: str) -> Iterator[Figure]:
     """Answers a second of one departure."""
-    if size != "city":
-        return
     paths = setting.drawn(size, ANSWERS)
     with setting.conversation(size, paths[0]) as conversation:
         ask(conversation, paths[0], *ONE)
@@ -138,8 +131,6 @@ def many(setting: Setting, size: str) -> Iterator[Figure]:
 
 def memory(setting: Setting, size: str) -> Iterator[Figure]:
     """How the memory held grows; each tenth question is a fault."""
-    if size != "city":
-        return
     paths, held = setting.drawn(size, ANSWERS), 0
     with setting.conversation(size, paths[0]) as conversation:
         for number in range(setting.questions):
@@ -166,6 +157,7 @@ def network(setting: Setting, size: str) -> Iterator[Figure]:
     yield Figure(what, size, max(millis[1:]) / 1000, SECONDS, False)
 
 
+OF_CITY = ("many", "memory")  # parts of the city alone
 PARTS: dict[str, Callable[[Setting, str], Iterator[Figure]]] = {
     "answers": answers,
     "first": first,
@@ -176,15 +168,13 @@ PARTS: dict[str, Callable[[Setting, str], Iterator[Figure]]] = {
 
 
 def setting_of(arguments: Sequence[str] | None = None) -> Setting:
-    parser = parser_of(__doc__)
+    parser = parser_of(__doc__, rounds=5, origins=20, questions=100_000)
     for size in SIZES:
         parser.add_argument(f"--{size}", metavar="FOLDER", help="an unpacked feed")
     parser.add_argument("--program", metavar="PATH", help="the built ttm (default: that of the clone)")
     parser.add_argument("--measure", metavar="PATH", help="the built measure (default: that of the clone)")
     which = "which parts, divided by commas (default: all)"
     parser.add_argument("--parts", type=parts_among(PARTS), default=list(PARTS), help=which)
-    for name, usual in (("rounds", 5), ("origins", 20), ("questions", 100_000)):
-        parser.add_argument(f"--{name}", metavar="N", type=int, default=usual, help=f"(default: {usual})")
     given = vars(parser.parse_args(arguments))
     folders = {size: given.pop(size) for size in SIZES}
     return Setting({size: folder for size, folder in folders.items() if folder}, **given)
@@ -193,8 +183,9 @@ def setting_of(arguments: Sequence[str] | None = None) -> Setting:
 def main() -> None:
     with tempfile.TemporaryDirectory() as place:
         setting = replace(setting_of(), place=place)
-        of_parts = (PARTS[part](setting, size) for part in setting.parts for size in setting.folders)
-        print_figures(itertools.chain.from_iterable(of_parts))
+        pairs = itertools.product(setting.parts, setting.folders)
+        chosen = ((part, size) for part, size in pairs if size == "city" or part not in OF_CITY)
+        print_figures(figure for part, size in chosen for figure in PARTS[part](setting, size))
 
 
 if __name__ == "__main__":

@@ -28,11 +28,9 @@ def write_points(feed: Path, folder: Path, count: int) -> None:
 
 
 def main() -> None:
-    parser = parser_of(__doc__)
+    parser = parser_of(__doc__, nodes=600_000, points=20_000)
     parser.add_argument("folder", type=Path)
     parser.add_argument("--size", default="metro")
-    parser.add_argument("--nodes", type=int, default=600_000)
-    parser.add_argument("--points", type=int, default=20_000)
     args = parser.parse_args()
     feed, streets, points = (args.folder / name for name in (args.size, "streets.osm.pbf", "points.csv"))
     args.folder.mkdir(parents=True, exist_ok=True)

@@ -41,14 +41,11 @@ def failures(trial: Callable[[str, int, Path], str], program: str, seeds: range)
 
 
 def main() -> int:
-    parser = parser_of(__doc__)
-    parser.add_argument("program", type=lambda path: str(Path(path).resolve()))
-    for name, usual in (("plans", 500), ("feeds", 200), ("damages", 2000), ("seed", 0)):
-        parser.add_argument(f"--{name}", type=int, default=usual)
-    args = parser.parse_args()
+    args = parser_of(__doc__, "program", plans=500, feeds=200, damages=2000, seed=0).parse_args()
+    program = str(Path(args.program).resolve())
     trials = [(plan_differs, args.plans), (right_feed_differs, args.feeds)]
     trials += [(trial, args.damages) for trial in (damage_stays, first_fault_differs)]
-    failed = sum(failures(trial, args.program, range(args.seed, args.seed + count)) for trial, count in trials)
+    failed = sum(failures(trial, program, range(args.seed, args.seed + count)) for trial, count in trials)
     print(f"{sum(count for _, count in trials) - failed} passed, {failed} failed")
     return 1 if failed else 0
 

@@ -123,10 +123,7 @@ def slides(browser: Browser) -> list[float]:
 
 def measure(size: str, folder: Path, count: int, program: str | None) -> Iterator[list[str]]:
     """The rows of a feed."""
-    with (
-        served(command_of(size, folder, program)) as (process, address),
-        contextlib.closing(Browser()) as browser,
-    ):
+    with served(command_of(size, folder, program)) as (process, address), contextlib.closing(Browser()) as browser:
         browser.driver.set_script_timeout(LONGEST)
         browser.visit(address)
         clicks(browser, 3)
@@ -189,10 +186,9 @@ def row(size: str, what: str, value: float, goal: float | None = None) -> list[s
 
 
 def main() -> None:
-    parser = parser_of(__doc__)
+    parser = parser_of(__doc__, clicks=20)
     for size in GOALS:
         parser.add_argument(f"--{size}", type=Path)
-    parser.add_argument("--clicks", type=int, default=20)
     parser.add_argument("--program")
     args = parser.parse_args()
     print_head(["Feed", "What", "Figure", "Goal"])

@@ -80,11 +80,9 @@ def write_places(folder: str, stops: Stops, change: int) -> None:
 
 def weekdays_between(first: str, last: str) -> Iterator[str]:
     """The Mondays to Fridays from one date to another."""
-    day = datetime.strptime(first, "%Y%m%d")
-    while day <= datetime.strptime(last, "%Y%m%d"):
-        if day.weekday() < 5:
-            yield day.strftime("%Y%m%d")
-        day += timedelta(days=1)
+    day, end = (datetime.strptime(text, "%Y%m%d") for text in (first, last))
+    days = (day + timedelta(number) for number in range((end - day).days + 1))
+    return (day.strftime("%Y%m%d") for day in days if day.weekday() < 5)
 
 
 def write_routes_and_days(folder: str, lines: Sequence[Line]) -> None:

@@ -43,7 +43,6 @@ FILES = {
     "metropolis": ("origins1000.csv", 60),
     "region": ("origins300.csv", 100),
 }
-NEEDED = ("town", "city", "metropolis")
 Goals = dict[
     str, tuple[float, float | None]
 ]  # of times as fast as another program, by its name: the least, and the aim
@@ -227,15 +226,14 @@ PARTS: dict[str, Callable[[GoalOptions], Iterator[Figure]]] = {
 
 
 def options_of(arguments: Sequence[str] | None = None) -> GoalOptions:
-    parser = parser_of(__doc__)
+    parser = parser_of(__doc__, times=3)
     for size in FILES:
-        parser.add_argument("--" + size, metavar="FOLDER", required=size in NEEDED, help="an unpacked feed")
+        parser.add_argument("--" + size, metavar="FOLDER", required=size != "region", help="an unpacked feed")
     parser.add_argument("--peers", metavar="FOLDER", help="a folder of Rust peers, as of ratios.py")
     parser.add_argument("--beside", metavar="PROGRAM", help="the program of crates/measure as another commit builds it")
     which = "which parts, divided by commas (default: all)"
     parser.add_argument("--parts", type=parts_among(PARTS), default=list(PARTS), help=which)
     parser.add_argument("--origins", metavar="N", type=int, help="at most so many origins of each feed")
-    parser.add_argument("--times", metavar="N", type=int, default=3, help="runs of each program (default: 3)")
     given = vars(parser.parse_args(arguments))
     return GoalOptions({size: given.pop(size) for size in FILES}, **given)
 

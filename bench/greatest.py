@@ -63,25 +63,17 @@ def calls(trips: int) -> Iterator[str]:
         yield rows[run].format(trip, *stops)
 
 
-def hub(stops: int) -> Iterator[str]:
-    """Footpaths from stop 0 to each other one, and back."""
-    for stop in range(1, stops + 1):
-        yield f"0,{stop},60"
-        yield f"{stop},0,60"
-
-
 def main() -> None:
-    parser = parser_of(__doc__)
-    parser.add_argument("folder")
+    parser = parser_of(__doc__, "folder", hub=0)
     parser.add_argument("--past", choices=["stops", "trips", "stop_times", "walks"])
-    parser.add_argument("--hub", metavar="STOPS", type=int)
     args = parser.parse_args()
     folder, past = args.folder, args.past
     os.makedirs(folder, exist_ok=True)
     stops, trips = STOPS + (past == "stops"), TRIPS + (past == "trips")
     walks = footpaths(PAIRS + 2 * (past == "walks"))
     if args.hub:
-        stops, trips, walks = args.hub + 1, 0, hub(args.hub)
+        stops, trips = args.hub + 1, 0
+        walks = (line for stop in range(1, stops) for line in (f"0,{stop},60", f"{stop},0,60"))
     times = "trip_id,arrival_time,departure_time,stop_id,stop_sequence"
     more = ["0,28:00:00,28:00:00,0,9"] if past == "stop_times" else []
     write_lines(folder, "stops.txt", "stop_id", map(str, range(stops)))

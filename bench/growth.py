@@ -69,7 +69,7 @@ def in_turns(
     for _ in range(runs):
         for least, (study, workers) in zip(found, studies):
             ran = run_into([built("ttm"), *study.arguments(folder, some, workers)], matrix)
-            least.whole, least.peak = min(least.whole, ran.seconds), max(least.peak, ran.peak)
+            least.whole, least.peak = min(least.whole, ran.seconds), max(least.peak, ran.kilobytes // 1024)
             least.size = os.path.getsize(matrix)
             least.sums.add(sum_of(matrix))
             ran = run_into([built("ttm"), *study.arguments(folder, none, workers)], matrix)
@@ -91,14 +91,10 @@ def study_of(args: argparse.Namespace, value: int, folder: str, place: str) -> t
 
 
 def main() -> None:
-    parser = parser_of(__doc__)
+    parser = parser_of(__doc__, origins=12, runs=3, **{name: usual for name, (_, usual) in VARIED.items()})
     parser.add_argument("setting", choices=VARIED)
     parser.add_argument("--values", type=numbers)
     parser.add_argument("--same", action="store_true")
-    parser.add_argument("--origins", type=int, default=12)
-    parser.add_argument("--runs", type=int, default=3)
-    for name, (_, usual) in VARIED.items():
-        parser.add_argument("--" + name, type=int, default=usual)
     parser.add_argument("folder", nargs="+")
     args = parser.parse_args()
     values = args.values or VARIED[args.setting][0]

@@ -5,7 +5,7 @@ import random
 from dataclasses import dataclass
 from typing import Iterable, Iterator, Sequence, TextIO
 
-from made_lines import Line
+from made_lines import PEAKS, Line
 from made_streets import SPACING, Stops, Streets
 from shared import clock
 
@@ -18,15 +18,8 @@ CLOCK = [clock(second) for second in range(32 * 3600)]
 def slowness(time: float) -> float:
     """1 off the peaks, 1.25 in them, with slopes of an hour."""
     hour = time / 3600
-
-    def bump(first: float, last: float) -> float:
-        if hour < first - 1 or hour > last + 1:
-            return 0
-        if hour < first:
-            return hour - (first - 1)
-        return (last + 1) - hour if hour > last else 1
-
-    return 1 + 0.25 * max(bump(7, 9.5), bump(16, 18.5))
+    slopes = (min(hour - (first - 1), (last + 1) - hour, 1) for first, last in PEAKS)
+    return 1 + 0.25 * max(0, *slopes)
 
 
 @dataclass

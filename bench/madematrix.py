@@ -58,14 +58,9 @@ def write(out: BinaryIO, feed: str, origins: int, shares: list[int]) -> None:
 
 
 def main() -> None:
-    parser = parser_of(__doc__)
-    parser.add_argument("feed")
-    parser.add_argument("origins", type=int)
-    parser.add_argument("shares", type=numbers)
-    parser.add_argument("file")
-    args = parser.parse_args()
+    args = parser_of(__doc__, "feed", "origins", "shares", "file").parse_args()
     with open(args.file, "wb") as out:
-        write(out, args.feed, args.origins, args.shares)
+        write(out, args.feed, int(args.origins), numbers(args.shares))
 
 
 if __name__ == "__main__":

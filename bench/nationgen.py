@@ -10,7 +10,6 @@ Nothing is drawn: the same numbers make the same bytes. It wants numpy.
 
 import math
 import os
-from pathlib import Path
 from typing import Any
 
 import numpy as np
@@ -51,11 +50,11 @@ def block(pieces: list[Any], count: int) -> bytes:
     return records.tobytes()
 
 
-def write_calls(folder: Path, stops: int, lines: int, trips: int) -> None:
+def write_calls(folder: str, stops: int, lines: int, trips: int) -> None:
     """Trip after trip: trip n runs on line n mod the number of lines, from stop to stop in a minute and a half."""
     stop_texts, numbers = texts("de:%07d", stops), texts("%02d", CALLS)
     times = np.array([clock(second).encode() for second in range(48 * 3600)])
-    with open(folder / "stop_times.txt", "wb") as file:
+    with open(f"{folder}/stop_times.txt", "wb") as file:
         file.write(
             b"trip_id,arrival_time,departure_time,stop_id,stop_sequence,pickup_type,drop_off_type,timepoint,dist\n"
         )
@@ -72,17 +71,13 @@ def write_calls(folder: Path, stops: int, lines: int, trips: int) -> None:
 
 
 def main() -> None:
-    parser = parser_of(__doc__)
-    parser.add_argument("folder", type=Path)
-    parser.add_argument("--stops", type=int, default=500_000)
-    parser.add_argument("--trips", type=int, default=1_000_000)
-    args = parser.parse_args()
-    args.folder.mkdir(parents=True, exist_ok=True)
+    args = parser_of(__doc__, "folder", stops=500_000, trips=1_000_000).parse_args()
+    os.makedirs(args.folder, exist_ok=True)
     lines = max(args.stops // CALLS, 1)
-    write_stops(str(args.folder), args.stops)
-    write_trips(str(args.folder), lines, args.trips)
+    write_stops(args.folder, args.stops)
+    write_trips(args.folder, lines, args.trips)
     write_calls(args.folder, args.stops, lines, args.trips)
-    size = os.path.getsize(args.folder / "stop_times.txt")
+    size = os.path.getsize(f"{args.folder}/stop_times.txt")
     print(f"{args.stops} stops, {args.trips} trips, {args.trips * CALLS} stop times in {size} bytes")
 
 

@@ -82,8 +82,7 @@ def measure(browser: Browser, path: Path, count: int) -> None:
 
 
 def main() -> None:
-    parser = parser_of(__doc__)
-    parser.add_argument("--clicks", type=int, default=50, help="how many places are clicked on (default 50)")
+    parser = parser_of(__doc__, clicks=50)
     parser.add_argument("--keep", help="where the page is left")
     parser.add_argument("--picture", help="where a picture is written")
     parser.add_argument("--look", default="", help="what the picture shows")

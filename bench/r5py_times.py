@@ -67,12 +67,8 @@ def same(mine: Any, theirs: pandas.DataFrame, doors: Path) -> bool:
 
 
 def main() -> None:
-    parser = parser_of(__doc__)
-    for name in ("program", "feed", "streets"):
-        parser.add_argument(name)
-    usual = {"walk": 15, "cells": 3000, "clinics": 12, "workers": len(os.sched_getaffinity(0)), "rounds": 3, "seed": 1}
-    for name, number in usual.items():
-        parser.add_argument(f"--{name}", type=int, default=number)
+    numbers = {"walk": 15, "cells": 3000, "clinics": 12, "workers": len(os.sched_getaffinity(0)), "rounds": 3}
+    parser = parser_of(__doc__, "program", "feed", "streets", **numbers, seed=1)
     args = parser.parse_args()
     random, walk = np.random.default_rng(args.seed), datetime.timedelta(minutes=args.walk)
     cells, clinics = draw(args.feed, args.cells, "cell", random), draw(args.feed, args.clinics, "clinic", random)

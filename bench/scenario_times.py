@@ -2,9 +2,9 @@
 """Times `ttm-tools scenarios` with a plan of ten scenarios over a feed of `feedgen.py`, with its processor time and
 peak memory, and says what was written.
 
-    scenario_times.py FEED OUT [ROUTES]
+    scenario_times.py FEED OUT [--routes N]
 
-Each scenario has three actions: a new line along twenty stops of a route; ROUTES routes (20 by default) every five
+Each scenario has three actions: a new line along twenty stops of a route; N routes (20 by default) every five
 minutes all day; and one that differs (a bus lane on so many routes, stops, routes and trips taken out or shifted, a
 route cut or extended).
 OUT has the plan then, what was reported, and in OUT/feed what was written.
@@ -70,16 +70,13 @@ def plan_of(folder: Path, count: int) -> str:
 
 
 def main() -> None:
-    parser = parser_of(__doc__)
-    parser.add_argument("feed", type=Path)
-    parser.add_argument("out", type=Path)
-    parser.add_argument("routes", nargs="?", type=int, default=20)
-    args = parser.parse_args()
-    args.out.mkdir(exist_ok=True)
-    plan, feed = args.out / "plan.toml", args.out / "feed"
-    plan.write_text(plan_of(args.feed, args.routes))
-    with open(args.out / "told.txt", "w") as log:
-        command = [PYTHON, TOOLS, "scenarios", str(args.feed), str(plan), "--out", str(feed)]
+    args = parser_of(__doc__, "feed", "out", routes=20).parse_args()
+    out = Path(args.out)
+    plan, feed = out / "plan.toml", out / "feed"
+    out.mkdir(exist_ok=True)
+    plan.write_text(plan_of(Path(args.feed), args.routes))
+    with open(out / "told.txt", "w") as log:
+        command = [PYTHON, TOOLS, "scenarios", args.feed, str(plan), "--out", str(feed)]
         ran = run(command, stdout=log, stderr=log)
     print(f"status {ran.status}, {ran}")
     for path in sorted(feed.rglob("*.*")) if ran.status == 0 else []:

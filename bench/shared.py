@@ -17,9 +17,16 @@ PROGRAM = os.environ.get("TTM_PROGRAM", os.path.join(os.path.dirname(HERE), "cra
 DATE = "20260504"  # a Monday on which all trips of the made feeds run
 
 
-def parser_of(text: str | None) -> argparse.ArgumentParser:
-    """A parser whose help shows a script's own text as it stands."""
-    return argparse.ArgumentParser(description=text, formatter_class=argparse.RawDescriptionHelpFormatter)
+def parser_of(text: str | None, *names: str, **numbers: int) -> argparse.ArgumentParser:
+    """A parser whose help shows a script's own text as it stands, of words with these names, and of options that are
+    numbers, with their usual values.
+    """
+    parser = argparse.ArgumentParser(description=text, formatter_class=argparse.RawDescriptionHelpFormatter)
+    for name in names:
+        parser.add_argument(name)
+    for name, usual in numbers.items():
+        parser.add_argument(f"--{name}", type=int, default=usual, help=f"(default: {usual})")
+    return parser
 
 
 def numbers(text: str) -> list[int]:
@@ -129,11 +136,6 @@ class Ran:
     seconds: float  # from start to end, by the clock
     busy: float  # seconds of processors
     kilobytes: int  # most memory held
-
-    @property
-    def peak(self) -> int:
-        """The most memory held, in MB."""
-        return self.kilobytes // 1024
 
     def __str__(self) -> str:
         memory = f"{self.kilobytes // 1000} MB"

@@ -34,9 +34,9 @@ class Grid:
     degrees: npt.NDArray[np.float64]  # of each crossing its longitude and latitude
 
 
-def ground_of(feed: Path) -> tuple[float, float, float, float]:
+def ground_of(feed: str) -> tuple[float, float, float, float]:
     """West, south, east and north of a feed's stops."""
-    stops = [row for row in records_of(feed / "stops.txt") if row["stop_lat"]]
+    stops = [row for row in records_of(f"{feed}/stops.txt") if row["stop_lat"]]
     table = np.array([(float(row["stop_lon"]), float(row["stop_lat"])) for row in stops])
     (west, south), (east, north) = table.min(axis=0) - MARGIN, table.max(axis=0) + MARGIN
     return float(west), float(south), float(east), float(north)
@@ -98,15 +98,10 @@ def write(path: Path, grid: Grid, draw: np.random.Generator) -> int:
 
 
 def main() -> None:
-    parser = parser_of(__doc__)
-    parser.add_argument("feed", type=Path)
-    parser.add_argument("file", type=Path)
-    parser.add_argument("--nodes", type=int, default=600_000)
-    parser.add_argument("--seed", type=int, default=1)
-    args = parser.parse_args()
+    args = parser_of(__doc__, "feed", "file", nodes=600_000, seed=1).parse_args()
     draw = np.random.default_rng(args.seed)
     grid = grid_of(ground_of(args.feed), args.nodes, draw)
-    ways = write(args.file, grid, draw)
+    ways = write(Path(args.file), grid, draw)
     print(f"{args.file}: {grid.rows * grid.columns} nodes, {ways} ways")
 
 

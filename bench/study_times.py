@@ -177,23 +177,19 @@ def make_feed(size: str, folder: Path) -> None:
 
 
 def main() -> None:
-    parser = parser_of(__doc__)
-    parser.add_argument("size", choices=("town", "city", "metro"))
-    parser.add_argument("folder", type=Path)
-    parser.add_argument("--workers", default=str(len(os.sched_getaffinity(0))), help="parts at once")
-    parser.add_argument("--memory", type=int, default=6400, help="MB that all of them may take")
-    args = parser.parse_args()
-    args.folder.mkdir(parents=True, exist_ok=True)
-    make_feed(args.size, args.folder)
-    path, out = args.folder / "study.toml", args.folder / "study"
+    args = parser_of(__doc__, "size", "folder", workers=len(os.sched_getaffinity(0)), memory=6400).parse_args()
+    folder, workers = Path(args.folder), ["--workers", str(args.workers)]
+    folder.mkdir(parents=True, exist_ok=True)
+    make_feed(args.size, folder)
+    path, out = folder / "study.toml", folder / "study"
     path.write_text(STUDY.format(size=args.size, memory=args.memory), encoding="utf-8")
-    pieces = Pieces(args.folder / "pieces.json")
-    named = [str(path), "--workers", args.workers]
+    pieces = Pieces(folder / "pieces.json")
+    named = [str(path), *workers]
     while not pieces.that(DONE):
         killed = len(pieces.that(KILLED))
         run(named, out, KILLED_AT[killed] if killed < len(KILLED_AT) else 2.0, pieces)
     if not pieces.that(VERIFIED):
-        run(["--verify", str(out), "--workers", args.workers], out, 2.0, pieces, VERIFIED)
+        run(["--verify", str(out), *workers], out, 2.0, pieces, VERIFIED)
     tell(f"{args.size}, {args.workers} processes", pieces, out)
 
 

@@ -43,10 +43,7 @@ def write_counts(matrix: str, folder: str) -> None:
 
 
 def main() -> None:
-    parser = parser_of(__doc__)
-    parser.add_argument("feed")
-    parser.add_argument("matrix")
-    args = parser.parse_args()
+    args = parser_of(__doc__, "feed", "matrix").parse_args()
     with open(args.matrix, encoding="utf-8") as file:
         _, first, second = (file.readline().split(",", 3)[:3] for _ in range(3))
     share = ["--share", "50"] if first[:2] == second[:2] else []  # the same origin twice, for two shares

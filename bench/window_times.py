@@ -1,7 +1,7 @@
 #!/usr/bin/env python3
 """Makes a study of a grid of cells in four windows on three dates, and says what it takes.
 
-    window_times.py FEED FOLDER [METRES]      the cells are METRES wide (without it, 425: 2,981 in the made city)
+    window_times.py FEED FOLDER [--metres N]      the cells are so wide (425 by default: 2,981 in the made city)
 
 FEED is a made feed (feedgen.py), whose jobs lie at its stops. It wants the built program (TTM_PROGRAM, or that of this
 clone), numpy, pandas, h5py, matplotlib and jinja2.
@@ -36,25 +36,21 @@ nearest = [1000]
 """
 
 
-def write_addresses(feed: Path, folder: Path) -> None:
+def write_addresses(feed: str, folder: str) -> None:
     """Jobs and residents at the stops."""
-    jobs = {row["stop_id"]: row["opportunities"] for row in records_of(feed / "opportunities.csv")}
-    stops = [row for row in records_of(feed / "stops.txt") if row["stop_id"] in jobs]
+    jobs = {row["stop_id"]: row["opportunities"] for row in records_of(f"{feed}/opportunities.csv")}
+    stops = [row for row in records_of(f"{feed}/stops.txt") if row["stop_id"] in jobs]
     places = (f"{row['stop_id']},{row['stop_lat']},{row['stop_lon']},{jobs[row['stop_id']]}" for row in stops)
     rows = (f"{place},{50 + 37 * number % 90}" for number, place in enumerate(places))
-    write_lines(str(folder), "addresses.csv", "id,lat,lon,jobs,residents", rows)
+    write_lines(folder, "addresses.csv", "id,lat,lon,jobs,residents", rows)
 
 
 def main() -> int:
-    parser = parser_of(__doc__)
-    parser.add_argument("feed", type=Path)
-    parser.add_argument("folder", type=Path)
-    parser.add_argument("metres", nargs="?", default="425")
-    args = parser.parse_args()
-    args.folder.mkdir(parents=True, exist_ok=True)
+    args = parser_of(__doc__, "feed", "folder", metres=425).parse_args()
+    os.makedirs(args.folder, exist_ok=True)
     write_addresses(args.feed, args.folder)
-    path = args.folder / "windows.toml"
-    path.write_text(STUDY.format(feed=args.feed.resolve(), metres=args.metres), encoding="utf-8")
+    path = Path(args.folder, "windows.toml")
+    path.write_text(STUDY.format(feed=os.path.abspath(args.feed), metres=args.metres), encoding="utf-8")
     ran = run([PYTHON, TOOLS, "study", str(path)], env={**os.environ, "TTM_PROGRAM": PROGRAM})
     print(f"{ran.seconds:.0f} s by the clock, {ran.busy:.0f} s of processor time")
     return ran.status
