@@ -105,9 +105,12 @@ class Network:
         named, self.rounded = program_at(program), Rounded()
         self.folder = Path(tempfile.mkdtemp(prefix=f"ttm-tools-network.{os.getpid()}."))
         try:
-            found = files_of(self.folder, self.rounded, footpaths=footpaths)
-            files, paths = {name: absolute(path) for name, path in found.items()}, [*map(absolute, scenarios)]
-            kept = Run(absolute(feed), date, MIDNIGHT, 4, walk, scenarios=paths, back=back, ahead=ahead, files=files)
+            named_files = files_of(self.folder, self.rounded, footpaths=footpaths)
+            files = {name: os.path.abspath(path) for name, path in named_files.items()}  # the process stays here
+            paths = [os.path.abspath(path) for path in scenarios]
+            kept = Run(
+                os.path.abspath(feed), date, MIDNIGHT, 4, walk, scenarios=paths, back=back, ahead=ahead, files=files
+            )
             self.processes = Processes(command_of(named, kept.arguments()), workers)
         except BaseException:
             remove(self.folder)
@@ -136,7 +139,7 @@ class Network:
         with self.room() as folder:
             given = {"origins": origins, "opportunities": opportunities, "destinations": destinations}
             files = files_of(folder, rounded, **given)
-            named |= {name: absolute(path) for name, path in files.items()}
+            named |= {name: os.path.abspath(path) for name, path in files.items()}
             answer = self.processes.ask([word for name, value in named.items() for word in (f"--{name}", str(value))])
             if answer.status != 0:
                 raise EngineFault("\n".join(refusal_of(answer.body, answer.status)), answer.status)
@@ -176,8 +179,3 @@ def end(processes: Processes, folder: Path, owner: int) -> None:
     if os.getpid() == owner:
         processes.close()
         remove(folder)
-
-
-def absolute(path: Pathlike) -> str:
-    """A path that means the same from every folder, since the process stays where it began."""
-    return os.path.abspath(path)

@@ -4,7 +4,6 @@ identifiers.
 
 from dataclasses import dataclass, replace
 from pathlib import Path
-from typing import Sequence
 
 import numpy as np
 
@@ -45,10 +44,10 @@ class Beside(Matrix):
         chosen = other.scenario(scenario or other.base)
         shares = shares_of(own, other)
         self.shares = list(shares)
-        limits = limits_of(own, other)
+        both = [limit for limit in own.layout.limits if limit in other.layout.limits]
         stops = [name for name in own.stops if name in other.places]
-        self.layout = replace(own.layout, limits=tuple(own.layout.limits[place] for place, _ in limits), stops=stops)
-        at = [np.array([limit[end] for limit in limits], dtype=np.intp) for end in (0, 1)]
+        self.layout = replace(own.layout, limits=tuple(both), stops=stops)
+        at = [np.array([table.layout.limits.index(limit) for limit in both], dtype=np.intp) for table in (own, other)]
         columns = [np.array([table.places[name] for name in stops], dtype=np.intp) for table in (own, other)]
         origins = self.common(chosen, shares)
         self.sources = {second: MatrixSource(other, chosen, shares, origins, columns[1], at[1])}
@@ -133,9 +132,3 @@ def shares_of(own: Matrix, other: Matrix) -> dict[Share, Share]:
         return {own.shares[0]: other.shares[0]}
     percentiles = ", ".join(map(str, own.shares))
     raise BadInput(other.path, f"no percentile in common with {own.path}, which has {percentiles}")
-
-
-def limits_of(own: Matrix, other: Matrix) -> Sequence[tuple[int, int]]:
-    """The places of the limits of access that both have."""
-    mine, others = own.layout.limits, other.layout.limits
-    return [(place, others.index(limit)) for place, limit in enumerate(mine) if limit in others]

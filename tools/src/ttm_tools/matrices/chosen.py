@@ -31,10 +31,7 @@ class Chosen(Matrix):
     @property
     def is_any(self) -> bool:
         """Whether anything of the matrix is named."""
-        origins = (
-            name for scenario in self.scenarios for share in self.shares for name in self.origins(scenario, share)
-        )
-        return any(name in self.names for name in self.layout.stops) or any(name in self.names for name in origins)
+        return not self.names.isdisjoint(self.whole.stops_and_origins())
 
     def rows_of(self, scenario: str, share: Share) -> Places:
         """The places of the chosen origins among all."""

@@ -37,10 +37,6 @@ def within(numbers: Floats, people: Floats, part: float) -> float:
     return float(numbers[order][np.argmax(sums >= sums[-1] * part * NEARLY)])
 
 
-def ratio(number: float, other: float) -> float:
-    return number / other if other > 0 else float("nan")
-
-
 def part(access: Floats, people: Floats, begin: float, end: float) -> Floats:
     """How many of the people at each point stand between two shares (0 to 1) of all, by ascending access."""
     values, group = np.unique(access, return_inverse=True)
@@ -74,7 +70,8 @@ def losers_percent(case: EquityCase) -> float:
 
 def palma(case: EquityCase) -> float:
     most, least = part(case.access, case.people, 1 - TOP, 1), part(case.access, case.people, 0, BOTTOM)
-    return ratio(mean(case.access, most), mean(case.access, least))
+    of_least = mean(case.access, least)
+    return mean(case.access, most) / of_least if of_least > 0 else float("nan")
 
 
 def least_tenth(case: EquityCase) -> float:

@@ -43,11 +43,9 @@ def read_counts(paths: Sequence[str], stops: Sequence[str], kind: str, wanted: S
                 raise BadInput(path, f"a column {shown(called(name, path))} is in another file too")
             names.append(called(name, path))
         columns.append(numbers_of(path, found, places, kind))
-    lost = [name for name in wanted if name not in names]
+    lost = [shown(name) for name in wanted if name not in names]
     if lost:
-        raise BadInput(
-            ", ".join(paths), f"no column {shown(lost[0])}; there are {some([shown(name) for name in there])}"
-        )
+        raise BadInput(", ".join(paths), f"no column {lost[0]}; there are {some([*map(shown, there)])}")
     return Counts(names, np.concatenate([np.zeros((len(stops), 0)), *columns], axis=1))
 
 

@@ -86,11 +86,9 @@ class DrawnLegs:
     def names_of(self, leg: Leg) -> Row:
         """What a leg is called by the feed."""
         stops, boards = self.found.timetable.stops, self.found.boards
-        ends = {
-            name: stops[boards.get(stop, stop)]
-            for name, stop in (("start_stop_id", leg.start), ("end_stop_id", leg.end))
-        }
-        names: Row = {column: None if name in self.no_stops else name for column, name in ends.items()}
+        ends = {"start_stop_id": leg.start, "end_stop_id": leg.end}
+        called = {column: stops[boards.get(stop, stop)] for column, stop in ends.items()}
+        names: Row = {column: None if name in self.no_stops else name for column, name in called.items()}
         if leg.run is None:
             return {"transport_mode": TransportMode.WALK, "feed": None, "agency_id": None, "route_id": None, **names}
         route = self.found.timetable.routes[int(self.found.runs.trip[leg.run])]

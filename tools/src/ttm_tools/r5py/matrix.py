@@ -42,20 +42,6 @@ def columns_of(task: RegionalTask, seconds: dict[int, Seconds]) -> dict[str, Sec
     return {name: minutes_of(seconds[percentile], task.max_time).ravel() for percentile, name in names.items()}
 
 
-def table_of(
-    transport_network: Any, origins: Any, destinations: Any, snap_to_network: bool | float, **kwargs: Any
-) -> pandas.DataFrame:
-    """The matrix in the long form."""
-    network = network_from(transport_network)
-    task = RegionalTask(network, **kwargs)
-    begins, ends, *_ = ends_of(network, origins, destinations, snap_to_network)
-    seconds = seconds_between(network, task, begins, ends)
-    count = len(ends.identifiers)
-    from_id = np.repeat(as_column(begins.identifiers), count)
-    to_id = np.tile(as_column(ends.identifiers), len(begins.identifiers))
-    return pandas.DataFrame({"from_id": from_id, "to_id": to_id, **columns_of(task, seconds)})
-
-
 def as_column(identifiers: list[Any]) -> Any:
     """Identifiers of their own kind: numbers stay numbers."""
     return pandas.Series(identifiers).to_numpy()
@@ -74,7 +60,13 @@ class TravelTimeMatrix(pandas.DataFrame):  # type: ignore[misc]
         snap_to_network: bool | float = False,
         **kwargs: Any,
     ) -> None:
-        super().__init__(table_of(transport_network, origins, destinations, snap_to_network, **kwargs))
+        network = network_from(transport_network)
+        task = RegionalTask(network, **kwargs)
+        begins, ends, *_ = ends_of(network, origins, destinations, snap_to_network)
+        seconds = seconds_between(network, task, begins, ends)
+        from_id = np.repeat(as_column(begins.identifiers), len(ends.identifiers))
+        to_id = np.tile(as_column(ends.identifiers), len(begins.identifiers))
+        super().__init__({"from_id": from_id, "to_id": to_id, **columns_of(task, seconds)})
 
     @property
     def _constructor(self) -> Any:
@@ -95,8 +87,8 @@ class TravelTimeMatrixComputer:
         text = "TravelTimeMatrix replaces TravelTimeMatrixComputer in r5py 1.0"
         warnings.warn(text, DeprecationWarning, stacklevel=2)
         RegionalTask(transport_network, **kwargs)
-        self.compute = partial(table_of, transport_network, origins, destinations, snap_to_network, **kwargs)
+        self.compute = partial(TravelTimeMatrix, transport_network, origins, destinations, snap_to_network, **kwargs)
 
     def compute_travel_times(self) -> pandas.DataFrame:
         """The matrix."""
-        return self.compute()
+        return pandas.DataFrame(self.compute())
