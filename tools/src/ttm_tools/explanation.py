@@ -56,8 +56,9 @@ def all_found(
         what = ExplainOptions(timetable, begin, end, departures, task.back, task.shares[0], told_of(task, date))
         found = []
         for name, seconds in cells[pair].items():
+            walks, changes = walks_of(begin)
             runs = runs_of(timetable, date, (task.back, task.ahead), read_edits(files[name]))
-            schedule = Schedule(timetable.events, runs, *walks_of(begin), departures[0])
+            schedule = Schedule(timetable.events, runs, walks, changes, departures[0])
             found.append(found_by(what, name, task.trips, schedule))
             tell_difference(found[-1], seconds, *pair)
         yield what, found

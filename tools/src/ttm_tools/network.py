@@ -106,7 +106,8 @@ class Network:
         self.folder = Path(tempfile.mkdtemp(prefix=f"ttm-tools-network.{os.getpid()}."))
         try:
             named_files = files_of(self.folder, self.rounded, footpaths=footpaths)
-            files = {name: os.path.abspath(path) for name, path in named_files.items()}  # the process stays here
+            # paths that mean the same from every folder, since the process stays where it began
+            files = {name: os.path.abspath(path) for name, path in named_files.items()}
             paths = [os.path.abspath(path) for path in scenarios]
             kept = Run(
                 os.path.abspath(feed), date, MIDNIGHT, 4, walk, scenarios=paths, back=back, ahead=ahead, files=files

@@ -71,9 +71,9 @@ class RegionalTask:
         self.max_time = seconds_of("max_time", max_time, 24 * HOURS)
         self.max_time_walking = seconds_of("max_time_walking", max_time_walking, HOURS)
         refuse_outside("speed_walking", speed_walking, 0.1, 50, " kilometres an hour")
-        self.speed_walking, self.rides = float(speed_walking), int(max_public_transport_rides)
         instead = "; transport_modes=[TransportMode.WALK] takes none"
         refuse_outside("max_public_transport_rides", max_public_transport_rides, 1, MOST_RIDES, instead)
+        self.speed_walking, self.rides = float(speed_walking), int(max_public_transport_rides)
         refuse_unusual(
             max_time_cycling=(max_time_cycling, HOURS),
             max_time_driving=(max_time_driving, HOURS),
