@@ -13,7 +13,7 @@ import io
 from pathlib import Path
 from typing import Iterator
 
-from shared import DATE, parser_of
+from shared import parser_of
 from explore_times import ROOT, served  # sets the path of the next one
 from browser import Browser
 
@@ -60,10 +60,7 @@ def fewer_colours(picture: bytes) -> bytes:
 
 def make(town: Path, out: Path, program: str | None) -> None:
     """Writes the pictures into a folder."""
-    named = ["--program", program] if program else []
-    tables = ["--footpaths", str(town / "footpaths.csv"), "--opportunities", str(town / "opportunities.csv")]
-    command = [str(town), "--date", DATE, *tables, *named, "--no-browser"]
-    with served(command) as (_, address), contextlib.closing(Browser()) as browser:
+    with served(town, program) as (_, address), contextlib.closing(Browser()) as browser:
         browser.size(*SIZE)
         browser.visit(address)
         for name, picture in zip(NAMES, pictures(browser)):

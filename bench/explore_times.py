@@ -41,19 +41,12 @@ PAINTED = "await new Promise((it) => requestAnimationFrame(() => requestAnimatio
 TIMED = f"const begin = performance.now(); await %s; {PAINTED} return performance.now() - begin;"
 
 
-def command_of(size: str, folder: Path, program: str | None) -> list[str]:
-    """The arguments of the server."""
-    days = ["--back", "0", "--ahead", "0"] if size == "metropolis" else []
-    window = ["--from", "07:00", "--to", "08:59", "--footpaths", str(folder / "footpaths.csv")]
-    counted = ["--opportunities", str(folder / "opportunities.csv")]
-    named = ["--program", program] if program else []
-    return [str(folder), "--date", DATE, *window, *counted, *days, *named, "--no-browser"]
-
-
 @contextlib.contextmanager
-def served(command: list[str]) -> Iterator["tuple[subprocess.Popen[str], str]"]:
-    """A server while the block runs, and its address."""
-    process = subprocess.Popen([sys.executable, TOOLS, "explore", *command], stdout=subprocess.PIPE, text=True)
+def served(feed: Path, program: str | None, *more: str) -> Iterator["tuple[subprocess.Popen[str], str]"]:
+    """A server of a feed while the block runs, and its address."""
+    tables = ["--footpaths", str(feed / "footpaths.csv"), "--opportunities", str(feed / "opportunities.csv")]
+    words = [str(feed), "--date", DATE, *tables, *(["--program", program] if program else []), "--no-browser", *more]
+    process = subprocess.Popen([sys.executable, TOOLS, "explore", *words], stdout=subprocess.PIPE, text=True)
     try:
         assert process.stdout is not None
         yield process, process.stdout.readline().strip()
@@ -123,7 +116,9 @@ def slides(browser: Browser) -> list[float]:
 
 def measure(size: str, folder: Path, count: int, program: str | None) -> Iterator[list[str]]:
     """The rows of a feed."""
-    with served(command_of(size, folder, program)) as (process, address), contextlib.closing(Browser()) as browser:
+    days = ["--back", "0", "--ahead", "0"] if size == "metropolis" else []
+    server = served(folder, program, "--from", "07:00", "--to", "08:59", *days)
+    with server as (process, address), contextlib.closing(Browser()) as browser:
         browser.driver.set_script_timeout(LONGEST)
         browser.visit(address)
         clicks(browser, 3)
