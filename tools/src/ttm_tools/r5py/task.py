@@ -12,6 +12,7 @@ MINUTE = datetime.timedelta(minutes=1)
 HOURS = datetime.timedelta(hours=2)
 TEN_MINUTES = datetime.timedelta(minutes=10)
 MOST_RIDES, MOST_PERCENTILES = 8, 8
+NO_RIDES = "; transport_modes=[TransportMode.WALK] takes none"
 DETOUR = 1.3  # metres of way for a metre of straight line to a street that isn't near
 NEAR = 1600.0  # metres to a street that are walked as they are: R5's radius of links
 
@@ -71,8 +72,7 @@ class RegionalTask:
         self.max_time = seconds_of("max_time", max_time, 24 * HOURS)
         self.max_time_walking = seconds_of("max_time_walking", max_time_walking, HOURS)
         refuse_outside("speed_walking", speed_walking, 0.1, 50, " kilometres an hour")
-        instead = "; transport_modes=[TransportMode.WALK] takes none"
-        refuse_outside("max_public_transport_rides", max_public_transport_rides, 1, MOST_RIDES, instead)
+        refuse_outside("max_public_transport_rides", max_public_transport_rides, 1, MOST_RIDES, NO_RIDES)
         self.speed_walking, self.rides = float(speed_walking), int(max_public_transport_rides)
         refuse_unusual(
             max_time_cycling=(max_time_cycling, HOURS),
