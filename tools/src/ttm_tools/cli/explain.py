@@ -65,14 +65,14 @@ def run(args: argparse.Namespace) -> None:
     if any(value is not None for value in one) if args.pairs else None in one[:2]:
         raise WrongWords("--origin and --destination are needed, or --pairs alone, without --picture")
     needs("numpy", "pandas", *(["matplotlib"] if args.picture else []))
-    from ..explanation import found_of
+    from ..explanation import all_found
     from ..views.departures import figure_of
     from ..views.journeys import text_of
 
     run, ends = run_of(args), (args.origin, args.destination)
     if args.pairs:
         return write_table(args, run)
-    question, found = found_of(run, args.date, *ends, program=args.program, matrix=args.matrix)
+    ((question, found),) = all_found(run, args.date, [ends], program=args.program, matrix=args.matrix)
     lines = list(text_of(question, found))
     figure = figure_of(question, found) if args.picture else None
     with output(args.out) as file:
