@@ -16,11 +16,9 @@ from ..plans.shapes import NAME as SHAPES
 from ..plans.shapes import Shapes
 from ..plans.state import State
 from ..plans.writing import Written
-from ..views.page.lines import STRAIGHT, LineChange, Lines, Pieces, change_of, in_degrees, page_lines
+from ..views.page.lines import NONE, STRAIGHT, LineChange, Lines, OnGrid, Pieces, change_of, in_degrees, page_lines
 
 Course = tuple[Floats, Floats]  # latitudes and longitudes of the points of a line, one after another
-OnGrid = npt.NDArray[np.int32]
-NONE = np.zeros((0, 4), np.int32)
 UNCHANGED = LineChange(NONE, NONE, NONE)
 
 

@@ -1,6 +1,6 @@
 """Cells on a map: squares, oblongs, or areas with the shape of their file, in kilometres."""
 
-from typing import Any
+from typing import Any, Sequence
 
 import numpy as np
 import numpy.typing as npt
@@ -42,9 +42,11 @@ class Cells:
 
 
 def path_of(area: Area, projection: Projection) -> Path:
-    """An area as a path; its holes go round the other way, so they stay empty."""
-    rings = [ring for polygon in area for ring in polygon]
+    """An area as a path."""
+    return path_along([np.stack(projection.kilometres(*ring.T), axis=1) for polygon in area for ring in polygon])
+
+
+def path_along(rings: Sequence[Floats]) -> Path:
+    """Closed rings as a path; holes go round the other way, so they stay empty."""
     codes = [[Path.MOVETO, *[Path.LINETO] * (len(ring) - 2), Path.CLOSEPOLY] for ring in rings]
-    corners = np.concatenate(rings)
-    kilometres = np.stack([projection.east(corners[:, 0]), projection.north(corners[:, 1])], axis=1)
-    return Path(kilometres, np.concatenate(codes))
+    return Path(np.concatenate(rings), np.concatenate(codes))

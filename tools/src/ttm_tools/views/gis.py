@@ -9,7 +9,7 @@ import math
 import sqlite3
 from dataclasses import dataclass, replace
 from pathlib import Path
-from typing import Any, BinaryIO, Sequence
+from typing import Any, BinaryIO, Iterable, Sequence
 from urllib.parse import quote
 
 import numpy as np
@@ -98,36 +98,43 @@ def with_nearest(
 
 
 def write_geojson(out: BinaryIO, features: Features) -> None:
-    """A collection of features, one a line (RFC 7946)."""
+    """The stops with their numbers, as GeoJSON."""
+    stops = features.stops
+    places = zip(stops.longitudes.tolist(), stops.latitudes.tolist())
+    geometries: list[Any] = [{"type": "Point", "coordinates": place} for place in places]
+    for name, area in stops.areas.items():
+        geometries[stops.places[name]] = geometry_of(area)
+    write_features(out, zip(geometries, map(features.properties, range(len(geometries)))))
+
+
+def write_features(out: BinaryIO, features: Iterable[tuple[Any, dict[str, Any]]]) -> None:
+    """A collection of shapes with what is known of each, one a line (RFC 7946)."""
     out.write(b'{"type": "FeatureCollection", "features": [')
-    places = zip(features.stops.longitudes.tolist(), features.stops.latitudes.tolist())
-    for number, (name, place) in enumerate(zip(features.stops.identifiers, places)):
-        area = features.stops.areas.get(name)
-        geometry = {"type": "Point", "coordinates": place} if area is None else geometry_of(area)
-        feature: dict[str, Any] = {"type": "Feature", "geometry": geometry}
-        feature["properties"] = features.properties(number)
+    for number, (geometry, properties) in enumerate(features):
+        feature = {"type": "Feature", "geometry": geometry, "properties": properties}
         out.write((",\n" if number else "\n").encode() + json.dumps(feature, ensure_ascii=False).encode("utf-8"))
     out.write(b"\n]}\n")
 
 
 def write_geopackage(path: str, features: Features) -> None:
-    """A layer of points, or areas, in WGS 84."""
-    needs("geopandas")
-    import geopandas
-    from shapely.geometry import MultiPolygon
+    """A layer of points, or areas."""
+    from shapely.geometry import MultiPolygon, Point
 
     stops = features.stops
     columns: dict[str, Any] = {"stop_id": list(map(shown, stops.identifiers)), "stop_name": stops.names}
     columns |= {name: with_gaps(numbers) for name, numbers in features.columns.items()}
-    shapes = list(geopandas.points_from_xy(stops.longitudes, stops.latitudes))
+    shapes = [Point(*place) for place in zip(stops.longitudes.tolist(), stops.latitudes.tolist())]
     for name, area in stops.areas.items():  # all as several polygons, since a layer has one kind
         shapes[stops.places[name]] = MultiPolygon([(whole, holes) for whole, *holes in area])
+    write_layer(path, columns, shapes, LAYER)
+
+
+def write_layer(path: str, columns: Any, shapes: Sequence[Any], layer: str) -> None:
+    """Writes columns, or rows, and their shapes in WGS 84 as a GeoPackage, which gets its name when it is whole."""
+    needs("geopandas")
+    import geopandas
+
     frame = geopandas.GeoDataFrame(columns, geometry=shapes, crs="EPSG:4326")
-    write_layer(path, frame, LAYER)
-
-
-def write_layer(path: str, frame: Any, layer: str) -> None:
-    """Writes a frame of geopandas as a GeoPackage, which gets its name when it is whole."""
     with written_aside(path) as aside, as_one_line(path, "not written"):
         frame.to_file(aside, driver="GPKG", layer=layer)
         refuse_part(aside, path, layer, len(frame))

@@ -7,12 +7,13 @@ are classes of their own. Lightness and shape tell classes apart, too, in print.
 
 import math
 from dataclasses import dataclass, replace
-from typing import Sequence
+from typing import Any, Sequence
 
 import numpy as np
 import numpy.typing as npt
 
 from ..faults import counted
+from ..gtfs.fields import Floats
 from ..gtfs.stops import Stops
 from ..matrices import Matrix, Pair, Share, pair_of
 from ..measures.comparison import sides_of
@@ -21,6 +22,7 @@ from ..records import shown
 MINUTES = (10.0, 20.0, 30.0, 45.0, 60.0, 90.0)
 MINUTES_OF_DIFFERENCE = (1.0, 5.0, 15.0)
 PERCENT = (1.0, 5.0, 10.0, 25.0)
+KEY_OF_TIMES, KEY_OF_CHANGES = "Travel time in minutes,\nwaiting included", "Change of travel time"
 MOST_WORST = 40  # stops that lose most, from which names are taken
 Classes = npt.NDArray[np.intp]
 
@@ -93,11 +95,8 @@ def shades(count: int, name: str = "plasma", first: float = 0.0, last: float = 0
 
 
 def source_of(scenario: str, share: Share, matrix: Matrix) -> str:
-    sentences = [
-        f"Scenario {scenario}",
-        *([] if share is None else [f"travel times that {share} % of departures achieve"]),
-    ]
-    return "; ".join([*sentences, *(text for text in (matrix.greatest_stated, matrix.heading) if text)]) + "."
+    travel_times = "" if share is None else f"travel times that {share} % of departures achieve"
+    return "; ".join(filter(None, [f"Scenario {scenario}", travel_times, matrix.greatest_stated, matrix.heading])) + "."
 
 
 def within_stated(limit: int | None) -> str:
@@ -110,20 +109,23 @@ def picture_of_times(matrix: Matrix, stops: Stops, origin: str, options: Picture
     """Travel times from an origin, in classes of minutes."""
     scenario, share = matrix.scenario(options.scenario or options.base), matrix.share(options.share)
     seconds = matrix.seconds(scenario, share, origin)
-    breaks = options.breaks or MINUTES
-    between = [f"{low:g} to {high:g}" for low, high in zip(breaks, breaks[1:])]
-    labels = [f"up to {breaks[0]:g}", *between, f"more than {breaks[-1]:g}"]
-    marks = [Mark(label, colour) for label, colour in zip(labels, shades(len(labels)))] + [NOT_REACHED]
+    marks, classes = classes_of_minutes(seconds, options.breaks or MINUTES)
     there = ~np.isnan(seconds)
-    classes = np.where(there, np.searchsorted(60 * np.array(breaks), seconds, side="left"), len(labels))
     there[matrix.places.get(origin, [])] = False
     half = f", half of them within {math.ceil(float(np.median(seconds[there])) / 60)} minutes" if there.any() else ""
     others = len(seconds) - (origin in matrix.places)
     subtitle = f"{there.sum():,} of {others:,} other {options.what} are reached{half}"
-    title, key = f"Travel time from {stops.name_of(origin)}", "Travel time in minutes,\nwaiting included"
-    return Picture(
-        title, subtitle, key, marks, classes, source_of(shown(scenario), share, matrix), matrix.places.get(origin)
-    )
+    title, source = f"Travel time from {stops.name_of(origin)}", source_of(shown(scenario), share, matrix)
+    return Picture(title, subtitle, KEY_OF_TIMES, marks, classes, source, matrix.places.get(origin))
+
+
+def classes_of_minutes(seconds: npt.NDArray[Any], breaks: tuple[float, ...]) -> tuple[list[Mark], Classes]:
+    """The classes of travel times, and which of them each is in."""
+    between = [f"{low:g} to {high:g}" for low, high in zip(breaks, breaks[1:])]
+    labels = [f"up to {breaks[0]:g}", *between, f"more than {breaks[-1]:g}"]
+    marks = [*map(Mark, labels, shades(len(labels))), NOT_REACHED]
+    grades = np.searchsorted(60 * np.array(breaks), seconds, side="left")
+    return marks, np.where(np.isnan(seconds), len(labels), grades)
 
 
 def round_step(most: float, count: int) -> int:
@@ -162,9 +164,7 @@ def picture_of_access(matrix: Matrix, stops: Stops, options: PictureOptions) -> 
     access = matrix.access(scenario, share)[:, place]
     breaks = options.breaks or round_breaks(int(access.min()), int(access.max()))
     labels = labels_of_counts(breaks)
-    marks = [Mark(label, colour) for label, colour in zip(labels, reversed(shades(len(labels))))] + [
-        other_mark(options)
-    ]
+    marks = [*map(Mark, labels, reversed(shades(len(labels)))), other_mark(options)]
     found = np.searchsorted(np.array(breaks), access, side="right")
     drawn = matrix.stops_and_origins()
     classes = of_origins(drawn, matrix.origins(scenario, share), found, len(labels))
@@ -177,32 +177,21 @@ def picture_of_access(matrix: Matrix, stops: Stops, options: PictureOptions) -> 
     return Picture(title, subtitle, key, marks, classes, source, drawn=drawn)
 
 
-@dataclass(frozen=True)
-class DifferenceLabels:
-    """What the classes of a difference are called."""
-
-    unit: str
-    lost: str
-    gained: str
-    gone: str
-    joined: str
-
-
-def marks_of_difference(breaks: Sequence[float], labels: DifferenceLabels) -> list[Mark]:
+def marks_of_difference(
+    breaks: Sequence[float], unit: str, lost: str, gained: str, gone: str, joined: str
+) -> list[Mark]:
     """The classes of a difference: cut off, lost from much to little, hardly any, gained from little to much, new."""
-    between = [f"{low:g} to {high:g} {labels.unit}" for low, high in zip(breaks, breaks[1:])]
-    ranges = between + [f"{breaks[-1]:g} {labels.unit} or more"]
+    between = [f"{low:g} to {high:g} {unit}" for low, high in zip(breaks, breaks[1:])]
+    ranges = between + [f"{breaks[-1]:g} {unit} or more"]
     reds, blues = (shades(len(breaks), "RdBu", first, last) for first, last in ((0.36, 0.08), (0.64, 0.92)))
-    less = [Mark(f"{label} {labels.lost}", colour, "v", 1.4) for label, colour in zip(ranges, reds)]
-    more = [Mark(f"{label} {labels.gained}", colour, "^", 1.4) for label, colour in zip(ranges, blues)]
-    same = Mark(f"less than {breaks[0]:g} {labels.unit} either way", "#d8d8d8", "o", 0.45, "#8a8a8a")
-    gone, joined = Mark(labels.gone, "#000000", "X", 2.0, "#ffffff"), Mark(
-        labels.joined, "#ffd92f", "P", 2.0, "#000000"
-    )
-    return [gone, *reversed(less), same, *more, joined]
+    less = [Mark(f"{label} {lost}", colour, "v", 1.4) for label, colour in zip(ranges, reds)]
+    more = [Mark(f"{label} {gained}", colour, "^", 1.4) for label, colour in zip(ranges, blues)]
+    same = Mark(f"less than {breaks[0]:g} {unit} either way", "#d8d8d8", "o", 0.45, "#8a8a8a")
+    cut_off, new = Mark(gone, "#000000", "X", 2.0, "#ffffff"), Mark(joined, "#ffd92f", "P", 2.0, "#000000")
+    return [cut_off, *reversed(less), same, *more, new]
 
 
-def classes_of_difference(change: npt.NDArray[np.float64], breaks: Sequence[float]) -> Classes:
+def classes_of_difference(change: Floats, breaks: Sequence[float]) -> Classes:
     """The places of changes among the marks: below 0 is lost."""
     grades = np.searchsorted(np.array(breaks), np.abs(change), side="right")
     classes: Classes = 1 + len(breaks) + np.where(change > 0, grades, -grades)
@@ -225,19 +214,33 @@ def picture_of_time_difference(matrix: Matrix, stops: Stops, origin: str, option
     """Travel times from an origin in a scenario, compared with the base."""
     pair = pair_of(matrix, options.base, options.scenario, options.share)
     before, after = (matrix.seconds(name, pair.share, origin) for name in (pair.base, pair.other))
+    marks, classes, subtitle = changes_of_times(before, after, options)
+    title = f"Travel time from {stops.name_of(origin)}: {beside(pair)}"
+    source = source_of(beside(pair), pair.share, matrix)
+    return Picture(title, subtitle, KEY_OF_CHANGES, marks, classes, source, matrix.places.get(origin))
+
+
+def changes_of_times(
+    before: npt.NDArray[Any], after: npt.NDArray[Any], options: PictureOptions
+) -> tuple[list[Mark], Classes, str]:
+    """The classes of changes of travel times (seconds, NaN where there is none), which of them each is in, and a
+    sentence with how many are in them.
+    """
     breaks = options.breaks or MINUTES_OF_DIFFERENCE
-    labels = DifferenceLabels("min", "slower", "faster", "cut off: not reached now", "new: not reached before")
-    marks = [*marks_of_difference(breaks, labels), replace(NOT_REACHED, label="not reached in either")]
-    classes = classes_of_difference(np.nan_to_num((before - after).astype(np.float64) / 60), breaks)
+    gone_and_new = "cut off: not reached now", "new: not reached before"
+    marks = marks_of_difference(breaks, "min", "slower", "faster", *gone_and_new)
+    marks.append(replace(NOT_REACHED, label="not reached in either"))
+    classes = classes_of_difference(minutes_gained(before, after), breaks)
     gone, new = np.isnan(after), np.isnan(before)
     classes[gone & ~new], classes[new & ~gone], classes[new & gone] = 0, len(marks) - 2, len(marks) - 1
     counts = counts_stated(classes, breaks, ("cut off", "slower", "faster", "newly reached"))
-    title, subtitle = (
-        f"Travel time from {stops.name_of(origin)}: {beside(pair)}",
-        f"Of {len(matrix.stops):,} {options.what} {counts}",
-    )
-    source = source_of(beside(pair), pair.share, matrix)
-    return Picture(title, subtitle, "Change of travel time", marks, classes, source, matrix.places.get(origin))
+    return marks, classes, f"Of {len(before):,} {options.what} {counts}"
+
+
+def minutes_gained(before: npt.NDArray[Any], after: npt.NDArray[Any]) -> Floats:
+    """By how many minutes travel times fall; 0 where there is none."""
+    minutes: Floats = np.nan_to_num((before - after).astype(np.float64) / 60)
+    return minutes
 
 
 def picture_of_access_difference(matrix: Matrix, stops: Stops, options: PictureOptions) -> Picture:
@@ -245,8 +248,8 @@ def picture_of_access_difference(matrix: Matrix, stops: Stops, options: PictureO
     place, limit = matrix.limit(options.within)
     pair = pair_of(matrix, options.base, options.scenario, options.share)
     breaks = options.breaks or PERCENT
-    labels = DifferenceLabels("%", "lost", "gained", "cut off: all of it lost", "newly reached: none before")
-    marks = [*marks_of_difference(breaks, labels), other_mark(options)]
+    gone_and_new = "cut off: all of it lost", "newly reached: none before"
+    marks = [*marks_of_difference(breaks, "%", "lost", "gained", *gone_and_new), other_mark(options)]
     first, second = pair.access(place)
     percent = 100 * (second - first) / np.where(first == 0, 1, first)
     sides = sides_of(first, second)
@@ -259,9 +262,8 @@ def picture_of_access_difference(matrix: Matrix, stops: Stops, options: PictureO
         most, lost = -percent[order[0]], int(first[order[0]] - second[order[0]])
         subtitle += f"; the greatest loss: {most:.0f} % ({counted(lost, options.unit)}) at {stops.name_of(worst[0])}"
     title = f"Access from each {options.what[:-1]}: {options.unit}{within_stated(limit)}, {beside(pair)}"
-    key, source = f"Change of access:\n{options.unit}{within_stated(limit)}", source_of(
-        beside(pair), pair.share, matrix
-    )
+    key = f"Change of access:\n{options.unit}{within_stated(limit)}"
+    source = source_of(beside(pair), pair.share, matrix)
     drawn = matrix.stops_and_origins()
     classes = of_origins(drawn, pair.origins, classes, len(marks) - 1)
     return Picture(title, subtitle, key, marks, classes, source, None, first_names(drawn, worst, stops), drawn)
