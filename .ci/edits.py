@@ -19,6 +19,8 @@ from collections.abc import Callable
 from dataclasses import dataclass, field
 from pathlib import Path
 
+import repository
+
 PROVED, REFUSED, WAITS, UNKNOWN = "proved", "refused", "waits", "unknown"
 VERDICT = re.compile(r"(fn|impl) (\S+): (proved|not proved|no proof: expected answers|no proof: it calls)\b")
 LOGIC = re.compile(r"logic=(proved|not-proved)\b")
@@ -28,21 +30,12 @@ NAMES_ONLY = re.compile(r"has no field|is not in scope|has no `|was not admitted
 UNREADABLE = re.compile(r"is not in scope|has no field|is no name|operand is missing|expected the end|cannot continue")
 
 Texts = Callable[[str], str]
-Span = tuple[str, int, int, str]
 
 
 def lines_of(command: list[str], folder: Path) -> list[str]:
     """What a command prints, line by line."""
-    ran = subprocess.run(
-        command,
-        cwd=folder,
-        stdin=subprocess.DEVNULL,
-        stdout=subprocess.PIPE,
-        stderr=subprocess.STDOUT,
-        text=True,
-        errors="replace",
-    )
-    return ran.stdout.split("\n")
+    lines: list[str] = subprocess.run(command, cwd=folder, **repository.PIPED).stdout.split("\n")
+    return lines
 
 
 class Edit:
@@ -67,19 +60,6 @@ class Edit:
         known = len(parts) == 4 and module
         self.function: tuple[str, str] | None = (module[1].replace("/", "::"), parts[1]) if known and module else None
 
-    def spans(self, texts: Texts) -> list[Span] | None:
-        """Where it replaces what in files as they stand: file, start, end, text.
-
-        Nothing where a text isn't there once.
-        """
-        found = []
-        for file, old, new in self.replacements:
-            if texts(file).count(old) != 1:
-                return None
-            start = texts(file).index(old)
-            found.append((file, start, start + len(old), new))
-        return found
-
     def applied(self, texts: Texts) -> dict[str, str] | None:
         """The texts of the files that it changes, one replacement after another; nothing where a text isn't there
         once.
@@ -93,32 +73,19 @@ class Edit:
         return texts_changed
 
 
-def planted(texts: Texts, spans: list[Span]) -> dict[str, str]:
-    """The texts of the files that are changed, by their names."""
-    texts_planted = {file: texts(file) for file, *_ in spans}
-    for file, start, end, new in sorted(spans, key=lambda span: -span[1]):
-        texts_planted[file] = texts_planted[file][:start] + new + texts_planted[file][end:]
-    return texts_planted
-
-
-def overlap(spans: list[Span], others: list[Span]) -> bool:
-    return any(a[0] == b[0] and a[1] < b[2] and b[1] < a[2] for a in spans for b in others)
-
-
-def choose(edits: list[Edit], texts: Texts) -> tuple[list[Edit], list[Span]]:
-    """The edits of the next check, one for each function, no two of which replace the same text; with all that they
-    replace.
+def choose(edits: list[Edit], texts: Texts) -> tuple[list[Edit], dict[str, str]]:
+    """The edits of the next check, one for each function, no two of which replace the same text; and the texts of the
+    files that they change.
     """
-    chosen: list[Edit] = []
-    spans: list[Span] = []
-    taken = set()
+    chosen: dict[tuple[str, str], Edit] = {}
+    changed: dict[str, str] = {}
     for edit in edits:
-        own = edit.spans(texts)
-        if edit.function and own and edit.function not in taken and not overlap(own, spans):
-            chosen.append(edit)
-            spans += own
-            taken.add(edit.function)
-    return chosen, spans
+        if edit.function and edit.function not in chosen and edit.applied(texts):
+            own = edit.applied(lambda file: changed.get(file, texts(file)))
+            if own:
+                chosen[edit.function] = edit
+                changed |= own
+    return list(chosen.values()), changed
 
 
 def unread(lines: list[str]) -> str:
@@ -219,10 +186,10 @@ class Trial:
 
         Where the check comes to no verdict on any, half as many are tried.
         """
-        chosen, spans = choose(edits, self.texts)
+        chosen, changed = choose(edits, self.texts)
         if not chosen:
             return []
-        lines = self.check(planted(self.texts, spans))
+        lines = self.check(changed)
         verdicts = {edit: UNKNOWN if unread(lines) else verdict_of(self.crate, edit, lines) for edit in chosen}
         if len(chosen) > 1 and all(verdict == UNKNOWN for verdict in verdicts.values()):
             half = len(chosen) // 2

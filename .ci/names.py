@@ -34,8 +34,8 @@ SPEC = re.compile(r"(?:\b(\w+)/)?\b([A-Z]\w*)\b")
 MODULE = re.compile(r"`([\w/]+\.py)`")
 TOOLS = "tools/src/ttm_tools"
 PYTHON = r"(?m)^(?:(?:def|class) {0}\b|{0}(?:: [^=\n]+)? = )"
-FUNCTION = r"(?m)^( *)(?:pub(?:\([a-z]+\))? )?(?:(?:const|unsafe|final) )*fn {}\b"
-OTHER = r"(?m)^(?:pub(?:\([a-z]+\))? )?(?:struct|enum|trait|type|const) {}\b"
+VISIBLE = r"(?:pub(?:\([a-z]+\))? )?"
+NAMED = rf"(?m)^(?: *{VISIBLE}(?:(?:const|unsafe|final) )*fn|{VISIBLE}(?:struct|enum|trait|type|const)) {{}}\b"
 
 
 @dataclass(frozen=True)
@@ -55,31 +55,19 @@ class Sources:
         crates = repository.crates_of(root)
         self.root = root
         self.names = list(crates)
-        self.texts = {crate: self.text_of(root / "crates" / crate / "src") for crate in crates}
+        self.texts = {crate: repository.source_of(root, crate) for crate in crates}
         self.walk = calls.Walk(root, crates).start(PROGRAM, "main")
-
-    @staticmethod
-    def text_of(folder: Path) -> str:
-        return "\n".join(path.read_text() for path in repository.files_of(folder) if path.suffix == ".rt")
 
     def has(self, claim: Claim) -> bool:
         """Whether the crate has a function of that name, of that type where one is named; or a type or a constant."""
         *types, last = claim.name.split("::")
         if types and types[-1][:1].isupper():
-            return self.walk.has(claim.crate, types[-1], last)
-        text = self.texts[claim.crate]
-        return bool(re.search(FUNCTION.format(last), text) or re.search(OTHER.format(last), text))
+            return bool(self.walk.called(claim.crate, claim.name))
+        return bool(re.search(NAMED.format(last), self.texts[claim.crate]))
 
     def has_contract(self, claim: Claim) -> bool:
         """Whether a function of that name says what it ensures."""
-        last = re.escape(claim.name.split("::")[-1])
-        text = self.texts[claim.crate]
-        for found in re.finditer(FUNCTION.format(last), text):
-            lines = iter(text[found.start() :].splitlines())
-            header = repository.header_of(next(lines), lines, found[1])
-            if any(item.strip().startswith("ensures") for item in header):
-                return True
-        return False
+        return not self.walk.contracts.isdisjoint(self.walk.called(claim.crate, claim.name.split("::")[-1]))
 
     def has_spec(self, claim: Claim) -> bool:
         return (self.root / "crates" / claim.crate / "specs" / f"{claim.name}.antt").is_file()

@@ -48,11 +48,6 @@ STATED = [
 FILES_STATED = "Scenario files, at most {};"
 
 
-def source_of(root: Path, crate: str) -> str:
-    files = repository.files_of(root / "crates" / crate / "src")
-    return "\n".join(file.read_text() for file in files if file.suffix == ".rt")
-
-
 def byte_strings(source: str) -> set[str]:
     """The texts of the literals of bytes."""
     return {match.replace("\\\n", "").replace("\\n", "\n") for match in BYTES.findall(source)}
@@ -67,7 +62,7 @@ def limits_of(sources: dict[str, str]) -> Iterator[tuple[str, str, int]]:
 
 def judged(root: Path) -> Iterator[tuple[str, bool]]:
     """Each thing that is looked at, and whether it is as it should be."""
-    sources = {item: source_of(root, item) for item in repository.crates_of(root)}
+    sources = {item: repository.source_of(root, item) for item in repository.crates_of(root)}
     strings = byte_strings(sources["small_feed"])
     for name, text in FEED.items():
         yield f"small_feed: {name}", text in strings

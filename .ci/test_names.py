@@ -2,12 +2,10 @@
 
 from __future__ import annotations
 
-import sys
 from pathlib import Path
 
-sys.path.insert(0, str(Path(__file__).resolve().parent))
-import names  # noqa: E402
-from small_repository import LOWER, Repository  # noqa: E402
+import names
+from small_repository import LOWER, Repository
 
 README = (
     "# x\n\n## What is proved\n\n1. **Sums.** Added: `lower::bump`, `gone`.\n2. **Hopes.** `lower::bare`.\n\n## Else\n"
