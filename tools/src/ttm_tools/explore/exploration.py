@@ -18,7 +18,7 @@ from ..points.shown import points_in, with_points
 from ..points.table import read_points
 from ..views.page.content import Ground
 from ..views.page.lines import Lines
-from ..views.page.places import places_of
+from ..views.page.places import in_order
 from ..walks import Pace
 from ..walks.osm import Streets, read_streets
 from . import keeping, planning
@@ -205,5 +205,5 @@ def ground_of(stops: Stops) -> Ground:
     if not stops.placed.any():
         raise BadInput(stops.path, "none of the stops has coordinates, so there is nothing to show")
     names = [name for name, kind in zip(stops.identifiers, stops.kinds.tolist()) if kind == 0]
-    places = places_of(stops, names).in_order()
+    places = in_order(stops.of(names))
     return Ground(places, places.identifiers, places.identifiers, places.identifiers)

@@ -7,7 +7,6 @@ from typing import Any, Callable, Sequence
 
 from ..engine import Pathlike, Run
 from ..explanation import found_by, tell_difference, told_of
-from ..gtfs.stops import has_file
 from ..gtfs.timetable import DAY, Runs, Timetable, read_edits, runs_of
 from ..measures.journeys import Leg
 from ..measures.search_network import Schedule
@@ -72,10 +71,9 @@ class Journeys:
         """What journeys of a network need; what those of the one before needed is dropped."""
         if self.kept is None or self.kept.version != standing.version:
             self.kept, folder = None, standing.plan.folder
-            routes = names_of_routes(folder) if has_file(folder, "routes.txt") else {}
             parts = [self.feed, *([] if standing.plan.trips is None else [standing.plan.trips])]
             timetables = Timetables(parts, self.options.footpaths, standing.plan.walk)
-            self.kept = Kept(standing.version, timetables, routes)
+            self.kept = Kept(standing.version, timetables, names_of_routes(folder))
         return self.kept
 
     def journey(self, standing: Standing, columns: Sequence[str], question: JourneyQuestion) -> dict[str, Any]:

@@ -11,6 +11,7 @@ from ..gtfs.service_days import services_on
 from ..plans.base import Base
 from ..plans.choice import runs_along
 from ..records import shown
+from ..views.journeys import name_of, with_identifiers
 
 MOST_WAYS = 4  # of a route that are shown, those with the most trips
 HOURS = 24
@@ -56,14 +57,9 @@ def routes_of(base: Base, date: datetime.date, numbers: Mapping[str, int]) -> Ro
 
 
 def names_of(base: Base) -> dict[str, str]:
-    """What people call each route: its short name, or its long one, and its identifier where it is another."""
     table = base.feed.tables["routes.txt"]
     columns = (table.texts(name) for name in ("route_id", "route_short_name", "route_long_name"))
-    names = {}
-    for own, short, long in zip(*columns):
-        name, identifier = shown(short.strip() or long.strip() or own), shown(own)
-        names[own] = name if name == identifier else f"{name} ({identifier})"
-    return names
+    return with_identifiers({route: name_of(route, short, long) for route, short, long in zip(*columns)})
 
 
 def ways_of(base: Base, trips: Whole, place: Whole, running: set[str]) -> list[Way]:

@@ -96,13 +96,6 @@ def summary(pair: Pair, comparison: Comparison, limit: float, place: int | None,
     if place is not None:
         first, second = pair.access(place)
         change = second - first
-        sentences.append(
-            f"access: of {len(change):,} origins {sides_of(first, second, least).sentence()}"
-            f"{by_how_much(least)}; in all {int(change.sum()):+,}"
-        )
+        sides, by_how_much = sides_of(first, second, least).sentence(), f" (by {least:,} or more)" if least > 1 else ""
+        sentences.append(f"access: of {len(change):,} origins {sides}{by_how_much}; in all {int(change.sum()):+,}")
     return sentences
-
-
-def by_how_much(least: int) -> str:
-    """The threshold of access, where there is one."""
-    return f" (by {least:,} or more)" if least > 1 else ""

@@ -1,7 +1,7 @@
 """What a page is made of: places, travel times in minutes, access, and lines, as numbers."""
 
 from dataclasses import dataclass, field
-from typing import Sequence
+from typing import Any, Sequence
 
 import numpy as np
 import numpy.typing as npt
@@ -15,7 +15,7 @@ from ...measures.access import STEP, Decay, times_to
 from ...measures.opportunities import Counts, read_counts
 from ...records import shown
 from .parts import Bytes, minutes_of
-from .places import PagePlaces, places_of
+from .places import in_order
 
 MOST_CELLS = 60_000_000  # that a page takes
 Numbers = npt.NDArray[np.intp]
@@ -41,15 +41,14 @@ class PageOptions:
 class Ground:
     """The places of a page, and what of the matrix stands for them."""
 
-    places: PagePlaces
+    places: Stops
     columns: list[str]  # the stops to which travel times are shown, in the order of places
     origins: list[str]  # those from which access is shown
     rows: list[str]  # the origins whose travel times the page has
 
     def at(self, names: Sequence[str]) -> npt.NDArray[np.int32]:
         """The numbers of some of the places."""
-        numbers = {name: number for number, name in enumerate(self.places.identifiers)}
-        return np.array([numbers[name] for name in names], dtype=np.int32)
+        return np.array([self.places.places[name] for name in names], dtype=np.int32)
 
 
 @dataclass(frozen=True)
@@ -100,10 +99,9 @@ def origins_of(matrix: Matrix, options: PageOptions) -> list[str]:
 def ground_of(matrix: Matrix, stops: Stops, options: PageOptions) -> Ground:
     """The places in their order, and the rows that there is room for."""
     origins = origins_of(matrix, options)
-    places = places_of(stops, list(dict.fromkeys([*matrix.stops, *origins]))).in_order()
-    columns, starts = (
-        [name for name in places.identifiers if name in among] for among in (matrix.places, set(origins))
-    )
+    places, among = in_order(stops.of(list(dict.fromkeys([*matrix.stops, *origins])))), set(origins)
+    columns = [name for name in places.identifiers if name in matrix.places]
+    starts = [name for name in places.identifiers if name in among]
     if np.isnan(places.latitudes).all():
         raise BadInput(stops.path, f"none of the {options.what} has coordinates, so there is nothing to show")
     wanted = set(starts if options.origins is None else options.origins)
@@ -197,14 +195,16 @@ class Reading:
         """What is reached from some origins: for each thing that is counted, within each cutoff; then the minutes to
         the nearest.
         """
-        decay, count = Decay(STEP), len(seconds)
+        decay = Decay(STEP)
         found = np.stack([decay.weights(seconds, cutoff) @ self.numbers for cutoff in self.options.cutoffs], axis=2)
-        sums: Floats = found.reshape(count, found.shape[1] * found.shape[2])
+        sums: Floats = flat(found)
         if not self.options.nearest or not self.sought.shape[1]:
             return sums
         used = np.flatnonzero(self.sought.any(axis=1))
         times = times_to(seconds[:, used], self.sought[used], self.options.nearest).astype(np.float32)
-        sums_of_window: Floats = np.concatenate(
-            [sums, minutes_of(times.reshape(count, times.shape[1] * times.shape[2]))], axis=1
-        )
-        return sums_of_window
+        return np.concatenate([sums, minutes_of(flat(times))], axis=1)
+
+
+def flat(numbers: npt.NDArray[Any]) -> npt.NDArray[Any]:
+    """The numbers of each row one after another."""
+    return numbers.reshape(len(numbers), numbers.shape[1] * numbers.shape[2])

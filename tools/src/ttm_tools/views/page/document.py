@@ -20,6 +20,7 @@ from ...records import shown
 from .content import Content
 from .lines import Lines
 from .parts import Element, blocks_of, part, rows_in_block
+from .places import degrees_of, rings_of
 from .streets import ASIDE, PageStreets
 
 ASSETS = Path(__file__).resolve().parent / "assets"
@@ -77,10 +78,10 @@ def leaflet_files(folder: str) -> tuple[str, str]:
 def parts_of(content: Content, lines: Lines) -> Iterator[Element]:
     """All numbers of a page, as `assets/data.js` reads them."""
     ground = content.ground
-    yield part("places", ground.places.degrees())
-    yield part("widths", ground.places.widths.astype(np.float32))
-    yield part("heights", ground.places.heights.astype(np.float32))
-    for name, rings in zip(("area-rings", "area-corners"), ground.places.rings()):
+    yield part("places", degrees_of(ground.places))
+    for name, sides in zip(("widths", "heights"), np.nan_to_num(ground.places.sides()).T):
+        yield part(name, sides.astype(np.float32))
+    for name, rings in zip(("area-rings", "area-corners"), rings_of(ground.places)):
         yield part(name, rings)
     for name, names in (("columns", ground.columns), ("origins", ground.origins), ("rows", ground.rows)):
         yield part(name, ground.at(names))
