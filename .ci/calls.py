@@ -122,9 +122,7 @@ class Walk:
         left = set(TYPE.findall(text)) - self.met
         while left:
             self.met |= left
-            left = {
-                type_name for name in left if name in self.types for type_name in TYPE.findall(self.types[name])
-            } - self.met
+            left = set(TYPE.findall("\n".join(self.types[name] for name in left if name in self.types))) - self.met
 
     def called_by(self, function: Function) -> set[Function]:
         return {called for call in set(CALL.findall(self.texts[function])) for called in self.meant(function, *call)}

@@ -100,7 +100,7 @@ def gate(root: Path) -> Count:
 def quick(root: Path) -> Count:
     """The tests and the program's main job by `rt try`, the tests of the tools that run no program, and the pages."""
     trials = ["ttm", *(name for name in reversed(repository.crates_of(root)) if has_tests(root, name))]
-    scripts = [[".ci/tools_checks.py", "--no-browser"], [".ci/names.py"], [".ci/same.py"], [".ci/lemmas.py"]]
+    scripts = [[*WITHOUT_PROGRAM[0], "--no-browser"], *WITHOUT_PROGRAM[1:]]
     with ThreadPoolExecutor(jobs()) as pool:
         tested = pool.map(lambda name: try_crate(root, name), trials)
         checked = pool.map(lambda script: run_scripts(root, [script]), scripts)
@@ -128,9 +128,8 @@ def try_planted(root: Path, names: list[str]) -> Iterator[Count]:
 
 
 def arguments_of(arguments: list[str]) -> argparse.Namespace:
-    parser = argparse.ArgumentParser(
-        prog=".ci/run", description=__doc__, formatter_class=argparse.RawDescriptionHelpFormatter
-    )
+    form = argparse.RawDescriptionHelpFormatter
+    parser = argparse.ArgumentParser(prog=".ci/run", description=__doc__, formatter_class=form)
     part = parser.add_mutually_exclusive_group()
     part.add_argument("--quick", action="store_true", help="run tests without any proof")
     part.add_argument("--planted", nargs="*", metavar="CRATE", help="try the planted bugs, and nothing else")

@@ -82,14 +82,14 @@ def promises(readme: str) -> Iterator[tuple[str, str]]:
             yield found[1].rstrip("."), found[2]
 
 
-def claims_of_promise(text: str, crates: list[str], page: str = "README") -> list[Claim]:
+def claims_of_promise(text: str, crates: list[str]) -> list[Claim]:
     """The names of a promise; one without a crate is of the crate that was named last."""
     claims, crate = [], ""
     for path in NAME.findall(text):
         first = path.split("::")[0]
         crate = first if first in crates else crate
         if crate and path != crate:
-            claims.append(Claim(page, crate, path))
+            claims.append(Claim("README", crate, path))
     return claims
 
 

@@ -143,11 +143,8 @@ def manuals_have_every_option(of: Packages) -> None:
     programs: tuple[list[object], ...] = ([of.program], [sys.executable, of.folder / "bin/ttm-tools"])
     for name, program in zip(COMMANDS, programs):
         page = of.share(f"man/man1/{name}.1.gz").replace("\\-", "-")
-        missing = [
-            match
-            for match in re.findall(r"(?<![\w-])--[a-z][\w-]*", of.output(*program, "--help"))
-            if match not in page
-        ]
+        options = re.findall(r"(?<![\w-])--[a-z][\w-]*", of.output(*program, "--help"))
+        missing = [option for option in options if option not in page]
         assert not missing, f"{name}.1: {missing}"
 
 
@@ -157,12 +154,9 @@ def manuals_are_read_without_warnings(of: Packages) -> None:
         raise Skipped("no man on this machine")
     for name in COMMANDS:
         page = of.tree / f"usr/share/man/man1/{name}.1.gz"
-        ran = subprocess.run(
-            ["man", "--warnings", "-E", "UTF-8", "-l", "-Tutf8", "-Z", page],
-            env={**os.environ, "LC_ALL": "C.UTF-8", "MANWIDTH": "100"},
-            capture_output=True,
-            text=True,
-        )
+        command = ["man", "--warnings", "-E", "UTF-8", "-l", "-Tutf8", "-Z", str(page)]
+        environment = {**os.environ, "LC_ALL": "C.UTF-8", "MANWIDTH": "100"}
+        ran = subprocess.run(command, env=environment, capture_output=True, text=True)
         assert (ran.returncode, ran.stderr) == (0, ""), ran.stderr
 
 

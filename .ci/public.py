@@ -15,7 +15,6 @@ import calls
 import repository
 from edits import Edit
 
-WITHOUT = re.compile(r"_tests$|_trials$|^measure$")  # crates that promise nothing
 TEST = re.compile(r"((?:[ \t]*///.*\n)*)(?:[ \t]*#\[.*\]\n)*[ \t]*#\[test\]\n")
 NAME = re.compile(r"`((?:\w+::)?\w+)`")
 LAWS = "laws"  # modules whose functions have nothing but a contract, which is a theorem
@@ -66,7 +65,7 @@ def judged(root: Path) -> Iterator[tuple[str, bool]]:
     crates = repository.crates_of(root)
     tests = named_by_tests(root, crates)
     for crate in crates:
-        if WITHOUT.search(crate):
+        if repository.PROMISE_NOTHING.search(crate):
             continue
         paths = repository.edits_of(root, crate) + repository.edits_of(root, crate, "planted")
         edits = {tuple(path.name.split(".")[:2]) for path in paths}

@@ -9,6 +9,7 @@ from dataclasses import dataclass
 from pathlib import Path
 from typing import Any
 
+PROMISE_NOTHING = re.compile(r"_tests$|_trials$|^measure$")  # crates that only test or measure
 # how a command runs whose output is read as one text
 PIPED: dict[str, Any] = {
     "stdin": subprocess.DEVNULL,

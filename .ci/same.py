@@ -19,17 +19,6 @@ sys.path.insert(0, str(Path(__file__).resolve().parent.parent / "bench"))
 from small import FEED  # noqa: E402
 
 ROOT = Path(__file__).resolve().parent.parent
-OF_TESTS = [
-    "board_trials",
-    "edge_tests",
-    "growth_trials",
-    "matrix_tests",
-    "measure",
-    "network_tests",
-    "row_tests",
-    "surface_tests",
-    "table_tests",
-]
 BYTES = re.compile(r'b"((?:[^"\\]|\\.)*)"', re.DOTALL)
 LIMIT = re.compile(r"(?m)^(?:pub )?const (MOST_\w+|LANES): \w+ = ([\d_]+);")
 
@@ -56,7 +45,7 @@ def byte_strings(source: str) -> set[str]:
 def limits_of(sources: dict[str, str]) -> Iterator[tuple[str, str, int]]:
     """The crate, the name and the number of each limit that a crate of the program declares."""
     for crate, source in sources.items():
-        for name, number in LIMIT.findall(source) if crate not in OF_TESTS else ():
+        for name, number in LIMIT.findall(source) if not repository.PROMISE_NOTHING.search(crate) else ():
             yield crate, name, int(number)
 
 

@@ -20,7 +20,7 @@ import sys
 from pathlib import Path
 
 from installing import PYTHON, install, lacking
-from repository import Count
+from repository import PIPED, Count
 
 ROOT = Path(__file__).resolve().parent.parent
 CHECKED = ["tools", "bench", ".ci", "packaging", "tests"]  # folders that pass all linters
@@ -66,9 +66,7 @@ def run(command: list[str], folder: Path) -> tuple[int, str]:
     """Runs a command, prints what it says, and gives its status and what it said."""
     path = ":".join(str(ROOT / item) for item in [*CHECKED, OF_PROGRAM])
     environment = {**os.environ, "PYTHONDONTWRITEBYTECODE": "1", "MYPYPATH": path}
-    ran = subprocess.run(
-        command, cwd=folder, env=environment, stdout=subprocess.PIPE, stderr=subprocess.STDOUT, text=True
-    )
+    ran = subprocess.run(command, cwd=folder, env=environment, **PIPED)
     print(ran.stdout, end="", flush=True)
     return ran.returncode, ran.stdout
 

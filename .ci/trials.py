@@ -73,9 +73,8 @@ def run_tasks(tasks: dict[str, Task], at_once: int) -> Iterator[edits.Outcome]:
     done: set[str] = set()
     with ThreadPoolExecutor(at_once) as pool:
         while waiting or running:
-            ready = sorted(
-                (name for name in waiting if waiting[name].after <= done), key=lambda name: waiting[name].rank
-            )
+            ready = [name for name in waiting if waiting[name].after <= done]
+            ready.sort(key=lambda name: waiting[name].rank)
             for name in ready[: at_once - len(running)]:
                 running[pool.submit(waiting.pop(name).call)] = name
             for ended in wait(running, return_when=FIRST_COMPLETED).done:
@@ -99,9 +98,8 @@ def try_all(root: Path, room: Path, paths: dict[str, list[Path]], jobs: int) -> 
         own = {f"library of {crate_name}" for crate_name in lower}
         for crate_name in lower:
             needed = {f"library of {more}" for more in repository.below(rooms.crates, crate_name)}
-            tasks.setdefault(
-                f"library of {crate_name}", Task(needed, (rank, 0), functools.partial(rooms.build, crate_name))
-            )
+            build = Task(needed, (rank, 0), functools.partial(rooms.build, crate_name))
+            tasks.setdefault(f"library of {crate_name}", build)
         tasks[f"edits of {name}"] = Task(own, (rank, 1), functools.partial(rooms.try_edits, name, own_paths, each))
     for name in paths:
         # a crate's room is laid out and worked in by one task at a time

@@ -11,6 +11,7 @@ from .changes import actions_of, walk_of
 from .document import write_document
 from .exploration import Exploration
 from .guard import HEADERS, Guard
+from .journeys import JourneyQuestion
 from .question import question_of, whole, window_of
 from .turnstile import Overtaken
 
@@ -77,18 +78,18 @@ def page(exploration: Exploration) -> Answer:
 
 def times(exploration: Exploration) -> Answer:
     """Seconds as int32, for each scenario, share and column; -1 where it isn't reached."""
-    found = exploration.times(question_of(request.args, exploration.count))
-    response = Response(found.seconds.tobytes(), mimetype=NUMBERS)
-    response.headers["X-Version"] = str(found.version)
+    version, seconds = exploration.times(question_of(request.args, exploration.count))
+    response = Response(seconds.tobytes(), mimetype=NUMBERS)
+    response.headers["X-Version"] = str(version)
     return response
 
 
 def journey(exploration: Exploration) -> Answer:
-    args, most = request.args, exploration.count - 1
-    origin, end = whole(args, "origin", 0, most), whole(args, "end", 0, most)
+    args, columns = request.args, exploration.ground.columns
+    origin, end = (columns[whole(args, name, 0, len(columns) - 1)] for name in ("origin", "end"))
     scenario = whole(args, "scenario", 0, len(exploration.standing.scenarios) - 1)
     window, trips, share = window_of(args), whole(args, "trips", 1, 8), whole(args, "share", 1, 100)
-    return exploration.journey((origin, end), scenario, window, trips, share), 200
+    return exploration.journey(JourneyQuestion((origin, end), scenario, window, trips, share)), 200
 
 
 def routes(exploration: Exploration) -> Answer:

@@ -9,21 +9,13 @@ from ..faults import BadInput, say
 from ..gtfs.stops import Projection, Stops
 from ..matrices import Matrix
 from ..records import shown
-from . import drawing
+from . import drawing, pictures
 from .isochrone_map import BANDS, draw_bands
 from .isochrones import AreaGround, Walking
 from .lines import Planned, lines_of_edits, lines_of_plan
 from .nearest import Nearest, picture_of_nearest, picture_of_nearest_difference
 from .page.lines import DrawnLines
-from .pictures import (
-    Picture,
-    PictureOptions,
-    picture_of_access,
-    picture_of_access_difference,
-    picture_of_time_difference,
-    picture_of_times,
-    source_of,
-)
+from .pictures import Picture, PictureOptions
 
 
 @dataclass(frozen=True)
@@ -58,11 +50,13 @@ def picture_of(
     elif what is not None:
         picture = picture_of_nearest_difference(matrix, stops, options, what)
     elif kind == "access":
-        picture = picture_of_access(matrix, stops, options)
+        picture = pictures.picture_of_access(matrix, stops, options)
     elif origin is None:
-        picture = picture_of_access_difference(matrix, stops, options)
+        picture = pictures.picture_of_access_difference(matrix, stops, options)
+    elif kind == "times":
+        picture = pictures.picture_of_times(matrix, stops, origin, options)
     else:
-        picture = (picture_of_times if kind == "times" else picture_of_time_difference)(matrix, stops, origin, options)
+        picture = pictures.picture_of_time_difference(matrix, stops, origin, options)
     return replace(picture, what=options.what)
 
 
@@ -110,7 +104,7 @@ def figure_of_isochrones(matrix: Matrix, stops: Stops, folder: str, sheet: Sheet
     bands = [(minutes, ground.shape_within(seconds, 60 * minutes, areas.walking)) for minutes in limits]
     title = sheet.title or f"Areas reached from {stops.of([areas.origin]).name_of(areas.origin)}"
     subtitle = f"{bands[-1][1].area:,.1f} km² within {bands[-1][0]:g} minutes"
-    source, place = source_of(shown(scenario), share, matrix), there.places.get(areas.origin)
+    source, place = pictures.source_of(shown(scenario), share, matrix), there.places.get(areas.origin)
     picture = Picture(title, subtitle, "Reached within", [], np.zeros(0, np.intp), source, place)
     lines, note = lines_below(folder, stops, ground.projection, sheet, None)
     return draw_bands(picture, there, lines, note, sheet.width, bands)

@@ -18,7 +18,7 @@ from .parts import Bytes, minutes_of
 from .places import in_order
 
 MOST_CELLS = 60_000_000  # that a page takes
-Numbers = npt.NDArray[np.intp]
+PageTimes = tuple[Bytes, Floats]
 
 
 @dataclass(frozen=True)
@@ -52,14 +52,6 @@ class Ground:
 
 
 @dataclass(frozen=True)
-class PageTimes:
-    """Of a scenario and a share: the cells, and access by origin and measure."""
-
-    cells: Bytes
-    access: Floats
-
-
-@dataclass(frozen=True)
 class PageMeasure:
     """What access counts, and within how many seconds; None where the matrix doesn't name it, and for the time to so
     many of the nearest.
@@ -81,7 +73,7 @@ class Content:
     hidden: list[str]  # what is counted, and lies in part at stops that aren't shown
     away: list[str]  # what is counted, and lies at no place at which journeys end
     measures: list[PageMeasure]
-    times: list[list[PageTimes]]  # by scenario and share
+    times: list[list[PageTimes]]  # by scenario and share: the cells, and access by origin and measure
 
 
 def origins_of(matrix: Matrix, options: PageOptions) -> list[str]:
@@ -174,8 +166,7 @@ class Reading:
         order = np.array([numbers[name] for name in self.ground.origins], dtype=np.intp)
         own = self.whole.access(scenario, share).astype(np.float64)
         cells, sums = self.cells_and_sums(scenario, share)
-        access = np.concatenate([own, sums], axis=1)[order]
-        return PageTimes(cells, access)
+        return cells, np.concatenate([own, sums], axis=1)[order]
 
     def cells_and_sums(self, scenario: str, share: Share) -> tuple[Bytes, Floats]:
         """The cells of the page's rows, and the sums of all rows in the matrix' order."""

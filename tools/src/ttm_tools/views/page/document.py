@@ -91,11 +91,11 @@ def parts_of(content: Content, lines: Lines) -> Iterator[Element]:
         for name in ("taken", "changed", "added"):
             yield part(f"{name}-{scenario}", getattr(change, name))
     for scenario, by_share in enumerate(content.times):
-        for share, times in enumerate(by_share):
+        for share, (cells, access) in enumerate(by_share):
             key = f"{scenario}-{share}"
-            yield part(f"access-{key}", times.access.T)
-            below = content.times[0][share].cells if scenario else None
-            for number, block in enumerate(blocks_of(times.cells, below)):
+            yield part(f"access-{key}", access.T)
+            below = content.times[0][share][0] if scenario else None
+            for number, block in enumerate(blocks_of(cells, below)):
                 yield part(f"cells-{key}-{number}", block)
 
 
