@@ -106,23 +106,17 @@ def entries_of(architecture: str, crates: list[str]) -> Iterator[tuple[str, str,
             yield crate.strip("- `\n"), what, on_way, apart
 
 
-def claims_of_entries(architecture: str, crates: list[str]) -> list[Claim]:
-    """The names in the entries: those that the program comes to, and those apart from its way."""
-    claims = []
-    for crate, _, on_way, apart in entries_of(architecture, crates):
+def claims_of_entries(architecture: str, crates: list[str]) -> tuple[list[Claim], list[Claim]]:
+    """The names in the entries, those that the program comes to and those apart from its way; and the spec files that
+    entries name in square brackets.
+    """
+    claims, specs = [], []
+    for crate, what, on_way, apart in entries_of(architecture, crates):
         claims += [Claim("architecture.md", crate, match, True) for match in NAME.findall(on_way)]
         claims += [Claim("architecture.md", crate, match) for match in NAME.findall(apart)]
-    return claims
-
-
-def specs_of_entries(architecture: str, crates: list[str]) -> list[Claim]:
-    """The spec files that the entries name in square brackets."""
-    return [
-        Claim("architecture.md", crate, spec)
-        for crate, what, _, _ in entries_of(architecture, crates)
-        for words in re.findall(r"\[([^\]]*)\](?!\()", what)
-        for _, spec in SPEC.findall(words)
-    ]
+        words = " ".join(re.findall(r"\[([^\]]*)\](?!\()", what))
+        specs += [Claim("architecture.md", crate, spec) for _, spec in SPEC.findall(words)]
+    return claims, specs
 
 
 def specs_of_definitions(definitions: str, crates: list[str]) -> list[Claim]:
@@ -166,7 +160,7 @@ def judged(root: Path) -> Iterator[tuple[str, bool]]:
     """Each thing that is looked at, and whether it is as it should be."""
     sources = Sources(root)
     architecture = (root / "docs/explanation/architecture.md").read_text()
-    claims = claims_of_entries(architecture, sources.names)
+    claims, specs = claims_of_entries(architecture, sources.names)
     for title, text in promises((root / "README.md").read_text()):
         named = claims_of_promise(text, sources.names)
         yield f"README: '{title}' names no function with a contract", any(map(sources.has_contract, named))
@@ -176,8 +170,8 @@ def judged(root: Path) -> Iterator[tuple[str, bool]]:
         if claim.on_way and sources.has(claim):
             said = f"{claim.page}: {PROGRAM} doesn't come to {claim.crate}'s {claim.name}"
             yield said, sources.walk.comes_to(claim.crate, claim.name)
-    specs = specs_of_definitions((root / "docs/explanation/definitions.md").read_text(), sources.names)
-    for claim in specs_of_entries(architecture, sources.names) + specs:
+    specs += specs_of_definitions((root / "docs/explanation/definitions.md").read_text(), sources.names)
+    for claim in specs:
         yield f"{claim.page}: {claim.crate} has no spec {claim.name}", sources.has_spec(claim)
     yield from judged_assurance(root, sources)
     yield from judged_tools(root, architecture)

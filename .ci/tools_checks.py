@@ -27,31 +27,17 @@ CHECKED = ["tools", "bench", ".ci", "packaging", "tests"]  # folders that pass a
 OF_PROGRAM = "tests/program"
 MOST_AGAIN = 3  # failed tests of a folder that are run again
 FAILED = re.compile(r"^FAILED ([^\s\[]+(?:\[.*?\])?)(?: - .*)?$", re.MULTILINE)
-COMMANDS = {"black": "black", "flake8": "flake8", "mypy": "mypy"}
-PACKAGES = {
-    "numpy": "python3-numpy",
-    "pandas": "python3-pandas",
-    "matplotlib": "python3-matplotlib",
-    "h5py": "python3-h5py",
-    "geopandas": "python3-geopandas",
-    "scipy": "python3-scipy",
-    "pytest": "python3-pytest",
-    "xdist": "python3-pytest-xdist",
-    "tqdm": "python3-tqdm",
-    "tables": "python3-tables",
-    "shapely": "python3-shapely",
-    "osmium": "python3-pyosmium",
-    "networkx": "python3-networkx",
-    "jinja2": "python3-jinja2",
-    "flask": "python3-flask",
-}
+COMMANDS = ("black", "flake8", "mypy")
+MODULES = "numpy pandas matplotlib h5py geopandas scipy pytest xdist tqdm tables shapely osmium networkx jinja2 flask"
+RENAMED = {"xdist": "pytest-xdist", "osmium": "pyosmium"}  # where Debian has another name
+PACKAGES = {name: f"python3-{RENAMED.get(name, name)}" for name in MODULES.split()}
 BROWSER = {"chromium": "chromium", "chromedriver": "chromium-driver"}  # large: the last, with selenium
 LEAFLET = Path("/usr/share/javascript/leaflet/leaflet.min.js"), "libjs-leaflet"
 
 
 def lacking_tools() -> list[str]:
     """The Debian packages of what isn't there, but for the browser's."""
-    commands = [package for command, package in COMMANDS.items() if shutil.which(command) is None]
+    commands = [command for command in COMMANDS if shutil.which(command) is None]
     file, package = LEAFLET
     return lacking(PACKAGES) + commands + ([] if file.is_file() else [package])
 
@@ -94,7 +80,7 @@ def lint() -> Count:
     ]
     for name, command in linters:
         if shutil.which(name) is None:
-            print(f"1 check is skipped: {name} isn't installed (Debian: apt-get install {COMMANDS[name]})")
+            print(f"1 check is skipped: {name} isn't installed (Debian: apt-get install {name})")
             count += Count(skipped=1)
             continue
         status, _ = run(command, ROOT)

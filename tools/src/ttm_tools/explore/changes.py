@@ -10,7 +10,7 @@ from decimal import Decimal, InvalidOperation
 from typing import Any, Sequence
 
 from ..faults import WrongWords
-from .routes import Routes
+from .routes import Route
 
 Values = dict[str, Any]
 MOST = 1_000_000  # of a number with decimals
@@ -67,7 +67,7 @@ class Namer:
     """Finds what numbers of the page stand for."""
 
     stops: Sequence[str]  # by the numbers of places
-    routes: Routes
+    routes: Sequence[Route]  # by their numbers
 
     def stop(self, value: Any, name: str = "stop") -> str:
         return self.stops[number(value, name, 0, len(self.stops) - 1)]
@@ -81,11 +81,10 @@ class Namer:
         """An action of a plan."""
         if change["do"] == "add_line":
             return self.new_line(change)
-        place = number(change["route"], "route", 0, len(self.routes.identifiers) - 1)
-        action: Values = {"do": change["do"], "route": self.routes.identifiers[place]}
+        route = self.routes[number(change["route"], "route", 0, len(self.routes) - 1)]
+        action: Values = {"do": change["do"], "route": route.identifier}
         if change["do"] in ("cut", "extend"):
-            ways = self.routes.ways[place]
-            way = ways[number(change["way"], "way", 0, len(ways) - 1)]
+            way = route.ways[number(change["way"], "way", 0, len(route.ways) - 1)]
             key, value = ("pattern", way.trip) if way.direction is None else ("direction", way.direction)
             action[key] = value
             action["after"] = self.stop(change["after"] if change["do"] == "cut" else way.stops[-1], "after")

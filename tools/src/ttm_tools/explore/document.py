@@ -11,15 +11,7 @@ from ..views.page.content import Content
 from .exploration import Exploration
 
 ASSETS = Path(__file__).resolve().parent / "assets"
-LIVE = (
-    "live.js",
-    "isochrones.js",
-    "journey.js",
-    "routes.js",
-    "beside.js",
-    "keep.js",
-    "point.js",
-)  # in place of the page's cells
+LIVE = tuple(f"{name}.js" for name in "live isochrones journey routes beside keep point".split())  # for cells.js
 MINUTES = 30  # at which the slider stands first
 
 

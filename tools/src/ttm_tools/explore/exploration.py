@@ -27,7 +27,7 @@ from .journeys import JourneyQuestion, Journeys
 from .lines import FeedLines
 from .point import Point, Walk, walks_from
 from .question import Question
-from .routes import Routes, routes_of
+from .routes import Route, routes_of
 from .standing import Plan, Seconds, Standing
 from .timetables import timetable_of
 from .turnstile import Turnstile
@@ -71,7 +71,7 @@ class Exploration:
         return None if self.options.streets is None else read_streets(self.options.streets)
 
     @cached_property
-    def of_routes(self) -> Routes:
+    def of_routes(self) -> list[Route]:
         numbers = {name: number for number, name in enumerate(self.ground.columns)}
         return routes_of(self.base, self.options.date, numbers)
 
@@ -150,7 +150,7 @@ class Exploration:
         with self.reading:
             running = self.feed_lines.from_stop_to_stop(self.base)
             lines = None if running is None else running.ravel().tolist()
-            content = {"routes": self.of_routes.as_json(), "running": lines}
+            content = {"routes": [route.as_json() for route in self.of_routes], "running": lines}
             encoded = json.dumps(content, separators=(",", ":")).encode()
         del content, lines, running
         give_back()

@@ -40,9 +40,8 @@ def origins_of(matrix: Matrix, scenario: str) -> list[str]:
     first = matrix.origins(scenario, matrix.shares[0])
     for share in matrix.shares:
         if matrix.origins(scenario, share) != first:
-            raise BadInput(
-                matrix.path, f"{shown(scenario)} has other origins for the percentile {share}: is it truncated?"
-            )
+            message = f"{shown(scenario)} has other origins for the percentile {share}: is it truncated?"
+            raise BadInput(matrix.path, message)
     return first
 
 

@@ -15,6 +15,7 @@ from urllib.parse import quote
 import numpy as np
 
 from ..faults import BadInput, needs
+from ..gtfs.fields import Floats
 from ..gtfs.stops import Stops
 from ..files import written_aside
 from ..matrices import Matrix, Share
@@ -36,13 +37,9 @@ class Features:
 
     def properties(self, place: int) -> dict[str, Any]:
         """What is reported of one stop."""
-        properties: dict[str, Any] = {
-            "stop_id": shown(self.stops.identifiers[place]),
-            "stop_name": self.stops.names[place],
-        }
-        for name, numbers in self.columns.items():
-            properties[name] = None if math.isnan(numbers[place]) else int(numbers[place])
-        return properties
+        numbers = {name: column[place] for name, column in self.columns.items()}
+        named = {"stop_id": shown(self.stops.identifiers[place]), "stop_name": self.stops.names[place]}
+        return named | {name: None if math.isnan(number) else int(number) for name, number in numbers.items()}
 
 
 def named(scenario: str, share: Share, what: str) -> str:
@@ -57,22 +54,26 @@ def features_of(
     columns: dict[str, Any] = {}
     drawn = matrix.stops_and_origins()
     among = {name: place for place, name in enumerate(drawn)}
-    for scenario in scenarios:
-        for share in shares:
-            places = np.array([among[name] for name in matrix.origins(scenario, share)], dtype=np.intp)
-            for limit, access in zip(matrix.layout.limits, matrix.access(scenario, share).T):
-                column = np.full(len(drawn), np.nan)
-                column[places] = access
-                columns[named(scenario, share, "access" if limit is None else f"access_{limit}")] = column
-            if origin is not None:
-                seconds = np.full(len(drawn), np.nan)
-                seconds[: len(matrix.stops)] = matrix.seconds(scenario, share, origin)
-                columns[named(scenario, share, "seconds")] = seconds
+    for scenario, share in itertools.product(scenarios, shares):
+        places = [among[name] for name in matrix.origins(scenario, share)]
+        for limit, access in zip(matrix.layout.limits, matrix.access(scenario, share).T):
+            what = "access" if limit is None else f"access_{limit}"
+            columns[named(scenario, share, what)] = placed(access, places, len(drawn))
+        if origin is not None:
+            seconds = matrix.seconds(scenario, share, origin)
+            columns[named(scenario, share, "seconds")] = placed(seconds, range(len(seconds)), len(drawn))
     found = stops.of(drawn)
     kept = np.flatnonzero(found.placed)
     there = found.of([found.identifiers[place] for place in kept.tolist()])
     there = replace(there, areas={**squares_of(there), **there.areas})
     return Features(there, {name: numbers[kept] for name, numbers in columns.items()})
+
+
+def placed(numbers: Any, places: Sequence[int], count: int) -> Floats:
+    """A column with numbers in these of its so many places, and NaN in the others."""
+    column = np.full(count, np.nan)
+    column[np.array(places, dtype=np.intp)] = numbers
+    return column
 
 
 def with_nearest(
@@ -88,11 +89,11 @@ def with_nearest(
     columns, among = dict(features.columns), features.stops.places
     for scenario, share in itertools.product(*kinds):
         found = nearest(matrix, scenario, share, counts.numbers, nearest_of)
-        rows = [(row, among[name]) for row, name in enumerate(matrix.origins(scenario, share)) if name in among]
-        chosen, places = np.array(rows, dtype=np.intp).reshape(-1, 2).T
+        origins = matrix.origins(scenario, share)
+        rows = [row for row, name in enumerate(origins) if name in among]
+        places = [among[origins[row]] for row in rows]
         for (kind, what), (place, count) in itertools.product(enumerate(counts.names), enumerate(nearest_of)):
-            column = np.full(len(features.stops.identifiers), np.nan)
-            column[places] = found[chosen, kind, place]
+            column = placed(found[rows, kind, place], places, len(features.stops.identifiers))
             columns[named(scenario, share, f"{shown(what)}_nearest_{count:g}")] = column
     return Features(features.stops, columns)
 

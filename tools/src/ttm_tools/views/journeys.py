@@ -132,6 +132,5 @@ def departure_lines(options: ExplainOptions, found: Sequence[Found]) -> Iterator
     widths = [max(map(len, column)) for column in zip(*table)]
     table[0][1:] = [f"{text} " for text in table[0][1:]]
     for line in table:
-        yield GAP.join(
-            [line[0].ljust(widths[0]), *[text.rjust(wide) for text, wide in zip(line[1:], widths[1:])]]
-        ).rstrip()
+        times = [text.rjust(wide) for text, wide in zip(line[1:], widths[1:])]
+        yield GAP.join([line[0].ljust(widths[0]), *times]).rstrip()

@@ -140,10 +140,8 @@ def stop_fields(day: Day) -> Iterator[list[str]]:
 def costs_stated(day: Day) -> list[str]:
     """What runs in the first scenario, and each other one compared with it, all periods together."""
     whole = Period(min(period.start for period in day.periods), max(period.end for period in day.periods))
-    found = {
-        name: service_of(runs, np.ones(len(runs.trip), dtype=np.bool_), whole, -1) for name, runs in day.running.items()
-    }
-    (base, first), *others = found.items()
+    every = {name: np.ones(len(runs.trip), dtype=np.bool_) for name, runs in day.running.items()}
+    (base, first), *others = ((name, service_of(runs, every[name], whole, -1)) for name, runs in day.running.items())
     lines = [f"{shown(base)}: {', '.join(f'{number} {what}' for what, number in numbers_of(first))}"]
     for name, service in others:
         pairs = zip(numbers_of(first), numbers_of(service))

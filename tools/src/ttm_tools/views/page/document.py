@@ -25,22 +25,8 @@ from .streets import ASIDE, PageStreets
 
 ASSETS = Path(__file__).resolve().parent / "assets"
 LEAFLET = "/usr/share/javascript/leaflet"
-SCRIPTS = (
-    "data.js",
-    "cells.js",
-    "classes.js",
-    "areas.js",
-    "stamps.js",
-    "layer.js",
-    "figures.js",
-    "panel.js",
-    "nearest.js",
-    "reached.js",
-    "streets.js",
-    "bands.js",
-    "search.js",
-    "main.js",
-)
+NAMES = "data cells classes areas stamps layer figures panel nearest reached streets bands search main"
+SCRIPTS = tuple(f"{name}.js" for name in NAMES.split())
 STYLES = ("page.css",)
 
 
@@ -171,13 +157,8 @@ def write_page(out: BinaryIO, content: Content, lines: Lines, frame: Frame, kind
 
     script, style = leaflet_files(frame.leaflet)
     scripts, styles = [script, *kind.texts(kind.scripts)], [style, *kind.texts(kind.styles)]
-    rooms = Environment(
-        loader=FileSystemLoader(kind.folders),
-        autoescape=True,
-        undefined=StrictUndefined,
-        trim_blocks=True,
-        lstrip_blocks=True,
-    )
+    blocks: dict[str, Any] = {"trim_blocks": True, "lstrip_blocks": True}
+    rooms = Environment(loader=FileSystemLoader(kind.folders), autoescape=True, undefined=StrictUndefined, **blocks)
     known = {
         "frame": frame,
         "policy": policy_of(scripts, styles, frame.tiles, kind.connects),
