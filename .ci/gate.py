@@ -82,7 +82,6 @@ def time_of_commit(folder: Path) -> str:
 
 
 def run_scripts(root: Path, scripts: list[list[str]]) -> Count:
-    """Runs those of the scripts that are there, one after another."""
     count = Count()
     for script in scripts:
         if (root / script[0]).is_file():

@@ -47,8 +47,6 @@ class Item:
 
 @dataclass
 class Proof:
-    """A file of proofs."""
-
     path: Path
     module: str
     items: list[Item]
@@ -145,7 +143,6 @@ def passed_on(proof: Proof) -> set[tuple[str, str]]:
 
 
 def cited_by_code(root: Path, path: Path) -> set[tuple[str, str]]:
-    """The module and the name of each lemma that a source file names."""
     text = path.read_text()
     crate = path.relative_to(root / "crates").parts[0]
     found = {match.replace("::", ".").replace("crate.", f"Rattle.{crate}.", 1) for match in USING.findall(text)}

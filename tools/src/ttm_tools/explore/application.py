@@ -12,6 +12,7 @@ from .document import write_document
 from .exploration import Exploration
 from .guard import HEADERS, Guard
 from .journeys import JourneyQuestion
+from .keeping import save
 from .question import question_of, whole, window_of
 from .turnstile import Overtaken
 
@@ -22,7 +23,6 @@ Answer = Response | tuple[dict[str, Any], int]
 
 
 def application(exploration: Exploration, guard: Guard) -> Flask:
-    """The application that answers the page of an exploration."""
     server = Flask(__name__, static_folder=None, template_folder=None)
     server.before_request(lambda: refusal(guard))
     server.after_request(with_headers)
@@ -78,7 +78,7 @@ def page(exploration: Exploration) -> Answer:
 
 def times(exploration: Exploration) -> Answer:
     """Seconds as int32, for each scenario, share and column; -1 where it isn't reached."""
-    version, seconds = exploration.times(question_of(request.args, exploration.count))
+    version, seconds = exploration.times(question_of(request.args, len(exploration.ground.columns)))
     response = Response(seconds.tobytes(), mimetype=NUMBERS)
     response.headers["X-Version"] = str(version)
     return response
@@ -103,4 +103,5 @@ def changes(exploration: Exploration) -> Answer:
 
 
 def study(exploration: Exploration) -> Answer:
-    return exploration.save(request.get_json(silent=True)), 200
+    plan, body = exploration.standing.plan, request.get_json(silent=True)
+    return save(exploration.options, plan, exploration.ground.columns, body, exploration.walks_from), 200

@@ -4,6 +4,7 @@ The page names routes and stops by their numbers, so that no text of it is taken
 a new line.
 """
 
+import itertools
 import json
 from dataclasses import dataclass
 from decimal import Decimal, InvalidOperation
@@ -78,7 +79,6 @@ class Namer:
         return [self.stop(place) for place in value]
 
     def action(self, change: Values) -> Values:
-        """An action of a plan."""
         if change["do"] == "add_line":
             return self.new_line(change)
         route = self.routes[number(change["route"], "route", 0, len(self.routes) - 1)]
@@ -126,7 +126,6 @@ def in_toml(value: Any) -> str:
 
 
 def scenario_text(name: str, actions: Sequence[Values]) -> str:
-    """A scenario of a plan."""
     lines = ["[[scenario]]", f"name = {in_toml(name)}"]
     for action in actions:
         lines += ["", "[[scenario.action]]", *(f"{key} = {in_toml(value)}" for key, value in action.items())]
@@ -135,8 +134,5 @@ def scenario_text(name: str, actions: Sequence[Values]) -> str:
 
 def name_among(names: Sequence[str]) -> str:
     """The name of the scenario of a person's changes, which none of a plan has."""
-    number, name = 1, NAME
-    while name in names:
-        number += 1
-        name = f"{NAME} {number}"
-    return name
+    numbered = (f"{NAME} {number}" for number in itertools.count(2))
+    return next(name for name in itertools.chain([NAME], numbered) if name not in names)

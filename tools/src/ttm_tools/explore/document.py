@@ -1,6 +1,7 @@
 """The page of an exploration: that of `ttm-tools page`, whose travel times come from the network that answers."""
 
 import os
+from dataclasses import replace
 from pathlib import Path
 from typing import Any, BinaryIO
 
@@ -62,4 +63,5 @@ def frame_of(exploration: Exploration) -> page.Frame:
 def write_document(out: BinaryIO, exploration: Exploration) -> None:
     """Writes the page of the network that answers now."""
     content = Content(exploration.ground, exploration.counts, 0, [], [], [], [])
-    page.write_page(out, content, exploration.lines(), frame_of(exploration), kind_of(exploration))
+    lines = replace(exploration.feed_lines.whole, changes=exploration.standing.plan.changes)
+    page.write_page(out, content, lines, frame_of(exploration), kind_of(exploration))

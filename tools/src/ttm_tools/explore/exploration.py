@@ -3,7 +3,6 @@
 import json
 import tempfile
 import threading
-from dataclasses import replace
 from functools import cached_property
 from pathlib import Path
 from typing import Any
@@ -17,11 +16,10 @@ from ..plans.plan_file import read_plan
 from ..points.shown import points_in, with_points
 from ..points.table import read_points
 from ..views.page.content import Ground
-from ..views.page.lines import Lines
 from ..views.page.places import in_order
 from ..walks import Pace
 from ..walks.osm import Streets, read_streets
-from . import keeping, planning
+from . import planning
 from .changes import Namer, Values
 from .journeys import JourneyQuestion, Journeys
 from .lines import FeedLines
@@ -44,13 +42,9 @@ class Exploration:
         if self.plan_text:
             self.begun(0, self.of_feed(options.walk)).close()  # reports what is wrong with the feed
         self.standing = self.begun(1, self.planned([], options.walk))
-        self.ground = ground_of(stops_of(self.standing.plan.folder, points_in(options.feed)))
+        stops, points = read_stops(self.standing.plan.folder), points_in(options.feed)
+        self.ground = ground_of(stops if points is None else with_points(stops, read_points(points)))
         self.counts: Counts = read_counts(options.opportunities, self.ground.places.identifiers, "stop of the feed")
-
-    @property
-    def count(self) -> int:
-        """How many places there are."""
-        return len(self.ground.columns)
 
     @cached_property
     def base(self) -> Base:
@@ -93,7 +87,6 @@ class Exploration:
         return standing
 
     def of_feed(self, walk: int) -> Plan:
-        """The feed as it is."""
         return Plan(self.options.feed, [], walk, [], "", [], None)
 
     def planned(self, actions: list[Values], walk: int) -> Plan:
@@ -140,10 +133,6 @@ class Exploration:
             told = standing.plan.sentences
             return {"version": version, "scenarios": standing.scenarios, "told": told, "lines": lines}
 
-    def lines(self) -> Lines:
-        """The lines of the feed, and what each scenario of the network that answers changes of them."""
-        return replace(self.feed_lines.whole, changes=self.standing.plan.changes)
-
     @cached_property
     def routes(self) -> bytes:
         """The routes as JSON, and the lines of the feed where the page began without them."""
@@ -165,19 +154,8 @@ class Exploration:
         with self.reading:
             return self.journeys.journey(self.standing, self.ground.columns, question)
 
-    def save(self, body: Any) -> dict[str, Any]:
-        """Writes a study that computes what is shown."""
-        return keeping.save(self.options, self.standing.plan, self.ground.columns, body, self.walks_from)
-
     def close(self) -> None:
-        """Ends the conversation."""
         self.standing.close()
-
-
-def stops_of(folder: str, points: str | None) -> Stops:
-    """The stops of a feed; those that `ttm-tools points` made of points with their widths."""
-    stops = read_stops(folder)
-    return stops if points is None else with_points(stops, read_points(points))
 
 
 def ground_of(stops: Stops) -> Ground:
@@ -189,5 +167,4 @@ def ground_of(stops: Stops) -> Ground:
 
 
 def called_at(stops: Stops) -> list[str]:
-    """The stops at which vehicles may call."""
     return [name for name, kind in zip(stops.identifiers, stops.kinds.tolist()) if kind == 0]

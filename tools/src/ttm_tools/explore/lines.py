@@ -86,7 +86,6 @@ class FeedLines:
 
 
 def course_of(base: Base, stops: npt.NDArray[Any]) -> Course:
-    """The line from stop to stop."""
     return base.places.latitudes[stops], base.places.longitudes[stops]
 
 

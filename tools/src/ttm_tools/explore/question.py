@@ -25,7 +25,6 @@ class Question:
 
 
 def whole(args: Mapping[str, str], name: str, least: int, most: int) -> int:
-    """A whole number of a range."""
     text = args.get(name, "")
     if not WHOLE.fullmatch(text) or not least <= int(text) <= most:
         raise WrongWords(f"{name} is {text[:60]!r}; allowed: {least} to {most}")
@@ -33,7 +32,6 @@ def whole(args: Mapping[str, str], name: str, least: int, most: int) -> int:
 
 
 def clock(args: Mapping[str, str], name: str) -> str:
-    """A time of the day."""
     text = args.get(name, "")
     if not CLOCK.fullmatch(text):
         raise WrongWords(f"{name} is {text[:60]!r}; allowed: 00:00 to 23:59")
@@ -41,7 +39,6 @@ def clock(args: Mapping[str, str], name: str) -> str:
 
 
 def window_of(args: Mapping[str, str]) -> tuple[str, str]:
-    """The first and the last departure."""
     first, last = clock(args, "first"), clock(args, "last")
     if last < first:
         raise WrongWords(f"the last departure, {last}, is before the first, {first}")
@@ -49,7 +46,6 @@ def window_of(args: Mapping[str, str]) -> tuple[str, str]:
 
 
 def degrees(args: Mapping[str, str], name: str, most: int) -> float:
-    """A latitude or a longitude."""
     text = args.get(name, "")
     if not DEGREES.fullmatch(text) or abs(float(text)) > most:
         raise WrongWords(f"{name} is {text[:60]!r}; allowed: -{most} to {most}")

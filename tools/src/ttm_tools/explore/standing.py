@@ -60,7 +60,6 @@ class Standing:
         self.network = Network(plan.folder, options.date, footpaths=options.footpaths, **self.own)
 
     def ask(self, origin: str, window: tuple[str, str], trips: int, shares: Sequence[int]) -> Result:
-        """Travel times from a stop."""
         return self.network.matrix(window, trips=trips, shares=shares, origins=[origin])
 
     def ask_from(self, point: Point, walks: list[Walk], folder: Path, question: Question) -> Result:

@@ -112,7 +112,6 @@ def own_timetable(written: Written, all_stops: Stops) -> Timetable | None:
 
 
 def own_events(written: Written) -> Events:
-    """The events of these trips."""
     base, own = written.base, written.own
     begins = np.cumsum([0, *(len(one.trip.stop) for one in own)])
     stop, row = (together([getattr(one.trip, name) for one in own]) for name in ("stop", "row"))

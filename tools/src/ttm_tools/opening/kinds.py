@@ -65,7 +65,6 @@ def taken_if(fits: Callable[[Any], bool]) -> Callable[[Any], Any]:
 
 
 def texts_of(value: Any) -> list[str]:
-    """A text, or several."""
     listed = [value] if isinstance(value, str) else value
     if not isinstance(listed, list) or not listed or not all(isinstance(item, str) and item for item in listed):
         raise ValueError(value)

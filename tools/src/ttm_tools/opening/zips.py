@@ -41,7 +41,6 @@ def refuse_size(path: Path, sizes: Iterable[int], room: Path) -> None:
 
 
 def unpack_member(path: Path, member: str, target: Path) -> Path:
-    """Unpacks one member."""
     target.parent.mkdir(exist_ok=True)
     with as_one_line(path, f"{os.path.basename(member)} can't be unzipped"):
         with zipfile.ZipFile(path) as packed, packed.open(member) as source:

@@ -48,7 +48,6 @@ def origins_of(matrix: Matrix, scenario: str) -> list[str]:
 def measured(
     matrix: Matrix, scenario: str, shares: Sequence[Share], measure: Callable[[str, Share], Floats]
 ) -> Measured:
-    """What a measure gives for each share of a scenario."""
     origins = origins_of(matrix, scenario)
     return Measured(scenario, origins, list(shares), np.stack([measure(scenario, share) for share in shares]))
 

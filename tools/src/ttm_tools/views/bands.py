@@ -44,7 +44,6 @@ def bands_of(
 
 
 def write_bands(out: BinaryIO, table: AccessTable, bands: Iterator[Band], form: str) -> None:
-    """Writes a line for each."""
     rows = []
     for band in bands:
         named = [*astuple(band.kind), band.group, band.scenario, decimal(band.limit)]

@@ -24,13 +24,7 @@ class Cells:
         self.are_there: npt.NDArray[np.bool_] = ~np.isnan(self.sides[:, 0])
         self.are_there[list(self.areas)] = True
 
-    def corners(self) -> Floats:
-        """The corners of all areas."""
-        corners: Floats = np.concatenate([np.zeros((0, 2)), *(path.vertices for path in self.areas.values())])
-        return corners
-
     def draw(self, axes: Any, chosen: npt.NDArray[np.intp], points: Floats, colour: str, order: float) -> None:
-        """Draws the cells of some places in a colour."""
         how: dict[str, Any] = {"facecolors": colour, "edgecolors": "face", "linewidths": 0.2, "zorder": order}
         areas = [self.areas[place] for place in chosen.tolist() if place in self.areas]
         oblong = np.array([place for place in chosen.tolist() if place not in self.areas], dtype=np.intp)
@@ -42,7 +36,6 @@ class Cells:
 
 
 def path_of(area: Area, projection: Projection) -> Path:
-    """An area as a path."""
     return path_along([np.stack(projection.kilometres(*ring.T), axis=1) for polygon in area for ring in polygon])
 
 

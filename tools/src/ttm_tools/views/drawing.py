@@ -57,7 +57,6 @@ class MapLines:
 
 
 def running(pieces: Pieces) -> MapLines:
-    """The lines on which vehicles run."""
     return MapLines(pieces, "where vehicles run", FAINT, 0.9 if len(pieces) < MANY_LINES else 0.5)
 
 
@@ -66,7 +65,8 @@ def draw(picture: Picture, stops: Stops, lines: Sequence[MapLines], note: str, w
     """The picture of these stops, which are those of the matrix, as a figure of this width in pixels."""
     projection = Projection(stops.latitudes, stops.longitudes)
     points, cells = points_of(stops, projection), Cells(stops, projection)
-    figure, axes = empty_map(limits_of(np.concatenate([points[stops.placed], cells.corners()])), width)
+    corners = [path.vertices for path in cells.areas.values()]
+    figure, axes = empty_map(limits_of(np.concatenate([points[stops.placed], *corners])), width)
     write_head(figure, picture)
     if cells.are_there.any():
         lines = over_squares(lines)
@@ -82,7 +82,6 @@ def draw(picture: Picture, stops: Stops, lines: Sequence[MapLines], note: str, w
 
 
 def points_of(stops: Stops, projection: Projection) -> MapPoints:
-    """Where the stops are on the map."""
     return np.stack(projection.kilometres(stops.longitudes, stops.latitudes), axis=1)
 
 

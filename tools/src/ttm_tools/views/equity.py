@@ -56,7 +56,6 @@ def is_number(text: str, number: float) -> bool:
 
 
 def measured(table: AccessTable, people: Counts, options: EquityOptions) -> Iterator[Line]:
-    """The measures of each kind, group and scenario."""
     base = table.scenario(options.base)
     measure: Callable[[Floats, Floats, Floats, float], Equity | Nearness] = equity
     if table.of_times:
@@ -82,7 +81,6 @@ def rows_of(lines: Iterable[Line]) -> list[list[str]]:
 
 
 def write_equity(out: BinaryIO, lines: Iterator[Line], form: str) -> None:
-    """Writes a line for each kind, group and scenario."""
     names, *rows = rows_of(lines)
     write_table(out, names, rows, form)
 

@@ -26,9 +26,6 @@ class FairnessOptions:
     rank: Floats | None = None  # of concentration, by origin
     line: float | None = None  # of poverty
 
-    def case(self, access: Floats, people: Floats) -> FairnessCase:
-        return FairnessCase(access, people, self.rank, self.line)
-
 
 def lines_of(table: AccessTable, people: Counts, options: FairnessOptions) -> Iterator[list[str]]:
     """A line for each kind, group and scenario; of Theil's T one more for all groups together."""
@@ -38,7 +35,8 @@ def lines_of(table: AccessTable, people: Counts, options: FairnessOptions) -> It
     for kind in options.kinds:
         for _, group, numbers, weights in by_group(table, [kind], people):
             for place, scenario in enumerate(table.scenarios):
-                yield line_of(kind, group, scenario, measure(options.case(numbers[place], weights)))
+                case = FairnessCase(numbers[place], weights, options.rank, options.line)
+                yield line_of(kind, group, scenario, measure(case))
         if options.measure == THEIL and len(people.names) > 1:
             for scenario, own in zip(table.scenarios, table.numbers[:, table.kinds.index(kind)]):
                 yield line_of(kind, ALL_GROUPS, scenario, theil_of_all(own, people.numbers))
@@ -49,5 +47,4 @@ def line_of(kind: AccessKind, group: str, scenario: str, found: Found) -> list[s
 
 
 def write_fairness(out: BinaryIO, lines: Iterator[list[str]], measure: str, form: str) -> None:
-    """Writes the table."""
     write_table(out, [*names_of(OF_PEOPLE), *FAIRNESS[measure].columns], list(lines), form)

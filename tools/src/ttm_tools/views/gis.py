@@ -36,7 +36,6 @@ class Features:
     columns: dict[str, Any]  # arrays of numbers
 
     def properties(self, place: int) -> dict[str, Any]:
-        """What is reported of one stop."""
         numbers = {name: column[place] for name, column in self.columns.items()}
         named = {"stop_id": shown(self.stops.identifiers[place]), "stop_name": self.stops.names[place]}
         return named | {name: None if math.isnan(number) else int(number) for name, number in numbers.items()}
@@ -50,7 +49,6 @@ def named(scenario: str, share: Share, what: str) -> str:
 def features_of(
     matrix: Matrix, stops: Stops, scenarios: Sequence[str], shares: Sequence[Share], origin: str | None
 ) -> Features:
-    """The stops with the chosen numbers."""
     columns: dict[str, Any] = {}
     drawn = matrix.stops_and_origins()
     among = {name: place for place, name in enumerate(drawn)}

@@ -38,11 +38,6 @@ class Walking:
     detour: float = 1.3  # metres of way for a metre of straight line
     most: float = 600.0  # seconds
 
-    def radii(self, left: Floats) -> Floats:
-        """How far one comes as the crow flies in the seconds that are left, in kilometres."""
-        kilometres: Floats = np.minimum(left, self.most) * self.speed / self.detour / 1000
-        return kilometres
-
 
 @dataclass(frozen=True)
 class Isochrone:
@@ -69,7 +64,6 @@ class AreaGround:
     reach: Reach | None = None  # along streets, from those that have a place and no shape, in their order
 
     def shape_within(self, seconds: Floats, limit: float, walking: Walking) -> Any:
-        """What is reached within a limit of seconds."""
         from shapely.ops import unary_union
 
         near = np.flatnonzero(self.placed & (seconds <= limit))
@@ -85,7 +79,8 @@ class AreaGround:
             metres = np.where(left[bare] >= 0, np.minimum(left[bare], walking.most) * walking.speed, -1.0)
             yield strip(self.reach.pieces(metres), self.projection.kilometres, ASIDE)
             return
-        radii = walking.radii(left[bare])
+        # as the crow flies, in kilometres
+        radii = np.minimum(left[bare], walking.most) * walking.speed / walking.detour / 1000
         for place, radius in zip(bare.tolist(), radii.tolist()):
             if radius > 0:
                 yield Point(self.east[place], self.north[place]).buffer(radius, QUARTER)

@@ -88,7 +88,6 @@ def degrees(number: float) -> bytes:
 
 
 def header_of(matrix: Matrix, choice: TableChoice, stops: Stops | None) -> list[str]:
-    """The names of the columns of travel times."""
     if choice.r5py:
         head = ["from_id", "to_id", *(r5py_name(share, choice.shares) for share in choice.shares)]
     else:
@@ -159,7 +158,6 @@ def lines_of(head: bytes, times: Sequence[Seconds], around: Sequence[Any], numer
 
 
 def access_header(matrix: Matrix, stops: Stops | None) -> list[str]:
-    """The names of the columns of access."""
     named = matrix.layout.names_share
     header = ["scenario", *["share"] * named, "origin", *["within"] * named, "access"]
     return header + ([f"origin_{what}" for what in ("name", "lat", "lon")] if stops is not None else [])

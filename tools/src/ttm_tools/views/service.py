@@ -99,7 +99,6 @@ def period_shown(period: Period) -> str:
 
 
 def texts_of(service: Service) -> list[str]:
-    """The numbers of a line."""
     return [text_of(getattr(service, own.name), **own.metadata) for own in fields(Service)]
 
 
@@ -110,7 +109,6 @@ def text_of(number: float, is_time: bool = False, decimals: int = 4, **_: Any) -
 
 
 def write_lines(out: BinaryIO, lines: Iterator[ServiceLine], groups: Groups) -> None:
-    """Writes the table by route."""
     write_rows(out, [*names_of(SERVICE), *header(Service)], (fields_of(line, groups) for line in lines))
 
 

@@ -56,7 +56,6 @@ def levels(numbers: Floats, people: Floats) -> tuple[float, float]:
 
 
 def days_of(columns: Sequence[WindowColumn]) -> list[tuple[str, list[WindowColumn]]]:
-    """The windows of each day."""
     return [(day, list(own)) for day, own in itertools.groupby(columns, lambda column: column.day)]
 
 

@@ -47,7 +47,6 @@ class Ground:
     rows: list[str]  # the origins whose travel times the page has
 
     def at(self, names: Sequence[str]) -> npt.NDArray[np.int32]:
-        """The numbers of some of the places."""
         return np.array([self.places.places[name] for name in names], dtype=np.int32)
 
 

@@ -53,7 +53,6 @@ class DrawnLines:
         return read_trips(self.folder, self.shaped)
 
     def removed(self, edits: str) -> set[str]:
-        """The trips that a scenario file removes."""
         return removed_trips(self.trips, edits)
 
     def pieces(self, trips: set[str]) -> OnGrid:
@@ -74,7 +73,6 @@ def change_of(before: OnGrid, after: OnGrid, projection: Projection) -> LineChan
 
 
 def name_of(edits: str) -> str:
-    """The scenario of a scenario file."""
     return os.path.basename(edits).removesuffix(".csv")
 
 

@@ -83,7 +83,6 @@ def options_of(matrix: Matrix, what: str, settings: PageSettings) -> PageOptions
 
 
 def page_of(matrix: Matrix, settings: PageSettings) -> Page:
-    """The page of these settings."""
     chosen, stops = shown_of(matrix, settings.feed, settings.points)
     assert stops is not None  # there is a feed
     options = options_of(chosen, "stops" if chosen is matrix else "points", settings)
@@ -110,6 +109,8 @@ def frame_of(matrix: Matrix, content: Content, options: PageOptions, settings: P
     """What stands around the numbers."""
     arguments = sources.RunArguments(settings.arguments or "")
     name = shown(os.path.basename(os.path.abspath(settings.feed)))
+    most = matrix.greatest_stated
+    end = f" {most[0].upper()}{most[1:]}." if most else ""  # if travel times have a maximum
     files = {
         "Matrix": [matrix.path, *matrix.files],
         "Points": [path for path in [settings.points or points_in(settings.feed)] if path is not None],
@@ -123,7 +124,7 @@ def frame_of(matrix: Matrix, content: Content, options: PageOptions, settings: P
         " ".join(text for text in (settings.note, f"{matrix.heading}." if matrix.heading else "") if text),
         options.scenarios,
         options.shares,
-        [sources.meaning(share, arguments) + end_stated(matrix) for share in options.shares],
+        [sources.meaning(share, arguments) + end for share in options.shares],
         sources.table(files, settings.feed, arguments),
         rows_stated(content, options),
         first_minutes(matrix, settings.within),
@@ -133,12 +134,6 @@ def frame_of(matrix: Matrix, content: Content, options: PageOptions, settings: P
         settings.attribution or "",
         settings.leaflet,
     )
-
-
-def end_stated(matrix: Matrix) -> str:
-    """What is reported with a percentile if travel times have a maximum."""
-    sentence = matrix.greatest_stated
-    return f" {sentence[0].upper()}{sentence[1:]}." if sentence else ""
 
 
 def first_minutes(matrix: Matrix, within: int | None) -> int:
