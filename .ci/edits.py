@@ -39,9 +39,7 @@ def lines_of(command: list[str], folder: Path) -> list[str]:
 
 
 class Edit:
-    """A planted bug: what of which file is replaced by what, and the function that it changes, where its name says
-    it.
-    """
+    """A planted bug: what of which file is replaced by what, and the function that it changes, if its name says it."""
 
     def __init__(self, path: Path) -> None:
         self.path, self.name = path, path.name
@@ -61,9 +59,7 @@ class Edit:
         self.function: tuple[str, str] | None = (module[1].replace("/", "::"), parts[1]) if known and module else None
 
     def applied(self, texts: Texts) -> dict[str, str] | None:
-        """The texts of the files that it changes, one replacement after another; nothing where a text isn't there
-        once.
-        """
+        """The texts of the files that it changes, replacement by replacement; nothing where a text isn't there once."""
         texts_changed: dict[str, str] = {}
         for file, old, new in self.replacements:
             text = texts_changed.get(file, texts(file))
@@ -74,9 +70,7 @@ class Edit:
 
 
 def choose(edits: list[Edit], texts: Texts) -> tuple[list[Edit], dict[str, str]]:
-    """The edits of the next check, one for each function, no two of which replace the same text; and the texts of the
-    files that they change.
-    """
+    """The edits of the next check, one for each function, no two in one text; and the texts that they change."""
     chosen: dict[tuple[str, str], Edit] = {}
     changed: dict[str, str] = {}
     for edit in edits:
@@ -89,9 +83,7 @@ def choose(edits: list[Edit], texts: Texts) -> tuple[list[Edit], dict[str, str]]
 
 
 def unread(lines: list[str]) -> str:
-    """What says that the prover could not read a text, where an edit that only makes a statement false reads well;
-    nothing where it read all.
-    """
+    """What says that the prover could not read a text, which it can where an edit only makes a statement false."""
     for line in lines:
         found = ERROR.match(line)
         if found and (found[1] or not found[2] or UNREADABLE.search(re.sub(r"`[^`]*`", "", found[3]))):
@@ -126,9 +118,7 @@ def logic_of(lines: list[str]) -> str | None:
 
 @dataclass
 class Outcome:
-    """What came of a crate's edits: the names of those refused, of these those by a missing name alone, and why each
-    other one wasn't.
-    """
+    """The names of a crate's edits that were refused, those by a missing name alone, and why others weren't."""
 
     crate: str
     refused: list[str] = field(default_factory=list)

@@ -94,9 +94,7 @@ def claims_of_promise(text: str, crates: list[str]) -> list[Claim]:
 
 
 def entries_of(architecture: str, crates: list[str]) -> Iterator[tuple[str, str, str, str]]:
-    """The entries of what is decided where: the crate, what is decided, the functions on the program's way, and those
-    apart from it.
-    """
+    """What is decided where: the crate, what is decided, functions on the program's way, and those apart from it."""
     part = architecture.split("\n## Where is it decided", 1)[1].split("\n## ", 1)[0]
     for block in re.split(r"\n(?=- `)", part)[1:]:
         crate, *entries = re.split(r"\n {2}- ", block)

@@ -17,9 +17,7 @@ import repository
 
 
 class Rooms:
-    """A folder for each crate, with a copy of it and of the crates below, whose libraries are built once and linked
-    into the other copies.
-    """
+    """A folder for each crate, with copies of it and of the crates below, whose libraries are built once and linked."""
 
     def __init__(self, root: Path, top: Path) -> None:
         self.root, self.top = root, top

@@ -26,17 +26,11 @@ def application(exploration: Exploration, guard: Guard) -> Flask:
     server = Flask(__name__, static_folder=None, template_folder=None)
     server.before_request(lambda: refusal(guard))
     server.after_request(with_headers)
-    answers: dict[str, tuple[str, Callable[[Exploration], Answer]]] = {
-        "": ("GET", page),
-        "times": ("GET", times),
-        "journey": ("GET", journey),
-        "routes": ("GET", routes),
-        "changes": ("POST", changes),
-        "study": ("POST", study),
-    }
-    for name, (method, answer) in answers.items():
+    answers = {"": page, "times": times, "journey": journey, "routes": routes, "changes": changes, "study": study}
+    for name, answer in answers.items():
+        methods = ["POST" if answer in (changes, study) else "GET"]
         view = functools.partial(answered, answer, exploration)
-        server.add_url_rule(f"/<token>/{name}", name or "page", view, methods=[method], provide_automatic_options=False)
+        server.add_url_rule(f"/<token>/{name}", name or "page", view, methods=methods, provide_automatic_options=False)
     return server
 
 

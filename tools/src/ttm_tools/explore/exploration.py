@@ -99,9 +99,7 @@ class Exploration:
             return planning.written(self.base, self.feed_lines, text, self.room, walk, actions)
 
     def times(self, question: Question) -> tuple[int, Seconds]:
-        """Which network answers, and travel times from a place; `Overtaken` where a later question of the same tab came
-        meanwhile.
-        """
+        """Which network answers, and travel times from a place; `Overtaken` by a later question of the same tab."""
         with self.turnstile.turn(question.tab, question.turn):
             standing, origin = self.standing, question.origin
             if isinstance(origin, Point):

@@ -42,9 +42,7 @@ class Journeys:
         self.kept: tuple[int, Timetables, dict[str, str]] | None = None
 
     def of(self, standing: Standing) -> tuple[Timetables, dict[str, str]]:
-        """What journeys of a network need: timetables, and what people call the routes; what those of the one before
-        needed is dropped.
-        """
+        """Timetables and names of routes for journeys of a network; those of the network before are dropped."""
         if self.kept is None or self.kept[0] != standing.version:
             self.kept, plan = None, standing.plan
             parts = [self.feed, *([] if plan.trips is None else [plan.trips])]
@@ -53,9 +51,7 @@ class Journeys:
         return self.kept[1:]
 
     def journey(self, standing: Standing, columns: Sequence[str], question: JourneyQuestion) -> dict[str, Any]:
-        """A journey and all departures, stops by their numbers among some; an error where `ttm` has another travel
-        time.
-        """
+        """A journey and all departures, stops by their numbers among some; an error where `ttm` has another time."""
         (timetables, routes), options = self.of(standing), self.options
         begin, end = map(timetables.stops.index, question.ends)
         departures = [DAY * options.back + 60 * minute for minute in question.minutes]

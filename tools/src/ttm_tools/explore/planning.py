@@ -34,9 +34,7 @@ def text_of(plan: str, actions: Sequence[Values]) -> str:
 
 
 def written(base: Base, lines: FeedLines, text: str, room: Path, walk: int, actions: list[Values]) -> Plan:
-    """Writes the feed of all scenarios of a plan, where they have trips of their own, and their files into a new folder
-    of a room; none stays where that fails.
-    """
+    """Writes the feed of all scenarios of a plan, if it has trips of its own, and their files; if it fails, none."""
     own = Path(tempfile.mkdtemp(prefix="plan.", dir=room))
     try:
         return carried(base, lines, text, own, walk, actions)

@@ -106,9 +106,7 @@ def write_notes(figure: Figure, picture: Picture, note: str) -> None:
 
 
 def limits_of(points: MapPoints) -> tuple[float, float, float, float]:
-    """Where the map begins and ends, in kilometres (left, right, bottom, top): no strip, and with room below for the
-    scale.
-    """
+    """Where the map ends, in kilometres (left, right, bottom, top): no strip, and with room for the scale below."""
     (left, bottom), (right, top) = points.min(axis=0).tolist(), points.max(axis=0).tolist()
     side = max(right - left, top - bottom, LEAST_SIDE)
     wide, high = (max(1.08 * length, 0.5 * side) for length in (right - left, top - bottom))
@@ -199,9 +197,7 @@ def draw_stops(axes: Any, picture: Picture, points: MapPoints) -> None:
 
 
 def draw_names(axes: Any, picture: Picture, stops: Stops, points: MapPoints) -> None:
-    """A star and a name at the origin, and names at those stops that lose most, as far as the names don't cover one
-    another.
-    """
+    """A star and a name at the origin, and names at stops that lose most, as far as they don't cover one another."""
     wished = [*([picture.origin] if picture.origin is not None else []), *picture.named]
     if picture.origin is not None and not math.isnan(points[picture.origin, 0]):
         axes.scatter(*points[picture.origin], s=260, edgecolors="white", linewidths=0.9, zorder=5, **STAR)

@@ -100,8 +100,7 @@ def figure_of(table: AccessTable, people: Counts, options: EquityOptions) -> Any
     numbers, base = table.numbers[:, table.kinds.index(kind)], table.scenario(options.base)
     figure = figure_with(f"Distribution of access: {kind.label}; people: {shown(people.names[0])}", 4.8, 0.192)
     draw_lorenz(figure.add_axes((0.07, 0.13, 0.4, HIGH)), table.scenarios, numbers, weights)
-    others = [place for place in range(len(table.scenarios)) if place != base]
-    draw_tenths(figure.add_axes((0.58, 0.13, 0.4, HIGH)), table.scenarios, numbers, weights, base, others)
+    draw_tenths(figure.add_axes((0.58, 0.13, 0.4, HIGH)), table.scenarios, numbers, weights, base)
     return figure
 
 
@@ -115,10 +114,9 @@ def draw_lorenz(axes: Any, names: Sequence[str], numbers: Floats, weights: Float
     axes.legend(frameon=False, loc="upper left", fontsize=9)
 
 
-def draw_tenths(
-    axes: Any, names: Sequence[str], numbers: Floats, weights: Floats, base: int, others: Sequence[int]
-) -> None:
+def draw_tenths(axes: Any, names: Sequence[str], numbers: Floats, weights: Floats, base: int) -> None:
     """Bars of the mean change of each tenth of the people, a row of them for each scenario other than the base."""
+    others = [place for place in range(len(names)) if place != base]
     wide = 0.8 / max(1, len(others))
     for row, place in enumerate(others):
         changes = changes_by_tenth(numbers[base], numbers[place], weights)

@@ -81,9 +81,7 @@ def with_nearest(
     counts: Counts,
     nearest_of: Sequence[float],
 ) -> Features:
-    """The same with the seconds within which these numbers of opportunities are reached, for these scenarios and
-    shares.
-    """
+    """The same with the seconds within which these numbers of opportunities are reached."""
     columns, among = dict(features.columns), features.stops.places
     for scenario, share in itertools.product(*kinds):
         found = nearest(matrix, scenario, share, counts.numbers, nearest_of)

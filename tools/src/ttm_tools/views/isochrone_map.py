@@ -16,6 +16,7 @@ from .pictures import Mark, Picture, shades
 from .texts import text_alone
 
 BANDS = (15.0, 30.0, 45.0, 60.0)  # minutes
+Band = tuple[float, Any]  # minutes, and what is reached within them, as a shape in kilometres
 
 
 def path_of(shape: Any) -> Path | None:
@@ -27,14 +28,9 @@ def path_of(shape: Any) -> Path | None:
 
 @text_alone
 def draw_bands(
-    picture: Picture,
-    stops: Stops,
-    lines: Sequence[drawing.MapLines],
-    note: str,
-    width: int,
-    bands: Sequence[tuple[float, Any]],
+    picture: Picture, stops: Stops, lines: Sequence[drawing.MapLines], note: str, width: int, bands: Sequence[Band]
 ) -> Figure:
-    """The map of bands (minutes, and a shape in kilometres), the widest, which is the last, below the others."""
+    """The map of bands, the widest, which is the last, below the others."""
     points = drawing.points_of(stops, Projection(stops.latitudes, stops.longitudes))
     paths = [path_of(shape) for _, shape in bands]
     corners = [path.vertices for path in paths if path is not None]

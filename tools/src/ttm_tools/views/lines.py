@@ -52,9 +52,7 @@ def lines_of_edits(drawn: DrawnLines, edits: Sequence[str], base: str | None) ->
 
 
 def lines_of_plan(drawn: DrawnLines, planned: Planned) -> list[MapLines]:
-    """The lines of two scenarios of a plan, without those that others add; and over them what changes from today to the
-    scenario.
-    """
+    """The lines of two scenarios of a plan, without those of others; and over them what changes from today on."""
     before, after = drawn.removed(planned.base), drawn.removed(planned.scenario)
     hidden = before & after if planned.loses else after
     lines = [running(drawn.pieces(set(drawn.trips.trips) - hidden))]

@@ -72,9 +72,7 @@ def origins_of(matrix: Matrix, scenario: str, shares: Sequence[Share]) -> list[s
 
 
 def ends_of(names: Sequence[str], stops: Stops | None) -> tuple[Texts, Texts]:
-    """Identifiers as fields, and what a feed reports of them: name, latitude and longitude, as it stands behind a
-    comma.
-    """
+    """Identifiers as fields, and what a feed says of them, each behind a comma: name, latitude and longitude."""
     if stops is None:
         return fields_as_texts(names), texts_of([b""] * len(names))
     found = stops.of(names)

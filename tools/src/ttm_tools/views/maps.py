@@ -61,9 +61,7 @@ def picture_of(
 
 
 def figure_of(picture: Picture, matrix: Matrix, stops: Stops, folder: str, sheet: Sheet, base: str | None) -> Any:
-    """The figure of a picture over the lines of a feed; in a difference from a base, lines that a scenario adds differ
-    from those that it takes out.
-    """
+    """The figure of a picture over the lines of a feed, in a difference from a base with what a scenario changes."""
     shown_stops = stops.of(picture.drawn or matrix.stops)
     lost = int((~shown_stops.placed).sum())
     if lost == len(shown_stops.identifiers):

@@ -42,14 +42,13 @@ def picture_of_nearest(matrix: Matrix, options: PictureOptions, what: Nearest) -
     scenario, share = matrix.scenario(options.scenario or options.base), matrix.share(options.share)
     seconds = what.seconds(matrix, scenario, share)
     marks, classes = pictures.classes_of_minutes(seconds, options.breaks or MINUTES)
-    there, drawn = ~np.isnan(seconds), matrix.stops_and_origins()
+    there = ~np.isnan(seconds)
     subtitle = f"{there.sum():,} of {len(there):,} {options.what} reach at least {what.count:g} {what.thing()}"
     if there.any():
         subtitle += f", half of these within {math.ceil(float(np.median(seconds[there])) / 60)} minutes"
-    classes = pictures.of_origins(drawn, matrix.origins(scenario, share), classes, len(marks))
-    marks.append(pictures.other_mark(options))
     title, source = f"Travel time to the {what.label()}", pictures.source_of(shown(scenario), share, matrix)
-    return Picture(title, subtitle, pictures.KEY_OF_TIMES, marks, classes, source, drawn=drawn)
+    picture = Picture(title, subtitle, pictures.KEY_OF_TIMES, marks, classes, source)
+    return pictures.of_all(picture, matrix, matrix.origins(scenario, share), options)
 
 
 def picture_of_nearest_difference(matrix: Matrix, stops: Stops, options: PictureOptions, what: Nearest) -> Picture:
@@ -63,10 +62,7 @@ def picture_of_nearest_difference(matrix: Matrix, stops: Stops, options: Picture
     least = (options.breaks or MINUTES_OF_DIFFERENCE)[0]
     order = np.argsort(gain, kind="stable")[: pictures.MOST_WORST]
     worst = [pair.origins[row] for row in order[gain[order] <= -least].tolist()]
-    drawn = matrix.stops_and_origins()
-    classes = pictures.of_origins(drawn, pair.origins, classes, len(marks))
-    named = pictures.first_names(drawn, worst, stops)
-    marks.append(pictures.other_mark(options))
     title = f"Travel time to the {what.label()}: {pictures.beside(pair)}"
     source = pictures.source_of(pictures.beside(pair), pair.share, matrix)
-    return Picture(title, subtitle, pictures.KEY_OF_CHANGES, marks, classes, source, None, named, drawn)
+    picture = Picture(title, subtitle, pictures.KEY_OF_CHANGES, marks, classes, source)
+    return pictures.with_names(pictures.of_all(picture, matrix, pair.origins, options), worst, stops)

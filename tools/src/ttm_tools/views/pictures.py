@@ -25,6 +25,7 @@ PERCENT = (1.0, 5.0, 10.0, 25.0)
 KEY_OF_TIMES, KEY_OF_CHANGES = "Travel time in minutes,\nwaiting included", "Change of travel time"
 MOST_WORST = 40  # stops that lose most, from which names are taken
 Classes = npt.NDArray[np.intp]
+Times = npt.NDArray[Any]  # seconds, NaN where there is none
 
 
 @dataclass(frozen=True)
@@ -37,22 +38,18 @@ class Shade:
 
 @dataclass(frozen=True)
 class Mark:
-    """How the stops of a class are drawn, and what the key says of them; `size` is an area relative to an ordinary
-    mark's.
-    """
+    """How the stops of a class are drawn, and what the key says of them."""
 
     label: str
     colour: str | Shade
     shape: str = "o"
-    size: float = 1.0
+    size: float = 1.0  # an area relative to an ordinary mark's
     edge: str = "#333333"
 
 
 @dataclass(frozen=True)
 class Picture:
-    """What a picture draws: the classes in the key's order, which of them each stop is in, and the
-    texts.
-    """
+    """What a picture draws: the classes in the key's order, which of them each stop is in, and the texts."""
 
     title: str
     subtitle: str
@@ -119,7 +116,7 @@ def picture_of_times(matrix: Matrix, stops: Stops, origin: str, options: Picture
     return Picture(title, subtitle, KEY_OF_TIMES, marks, classes, source, matrix.places.get(origin))
 
 
-def classes_of_minutes(seconds: npt.NDArray[Any], breaks: tuple[float, ...]) -> tuple[list[Mark], Classes]:
+def classes_of_minutes(seconds: Times, breaks: tuple[float, ...]) -> tuple[list[Mark], Classes]:
     """The classes of travel times, and which of them each is in."""
     between = [f"{low:g} to {high:g}" for low, high in zip(breaks, breaks[1:])]
     labels = [f"up to {breaks[0]:g}", *between, f"more than {breaks[-1]:g}"]
@@ -141,11 +138,21 @@ def round_breaks(least: int, most: int) -> tuple[float, ...]:
     return tuple(range((least // step + 1) * step, max(most, least + step), step)) or (most + 1,)
 
 
-def of_origins(drawn: Sequence[str], origins: Sequence[str], classes: Classes, otherwise: int) -> Classes:
-    """The classes of all stops that are drawn, where those of the origins are known."""
-    places, among = np.full(len(drawn), otherwise, np.intp), {name: place for place, name in enumerate(drawn)}
-    places[[among[name] for name in origins]] = classes
-    return places
+def of_all(picture: Picture, matrix: Matrix, origins: Sequence[str], options: PictureOptions) -> Picture:
+    """A picture of origins with all stops that are drawn, which have a mark of their own where they are no origins."""
+    drawn = matrix.stops_and_origins()
+    among = {name: place for place, name in enumerate(drawn)}
+    classes = np.full(len(drawn), len(picture.marks), np.intp)
+    classes[[among[name] for name in origins]] = picture.classes
+    return replace(picture, marks=[*picture.marks, other_mark(options)], classes=classes, drawn=drawn)
+
+
+def with_names(picture: Picture, ordered: Sequence[str], stops: Stops) -> Picture:
+    """The picture with the first of these stops of each name named."""
+    named, among = dict[str, int](), {name: place for place, name in enumerate(picture.drawn or ())}
+    for stop in ordered:
+        named.setdefault(stops.names[stops.places[stop]], among[stop])
+    return replace(picture, named=tuple(named.values()))
 
 
 def labels_of_counts(breaks: Sequence[float]) -> list[str]:
@@ -164,22 +171,19 @@ def picture_of_access(matrix: Matrix, stops: Stops, options: PictureOptions) -> 
     access = matrix.access(scenario, share)[:, place]
     breaks = options.breaks or round_breaks(int(access.min()), int(access.max()))
     labels = labels_of_counts(breaks)
-    marks = [*map(Mark, labels, reversed(shades(len(labels)))), other_mark(options)]
-    found = np.searchsorted(np.array(breaks), access, side="right")
-    drawn = matrix.stops_and_origins()
-    classes = of_origins(drawn, matrix.origins(scenario, share), found, len(labels))
+    marks = [*map(Mark, labels, reversed(shades(len(labels))))]
+    classes = np.searchsorted(np.array(breaks), access, side="right")
     half, most = math.floor(float(np.median(access))), int(access.max())
     origins, within_reach = counted(len(access), options.what), counted(half, options.unit)
     subtitle = f"Half of {origins} reach at least {within_reach}; the most is {most:,}"
     title = f"Access from each {options.what[:-1]}: {options.unit}{within_stated(limit)}"
     key = f"{options.unit.capitalize()} reached{within_stated(limit)}".replace(" within", "\nwithin")
     source = source_of(shown(scenario), share, matrix)
-    return Picture(title, subtitle, key, marks, classes, source, drawn=drawn)
+    picture = Picture(title, subtitle, key, marks, classes, source)
+    return of_all(picture, matrix, matrix.origins(scenario, share), options)
 
 
-def marks_of_difference(
-    breaks: Sequence[float], unit: str, lost: str, gained: str, gone: str, joined: str
-) -> list[Mark]:
+def marks_of_difference(breaks: Sequence[float], unit: str, lost: str, gained: str, gone: str, new: str) -> list[Mark]:
     """The classes of a difference: cut off, lost from much to little, hardly any, gained from little to much, new."""
     between = [f"{low:g} to {high:g} {unit}" for low, high in zip(breaks, breaks[1:])]
     ranges = between + [f"{breaks[-1]:g} {unit} or more"]
@@ -187,8 +191,8 @@ def marks_of_difference(
     less = [Mark(f"{label} {lost}", colour, "v", 1.4) for label, colour in zip(ranges, reds)]
     more = [Mark(f"{label} {gained}", colour, "^", 1.4) for label, colour in zip(ranges, blues)]
     same = Mark(f"less than {breaks[0]:g} {unit} either way", "#d8d8d8", "o", 0.45, "#8a8a8a")
-    cut_off, new = Mark(gone, "#000000", "X", 2.0, "#ffffff"), Mark(joined, "#ffd92f", "P", 2.0, "#000000")
-    return [cut_off, *reversed(less), same, *more, new]
+    cut_off, newly = Mark(gone, "#000000", "X", 2.0, "#ffffff"), Mark(new, "#ffd92f", "P", 2.0, "#000000")
+    return [cut_off, *reversed(less), same, *more, newly]
 
 
 def classes_of_difference(change: Floats, breaks: Sequence[float]) -> Classes:
@@ -220,12 +224,8 @@ def picture_of_time_difference(matrix: Matrix, stops: Stops, origin: str, option
     return Picture(title, subtitle, KEY_OF_CHANGES, marks, classes, source, matrix.places.get(origin))
 
 
-def changes_of_times(
-    before: npt.NDArray[Any], after: npt.NDArray[Any], options: PictureOptions
-) -> tuple[list[Mark], Classes, str]:
-    """The classes of changes of travel times (seconds, NaN where there is none), which of them each is in, and a
-    sentence with how many are in them.
-    """
+def changes_of_times(before: Times, after: Times, options: PictureOptions) -> tuple[list[Mark], Classes, str]:
+    """The classes of changes of travel times (seconds, NaN for none), that of each, and how many are in them."""
     breaks = options.breaks or MINUTES_OF_DIFFERENCE
     gone_and_new = "cut off: not reached now", "new: not reached before"
     marks = marks_of_difference(breaks, "min", "slower", "faster", *gone_and_new)
@@ -237,7 +237,7 @@ def changes_of_times(
     return marks, classes, f"Of {len(before):,} {options.what} {counts}"
 
 
-def minutes_gained(before: npt.NDArray[Any], after: npt.NDArray[Any]) -> Floats:
+def minutes_gained(before: Times, after: Times) -> Floats:
     """By how many minutes travel times fall; 0 where there is none."""
     minutes: Floats = np.nan_to_num((before - after).astype(np.float64) / 60)
     return minutes
@@ -249,12 +249,12 @@ def picture_of_access_difference(matrix: Matrix, stops: Stops, options: PictureO
     pair = pair_of(matrix, options.base, options.scenario, options.share)
     breaks = options.breaks or PERCENT
     gone_and_new = "cut off: all of it lost", "newly reached: none before"
-    marks = [*marks_of_difference(breaks, "%", "lost", "gained", *gone_and_new), other_mark(options)]
+    marks = marks_of_difference(breaks, "%", "lost", "gained", *gone_and_new)
     first, second = pair.access(place)
     percent = 100 * (second - first) / np.where(first == 0, 1, first)
     sides = sides_of(first, second)
     classes = classes_of_difference(percent, breaks)
-    classes[sides.newly_reached], classes[sides.cut_off] = len(marks) - 2, 0
+    classes[sides.newly_reached], classes[sides.cut_off] = len(marks) - 1, 0
     subtitle = f"Of {len(classes):,} {options.what} {sides.sentence()}"
     order = np.argsort(percent, kind="stable")[:MOST_WORST]
     worst = [pair.origins[row] for row in order[percent[order] <= -breaks[0]].tolist()]
@@ -264,14 +264,5 @@ def picture_of_access_difference(matrix: Matrix, stops: Stops, options: PictureO
     title = f"Access from each {options.what[:-1]}: {options.unit}{within_stated(limit)}, {beside(pair)}"
     key = f"Change of access:\n{options.unit}{within_stated(limit)}"
     source = source_of(beside(pair), pair.share, matrix)
-    drawn = matrix.stops_and_origins()
-    classes = of_origins(drawn, pair.origins, classes, len(marks) - 1)
-    return Picture(title, subtitle, key, marks, classes, source, None, first_names(drawn, worst, stops), drawn)
-
-
-def first_names(drawn: Sequence[str], ordered: Sequence[str], stops: Stops) -> tuple[int, ...]:
-    """The places of the first of these stops with each name."""
-    named, among = dict[str, int](), {name: place for place, name in enumerate(drawn)}
-    for stop in ordered:
-        named.setdefault(stops.names[stops.places[stop]], among[stop])
-    return tuple(named.values())
+    picture = of_all(Picture(title, subtitle, key, marks, classes, source), matrix, pair.origins, options)
+    return with_names(picture, worst, stops)

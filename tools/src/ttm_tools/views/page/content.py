@@ -52,9 +52,7 @@ class Ground:
 
 @dataclass(frozen=True)
 class PageMeasure:
-    """What access counts, and within how many seconds; None where the matrix doesn't name it, and for the time to so
-    many of the nearest.
-    """
+    """What access counts, and within how many seconds: None where the matrix doesn't say it, and for the nearest."""
 
     of: str
     short: str
@@ -117,9 +115,7 @@ def counts_of(known: Sequence[str], options: PageOptions) -> tuple[Counts, int]:
 def measures_of(
     matrix: Matrix, names_there: Sequence[str], names_sought: Sequence[str], options: PageOptions, unit: str
 ) -> list[PageMeasure]:
-    """What access is shown: that of the matrix, then stops (or points) and what is counted, within each cutoff; then
-    the time to the nearest.
-    """
+    """What access is shown: that of the matrix, of stops (or points) and what is counted; and times to the nearest."""
     own = [PageMeasure(f"{unit} (as ttm counted them)", unit, limit) for limit in matrix.layout.limits]
     names = [options.what, *names_there]
     sought = [PageMeasure(f"nearest {name}", name, None, count) for name in names_sought for count in options.nearest]
@@ -127,9 +123,7 @@ def measures_of(
 
 
 def content_of(whole: Matrix, matrix: Matrix, stops: Stops, options: PageOptions, unit: str) -> Content:
-    """Everything that is read for a page of a matrix, or of a part of it, the points; access counts what lies at all
-    stops.
-    """
+    """What is read for a page of a matrix, or of its points alone; access counts what lies at all stops."""
     ground, known = ground_of(matrix, stops, options), whole.stops_and_origins()
     counts, people = counts_of(known, options)
     at = {name: number for number, name in enumerate(known)}
@@ -160,31 +154,23 @@ class Reading:
     options: PageOptions
 
     def times(self, scenario: str, share: Share) -> PageTimes:
-        found = self.whole.origins(scenario, share)
-        numbers = {name: number for number, name in enumerate(found)}
-        order = np.array([numbers[name] for name in self.ground.origins], dtype=np.intp)
-        own = self.whole.access(scenario, share).astype(np.float64)
-        cells, sums = self.cells_and_sums(scenario, share)
-        return cells, np.concatenate([own, sums], axis=1)[order]
-
-    def cells_and_sums(self, scenario: str, share: Share) -> tuple[Bytes, Floats]:
-        """The cells of the page's rows, and the sums of all rows in the matrix' order."""
         matrix, ground = self.whole, self.ground
         columns = np.array([matrix.places[name] for name in ground.columns], dtype=np.intp)
         rows = {name: row for row, name in enumerate(ground.rows)}
         cells = np.zeros((len(rows), len(columns)), np.uint8)
-        sums = [self.sums(np.zeros((0, len(matrix.stops)), np.float32))]
-        count = -(-len(matrix.origins(scenario, share)) // matrix.rows_at_once())
+        sums = [self.sums(np.zeros((0, len(matrix.stops)), np.float32))]  # of all origins of the matrix
+        origins = {name: number for number, name in enumerate(matrix.origins(scenario, share))}
+        count = -(-len(origins) // matrix.rows_at_once())
         for block in progress.shown(matrix.blocks(scenario, share), count, f"{scenario} {share or ''}", "blocks"):
             sums.append(self.sums(block.seconds))
             taken = np.array([place for place, name in enumerate(block.origins) if name in rows], dtype=np.intp)
             cells[[rows[block.origins[place]] for place in taken]] = minutes_of(block.seconds[taken][:, columns])
-        return cells, np.concatenate(sums)
+        own = matrix.access(scenario, share).astype(np.float64)
+        order = np.array([origins[name] for name in ground.origins], dtype=np.intp)
+        return cells, np.concatenate([own, np.concatenate(sums)], axis=1)[order]
 
     def sums(self, seconds: npt.NDArray[np.float32]) -> Floats:
-        """What is reached from some origins: for each thing that is counted, within each cutoff; then the minutes to
-        the nearest.
-        """
+        """What is reached from some origins: of each thing within each cutoff; then the minutes to the nearest."""
         decay = Decay(STEP)
         found = np.stack([decay.weights(seconds, cutoff) @ self.numbers for cutoff in self.options.cutoffs], axis=2)
         sums: Floats = flat(found)

@@ -82,9 +82,7 @@ def plan_files(folder: str, scenarios: Sequence[str]) -> dict[str, str]:
 
 
 def scenario_files(folder: str, scenarios: Sequence[str], edits: Sequence[str]) -> dict[str, str]:
-    """The scenario files by the scenarios, which the page has: those that are named, and of a plan's scenarios those
-    that lie in the feed's folder.
-    """
+    """Scenario files by the scenarios of a page: those that are named, and a plan's in the feed's folder."""
     beside = plan_files(folder, scenarios if scenarios[0] == TODAY else ())
     files = {name: path for name, path in beside.items() if os.path.isfile(path)}
     for path in edits:
