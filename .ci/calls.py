@@ -128,7 +128,6 @@ class Walk:
         return {called for call in set(CALL.findall(self.texts[function])) for called in self.meant(function, *call)}
 
     def meant(self, caller: Function, dot: str, path: str, name: str) -> list[Function]:
-        """The functions that a call may mean."""
         path = caller.owner if path == "Self" else path
         own = [one for one in self.named[name] if one.crate in self.sees[caller.crate]]
         if dot:

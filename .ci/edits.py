@@ -208,11 +208,8 @@ class Trial:
         if logic_of(self.check({})) != "proved":
             outcome.others = {edit.name: "the crate isn't proved without it" for edit in edits}
             return outcome
-        for edit in self.run_joint(edits, outcome):
-            why = self.alone(edit)
-            if why:
-                outcome.others[edit.name] = why
-            else:
-                outcome.refused.append(edit.name)
+        whys = {edit.name: self.alone(edit) for edit in self.run_joint(edits, outcome)}
+        outcome.refused += [name for name, why in whys.items() if not why]
+        outcome.others = {name: why for name, why in whys.items() if why}
         outcome.by_name = self.by_name
         return outcome

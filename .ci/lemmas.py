@@ -54,16 +54,6 @@ class Proof:
     renamed: dict[str, str]  # modules by the names that they have here
 
 
-def without_comment(line: str) -> str:
-    return re.sub(r"(?:^|\s)--(?:\s.*)?$", "", line).rstrip()
-
-
-def module_of(root: Path, path: Path) -> str:
-    """The module that a file is, as others import it."""
-    crate, *rest = path.relative_to(root / "crates").with_suffix("").parts
-    return ".".join(["Rattle", crate, *rest])
-
-
 def imports_in(text: str) -> list[tuple[str, str, str]]:
     """The names that a text imports: the module of each, its name there, and here."""
     imports = []
@@ -79,7 +69,7 @@ def items_in(lines: list[str], for_the_prover: bool) -> list[Item]:
     items: list[Item] = []
     bodies, header = [0], False
     for at, whole in enumerate(lines, 1):
-        line = without_comment(whole)
+        line = re.sub(r"(?:^|\s)--(?:\s.*)?$", "", whole).rstrip()  # without a comment
         if not line.strip():
             continue
         indent = len(line) - len(line.lstrip())
@@ -109,15 +99,15 @@ def proof_at(root: Path, path: Path) -> Proof:
     text = path.read_text()
     items = items_in(text.splitlines(), path.name in FOR_THE_PROVER)
     renamed = {match["name"]: match["path"] for match in RENAMED.finditer(text)}
-    return Proof(path, module_of(root, path), items, imports_in(text), renamed)
-
-
-def is_import(item: Item) -> bool:
-    return bool(re.match(r"(?:pub )?(?:use|mod)\b", item.lines[0]))
+    crate, *rest = path.relative_to(root / "crates").with_suffix("").parts
+    module = ".".join(["Rattle", crate, *rest])  # as others import it
+    return Proof(path, module, items, imports_in(text), renamed)
 
 
 def tokens_of(item: Item) -> set[str]:
-    return {match.strip("()") for line in item.lines for match in TOKEN.findall(line)}
+    """The names in an item, unless it is an import."""
+    is_import = re.match(r"(?:pub )?(?:use|mod)\b", item.lines[0])
+    return set() if is_import else {match.strip("()") for line in item.lines for match in TOKEN.findall(line)}
 
 
 def cited_in(proof: Proof) -> set[tuple[str, str]]:
@@ -125,7 +115,7 @@ def cited_in(proof: Proof) -> set[tuple[str, str]]:
     cited: set[tuple[str, str]] = set()
     here = {own: (module, name) for module, name, own in proof.imports}
     for item in proof.items:
-        for token in set() if is_import(item) else tokens_of(item):
+        for token in tokens_of(item):
             first, *rest = token.split(".")
             if first != item.name:
                 cited.add((proof.module, first))

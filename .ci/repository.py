@@ -39,9 +39,8 @@ class Count:
 class Crate:
     """A crate of crates.txt: its line there, and the crates of this repository right below it."""
 
-    name: str
     line: str
-    right_below: tuple[str, ...]
+    right_below: list[str]
 
 
 Crates = dict[str, Crate]
@@ -56,10 +55,8 @@ def name_in(line: str) -> str:
 def crates_of(root: Path) -> Crates:
     listed = (root / "crates.txt").read_text().splitlines()
     lines = {name_in(line): line for line in listed if name_in(line)}
-    return {
-        name: Crate(name, line, tuple(text for text in line.split(":")[1].split() if text in lines))
-        for name, line in lines.items()
-    }
+    lower = {name: line.split(":")[1].split() for name, line in lines.items()}
+    return {name: Crate(line, [text for text in lower[name] if text in lines]) for name, line in lines.items()}
 
 
 def below(crates: Crates, name: str) -> list[str]:

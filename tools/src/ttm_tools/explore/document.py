@@ -29,17 +29,10 @@ def kind_of(exploration: Exploration) -> page.PageKind:
 def beginning_of(exploration: Exploration) -> dict[str, Any]:
     """With what the page begins."""
     options, standing = exploration.options, exploration.standing
-    return {
-        "version": standing.version,
-        "first": options.window[0],
-        "last": options.window[1],
-        "trips": options.trips,
-        "walk": standing.plan.walk,
-        "most_walk": options.most_walk,
-        "actions": standing.plan.actions,
-        "told": standing.plan.sentences,
-        "date": options.date.isoformat(),
-    }
+    (first, last), plan = options.window, standing.plan
+    known = {"version": standing.version, "first": first, "last": last, "trips": options.trips, "walk": plan.walk}
+    known |= {"most_walk": options.most_walk, "actions": plan.actions, "told": plan.sentences}
+    return {**known, "date": options.date.isoformat()}
 
 
 def frame_of(exploration: Exploration) -> page.Frame:

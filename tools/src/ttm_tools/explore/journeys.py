@@ -4,7 +4,7 @@ import math
 from dataclasses import dataclass, replace
 from typing import Any, Sequence
 
-from ..engine import Pathlike, Run
+from ..engine import Run
 from ..explanation import found_by, tell_difference, told_of
 from ..gtfs.timetable import DAY, Runs, Timetable, read_edits, runs_of
 from ..measures.journeys import Leg
@@ -19,8 +19,6 @@ from .timetables import Timetables, run_of
 
 @dataclass(frozen=True)
 class JourneyQuestion:
-    """Which journey somebody wants to see."""
-
     ends: tuple[str, str]  # identifiers of stops
     scenario: int  # its place among those that are shown
     window: tuple[str, str]
@@ -35,8 +33,6 @@ class JourneyQuestion:
 
 
 class Journeys:
-    """Finds journeys, one after another."""
-
     def __init__(self, options: ExploreOptions, feed: Timetable) -> None:
         self.options, self.feed = options, feed  # the timetable of the feed that plans begin from
         self.kept: tuple[int, Timetables, dict[str, str]] | None = None
@@ -52,13 +48,16 @@ class Journeys:
 
     def journey(self, standing: Standing, columns: Sequence[str], question: JourneyQuestion) -> dict[str, Any]:
         """A journey and all departures, stops by their numbers among some; an error where `ttm` has another time."""
-        (timetables, routes), options = self.of(standing), self.options
+        (timetables, routes), options, plan = self.of(standing), self.options, standing.plan
         begin, end = map(timetables.stops.index, question.ends)
         departures = [DAY * options.back + 60 * minute for minute in question.minutes]
-        asked = told_of(self.run_like(standing, question), options.date)
+        run = Run(plan.folder, options.date, question.window, question.trips, plan.walk, (question.share,))
+        asked = told_of(replace(run, back=options.back, ahead=options.ahead), options.date)
         explain_options = ExplainOptions(self.feed, begin, end, departures, options.back, question.share, asked)
         scenario = standing.scenarios[question.scenario]
-        parts = self.parts(timetables, standing, scenario)
+        path = next((path for path in plan.files if path.endswith(f"/{scenario}.csv")), None)
+        edits, days = read_edits(path), (options.back, options.ahead)
+        parts = [(timetable, runs_of(timetable, options.date, days, edits)) for timetable in timetables.parts]
         (first, runs), more = parts[0], [(timetable.events, runs) for timetable, runs in parts[1:]]
         schedule = Schedule(first.events, runs, *timetables.walks(begin), departures[0], more)
         found = found_by(explain_options, scenario, question.trips, schedule)
@@ -67,20 +66,6 @@ class Journeys:
         numbers = {stop: number for number, stop in enumerate(columns)}
         places = [numbers.get(stop, -1) for stop in timetables.stops]
         return Shown(explain_options, found, parts, routes, places).as_json()
-
-    def run_like(self, standing: Standing, question: JourneyQuestion) -> Run:
-        """A run of `ttm` with what the question asks."""
-        options, plan = self.options, standing.plan
-        files: dict[str, Pathlike] = {} if options.footpaths is None else {"footpaths": options.footpaths}
-        run = Run(plan.folder, options.date, question.window, question.trips, plan.walk, (question.share,), files=files)
-        return replace(run, back=options.back, ahead=options.ahead)
-
-    def parts(self, timetables: Timetables, standing: Standing, scenario: str) -> list[tuple[Timetable, Runs]]:
-        """The timetables with the runs that a scenario keeps."""
-        options = self.options
-        path = next((path for path in standing.plan.files if path.endswith(f"/{scenario}.csv")), None)
-        edits, days = read_edits(path), (options.back, options.ahead)
-        return [(timetable, runs_of(timetable, options.date, days, edits)) for timetable in timetables.parts]
 
 
 def seconds_of(standing: Standing, scenario: str, question: JourneyQuestion) -> int | None:

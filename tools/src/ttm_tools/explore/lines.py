@@ -23,8 +23,6 @@ UNCHANGED = LineChange(NONE, NONE, NONE)
 
 
 class FeedLines:
-    """The lines of a feed."""
-
     def __init__(self, folder: str, stops: Stops) -> None:
         self.folder, self.stops = folder, stops
         self.projection = Projection(stops.latitudes, stops.longitudes)

@@ -15,8 +15,6 @@ DEGREES = re.compile(r"-?[0-9]{1,3}(\.[0-9]{1,9})?")
 
 @dataclass(frozen=True)
 class Question:
-    """Travel times from a place."""
-
     origin: int | Point  # the number of a place of the page, or any point
     window: tuple[str, str]
     trips: int
@@ -53,14 +51,12 @@ def degrees(args: Mapping[str, str], name: str, most: int) -> float:
 
 
 def origin_of(args: Mapping[str, str], places: int) -> int | Point:
-    """One of the places, or a point."""
     if "lat" in args or "lon" in args:
         return Point(degrees(args, "lat", 90), degrees(args, "lon", 180))
     return whole(args, "origin", 0, places - 1)
 
 
 def question_of(args: Mapping[str, str], places: int) -> Question:
-    """A question about one of the places, or about any point."""
     tab = args.get("tab", "")
     if not TAB.fullmatch(tab):
         raise WrongWords("tab is not the name of a tab")

@@ -37,7 +37,6 @@ class Timetables:
 
     @cached_property
     def called(self) -> Mask:
-        """At which stops vehicles call."""
         called = np.zeros(len(self.stops), dtype=np.bool_)
         for part in self.parts:
             called[part.events.stop] = True

@@ -26,8 +26,6 @@ class WrongItem(ValueError):
 
 @dataclass(frozen=True)
 class Kind(Generic[Value]):
-    """A kind of value."""
-
     allowed: str
     wrong: str  # what an error says of any other value
     convert: Callable[[Any], Value]  # raises a ValueError for any other value, for an item of a list a `WrongItem`

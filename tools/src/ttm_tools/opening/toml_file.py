@@ -48,7 +48,6 @@ class Entry:
         return BadInput(f"{self.path}: line {line}", what, column=key, value=value, allowed=allowed)
 
     def fault_of_item(self, key: str, wrong: WrongItem) -> BadInput:
-        """What is wrong with an item of a list."""
         items, lines = self.values[key], self.lines.items.get(key, [])
         line = lines[wrong.number] if wrong.number < len(lines) else self.lines.keys.get(key, self.lines.line)
         what, value = f"{wrong.what} (item {wrong.number + 1} of {len(items)})", as_written(items[wrong.number])

@@ -17,8 +17,6 @@ ACCESS, NEAREST = ("cutoff", "accessibility"), ("nearest", "seconds")  # the las
 
 @dataclass(frozen=True)
 class Form:
-    """The columns of a table."""
-
     heads: tuple[str, str]  # ACCESS or NEAREST
     shape: str = LONG  # or WIDE
     with_scenario: bool = True

@@ -24,8 +24,6 @@ Line = tuple[AccessKind, str, str, Equity | Nearness]  # group and scenario are 
 
 @dataclass(frozen=True)
 class EquityOptions:
-    """What is measured of a table of access."""
-
     base: str
     percent: float  # of the base's access, from which on somebody loses
     kinds: list[AccessKind]

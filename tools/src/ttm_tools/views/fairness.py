@@ -19,8 +19,6 @@ Found = Theil | Concentration | Poverty
 
 @dataclass(frozen=True)
 class FairnessOptions:
-    """What is measured."""
-
     measure: str
     kinds: Sequence[AccessKind]
     rank: Floats | None = None  # of concentration, by origin

@@ -14,8 +14,6 @@ GAP = "   "
 
 @dataclass(frozen=True)
 class Found:
-    """What was found in a scenario."""
-
     name: str
     cell: int | None  # seconds; None where too few departures get there
     durations: list[int | None]  # for each departure
@@ -26,8 +24,6 @@ class Found:
 
 @dataclass(frozen=True)
 class ExplainOptions:
-    """Which journeys are explained."""
-
     timetable: Timetable
     origin: int
     destination: int

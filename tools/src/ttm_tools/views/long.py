@@ -24,8 +24,6 @@ FORMULA = ("=", "+", "-", "@")  # with which spreadsheets begin one
 
 @dataclass(frozen=True)
 class TableChoice:
-    """What is taken of a matrix."""
-
     scenarios: list[str]
     shares: list[Share]
     origins: list[str] | None  # None for all of them

@@ -17,8 +17,6 @@ from .pictures import MINUTES, MINUTES_OF_DIFFERENCE, Picture, PictureOptions
 
 @dataclass(frozen=True)
 class Nearest:
-    """What is looked for."""
-
     name: str  # of what is counted
     numbers: Floats  # by stop of the matrix
     count: float

@@ -81,11 +81,6 @@ NO_ORIGIN = Mark("not an origin of the matrix", "#c4c4c4", "o", 0.07, "none")
 DESTINATION = Mark("destinations", "#c4c4c4", "D", 1.3, "#000000")
 
 
-def other_mark(options: PictureOptions) -> Mark:
-    """The mark of what isn't an origin: of points these are the destinations; stops may be anything."""
-    return DESTINATION if options.what == "points" else NO_ORIGIN
-
-
 def shades(count: int, name: str = "plasma", first: float = 0.0, last: float = 0.98) -> list[Shade]:
     """So many colours of a scale, a little further from one another at its first, dark end."""
     return [Shade(name, first + (last - first) * (place / max(1, count - 1)) ** 0.8) for place in range(count)]
@@ -144,7 +139,8 @@ def of_all(picture: Picture, matrix: Matrix, origins: Sequence[str], options: Pi
     among = {name: place for place, name in enumerate(drawn)}
     classes = np.full(len(drawn), len(picture.marks), np.intp)
     classes[[among[name] for name in origins]] = picture.classes
-    return replace(picture, marks=[*picture.marks, other_mark(options)], classes=classes, drawn=drawn)
+    other = DESTINATION if options.what == "points" else NO_ORIGIN  # stops may be anything
+    return replace(picture, marks=[*picture.marks, other], classes=classes, drawn=drawn)
 
 
 def with_names(picture: Picture, ordered: Sequence[str], stops: Stops) -> Picture:

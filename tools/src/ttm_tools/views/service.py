@@ -39,8 +39,6 @@ class Day:
 
 @dataclass(frozen=True)
 class ServiceLine:
-    """What a line says."""
-
     scenario: str
     key: tuple[str, str]
     period: Period

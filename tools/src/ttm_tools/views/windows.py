@@ -42,8 +42,6 @@ class WindowColumn:
 
 @dataclass(frozen=True)
 class FigureLabels:
-    """What the pictures say."""
-
     kind: str  # what is measured, such as "jobs within 30 minutes"
     unit: str
     people: str  # whom the means count

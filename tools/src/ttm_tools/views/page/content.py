@@ -1,7 +1,8 @@
 """What a page is made of: places, travel times in minutes, access, and lines, as numbers."""
 
-from dataclasses import dataclass, field
-from typing import Any, Sequence
+import itertools
+from dataclasses import dataclass
+from typing import TYPE_CHECKING, Any, Sequence
 
 import numpy as np
 import numpy.typing as npt
@@ -17,6 +18,9 @@ from ...records import shown
 from .parts import Bytes, minutes_of
 from .places import in_order
 
+if TYPE_CHECKING:
+    from .make import PageSettings
+
 MOST_CELLS = 60_000_000  # that a page takes
 PageTimes = tuple[Bytes, Floats]
 
@@ -25,16 +29,12 @@ PageTimes = tuple[Bytes, Floats]
 class PageOptions:
     """What of a matrix a page is to show."""
 
+    settings: "PageSettings"
+    what: str  # stops or points
     scenarios: list[str]  # the base first
     shares: list[Share]
-    cutoffs: Sequence[float]  # of access, minutes
-    what: str = "stops"  # or points
-    opportunities: list[str] = field(default_factory=list)  # files of what is counted
-    people: list[str] = field(default_factory=list)  # and of who lives at the origins
+    most_cells: int
     origins: list[str] | None = None  # whose travel times are taken; None for all that there is room for
-    seed: int = 1  # of the draw where there is no room for all
-    most_cells: int = MOST_CELLS
-    nearest: Sequence[float] = ()  # how many of the nearest opportunities are looked for
 
 
 @dataclass(frozen=True)
@@ -62,8 +62,6 @@ class PageMeasure:
 
 @dataclass(frozen=True)
 class Content:
-    """All numbers of a page."""
-
     ground: Ground
     counts: Counts  # by place
     people: int  # the number of last columns of counts that are people
@@ -77,11 +75,10 @@ def origins_of(matrix: Matrix, options: PageOptions) -> list[str]:
     """The origins, which each scenario and share has."""
     base = options.scenarios[0]
     first = matrix.origins(base, options.shares[0])
-    for scenario in options.scenarios:
-        for share in options.shares:
-            lost = lacking((base, first), (scenario, matrix.origins(scenario, share)))
-            if lost is not None:
-                raise BadInput(matrix.path, lost)
+    for scenario, share in itertools.product(options.scenarios, options.shares):
+        lost = lacking((base, first), (scenario, matrix.origins(scenario, share)))
+        if lost is not None:
+            raise BadInput(matrix.path, lost)
     return first
 
 
@@ -97,32 +94,34 @@ def ground_of(matrix: Matrix, stops: Stops, options: PageOptions) -> Ground:
     rows = [name for name in starts if name in wanted]
     room = options.most_cells // max(1, len(columns) * len(options.scenarios) * len(options.shares))
     if options.origins is None and len(rows) > room:
-        drawn = np.random.default_rng(options.seed).choice(len(rows), room, replace=False)
+        drawn = np.random.default_rng(options.settings.seed).choice(len(rows), room, replace=False)
         rows = [rows[place] for place in np.sort(drawn).tolist()]
     return Ground(places, columns, starts, rows)
 
 
 def counts_of(known: Sequence[str], options: PageOptions) -> tuple[Counts, int]:
     """What is counted, by stop of the matrix, and how many of the columns are people."""
-    found = [read_counts(paths, known, "stop of the matrix") for paths in (options.opportunities, options.people)]
+    settings = options.settings
+    found = [read_counts(paths, known, "stop of the matrix") for paths in (settings.opportunities, settings.people)]
     both = [name for name in found[1].names if name in found[0].names]
     if both:
-        raise BadInput(", ".join(options.people), f"a column {shown(both[0])} is among the opportunities too")
+        raise BadInput(", ".join(settings.people), f"a column {shown(both[0])} is among the opportunities too")
     names = [shown(name) for counts in found for name in counts.names]
     return Counts(names, np.concatenate([counts.numbers for counts in found], axis=1)), len(found[1].names)
 
 
 def measures_of(
-    matrix: Matrix, names_there: Sequence[str], names_sought: Sequence[str], options: PageOptions, unit: str
+    matrix: Matrix, counted: Sequence[str], sought: Sequence[str], options: PageOptions
 ) -> list[PageMeasure]:
     """What access is shown: that of the matrix, of stops (or points) and what is counted; and times to the nearest."""
+    settings, unit = options.settings, options.settings.unit
     own = [PageMeasure(f"{unit} (as ttm counted them)", unit, limit) for limit in matrix.layout.limits]
-    names = [options.what, *names_there]
-    sought = [PageMeasure(f"nearest {name}", name, None, count) for name in names_sought for count in options.nearest]
-    return own + [PageMeasure(name, name, round(60 * cutoff)) for name in names for cutoff in options.cutoffs] + sought
+    names = [options.what, *counted]
+    times = [PageMeasure(f"nearest {name}", name, None, count) for name in sought for count in settings.nearest]
+    return own + [PageMeasure(name, name, round(60 * cutoff)) for name in names for cutoff in settings.cutoffs] + times
 
 
-def content_of(whole: Matrix, matrix: Matrix, stops: Stops, options: PageOptions, unit: str) -> Content:
+def content_of(whole: Matrix, matrix: Matrix, stops: Stops, options: PageOptions) -> Content:
     """What is read for a page of a matrix, or of its points alone; access counts what lies at all stops."""
     ground, known = ground_of(matrix, stops, options), whole.stops_and_origins()
     counts, people = counts_of(known, options)
@@ -139,7 +138,7 @@ def content_of(whole: Matrix, matrix: Matrix, stops: Stops, options: PageOptions
     away = [name for name, is_there in zip(counts.names, reached.tolist()) if not is_there]
     hidden = [name for name, lost in zip(counts.names, (whole_sums > sums).tolist()) if lost and name not in away]
     names_sought = [name for name, is_sought in zip(counts.names, sought.tolist()) if is_sought]
-    measures = measures_of(matrix, [name for name in counts.names if name not in away], names_sought, options, unit)
+    measures = measures_of(matrix, [name for name in counts.names if name not in away], names_sought, options)
     return Content(ground, Counts(counts.names, there), people, hidden, away, measures, times)
 
 
@@ -172,12 +171,14 @@ class Reading:
     def sums(self, seconds: npt.NDArray[np.float32]) -> Floats:
         """What is reached from some origins: of each thing within each cutoff; then the minutes to the nearest."""
         decay = Decay(STEP)
-        found = np.stack([decay.weights(seconds, cutoff) @ self.numbers for cutoff in self.options.cutoffs], axis=2)
+        found = np.stack(
+            [decay.weights(seconds, cutoff) @ self.numbers for cutoff in self.options.settings.cutoffs], axis=2
+        )
         sums: Floats = flat(found)
-        if not self.options.nearest or not self.sought.shape[1]:
+        if not self.options.settings.nearest or not self.sought.shape[1]:
             return sums
         used = np.flatnonzero(self.sought.any(axis=1))
-        times = times_to(seconds[:, used], self.sought[used], self.options.nearest).astype(np.float32)
+        times = times_to(seconds[:, used], self.sought[used], self.options.settings.nearest).astype(np.float32)
         return np.concatenate([sums, minutes_of(flat(times))], axis=1)
 
 

@@ -53,8 +53,6 @@ class PageSettings:
 
 @dataclass(frozen=True)
 class Page:
-    """All that stands in a page."""
-
     content: Content
     lines: Lines
     frame: Frame
@@ -69,10 +67,7 @@ def options_of(matrix: Matrix, what: str, settings: PageSettings) -> PageOptions
     others = [matrix.scenario(name) for name in settings.scenarios or matrix.compared]
     scenarios = list(dict.fromkeys([base, *others]))
     shares: list[Share] = matrix.shares if settings.share is None else [matrix.share(settings.share)]
-    files = (settings.opportunities, settings.people)
-    options = PageOptions(
-        scenarios, shares, settings.cutoffs, what, *files, None, settings.seed, MOST_CELLS, settings.nearest
-    )
+    options = PageOptions(settings, what, scenarios, shares, MOST_CELLS)
     if settings.origins is None:
         return options
     named = read_list(settings.origins, origins_of(matrix, options), "origin")
@@ -86,7 +81,7 @@ def page_of(matrix: Matrix, settings: PageSettings) -> Page:
     chosen, stops = shown_of(matrix, settings.feed, settings.points)
     assert stops is not None  # there is a feed
     options = options_of(chosen, "stops" if chosen is matrix else "points", settings)
-    content = content_of(matrix, chosen, stops, options, settings.unit)
+    content = content_of(matrix, chosen, stops, options)
     files = scenario_files(settings.feed, options.scenarios, settings.edits)
     lines = page_lines(settings.feed, stops, options.scenarios, files)
     frame = frame_of(matrix, content, options, replace(settings, edits=list(files.values())))
@@ -146,7 +141,7 @@ def rows_stated(content: Content, options: PageOptions) -> list[str]:
     """What is reported where the page hasn't the travel times from all origins, or can't draw all places."""
     ground, sentences = content.ground, []
     if len(ground.rows) < len(ground.origins):
-        how = "named" if options.origins is not None else f"chosen at random with the seed {options.seed}"
+        how = "named" if options.origins is not None else f"chosen at random with the seed {options.settings.seed}"
         sentences.append(
             f"The page has the travel times from {len(ground.rows):,} of {len(ground.origins):,} origins, which were "
             f"{how}, and access from all."
