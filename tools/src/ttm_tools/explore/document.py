@@ -12,7 +12,8 @@ from ..views.page.content import Content
 from .exploration import Exploration
 
 ASSETS = Path(__file__).resolve().parent / "assets"
-LIVE = tuple(f"{name}.js" for name in "live isochrones journey routes beside keep point".split())  # for cells.js
+# in place of the page's cells
+LIVE = tuple(f"{name}.js" for name in "live isochrones journey routes beside keep point".split())
 MINUTES = 30  # at which the slider stands first
 
 

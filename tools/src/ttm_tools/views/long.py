@@ -193,13 +193,13 @@ def frame_of(matrix: Matrix, choice: TableChoice, piece: TablePiece, stops: Stop
         for name, (codes, names) in zip(header[-len(times) - 2 :], ends):
             columns[name] = pandas.Categorical.from_codes(codes, list(map(shown, names)))
         for name, seconds in zip(header[-len(times) :], map(np.ravel, times)):
-            minutes = np.round(seconds.astype(np.float64) / 60, 2) if choice.r5py else None
-            columns[name] = with_gaps(seconds) if minutes is None else minutes
+            columns[name] = np.round(seconds.astype(np.float64) / 60, 2) if choice.r5py else with_gaps(seconds)
         columns |= columns_of_places(stops, piece.origins, origin, "origin")
         columns |= columns_of_places(stops, choice.destinations, destination, "destination")
         table = pandas.DataFrame(columns)
-        is_reached = np.logical_or.reduce([~np.isnan(seconds.ravel()) for seconds in times])
-        tables.append(table[is_reached] if choice.reached else table)
+        if choice.reached:
+            table = table[np.logical_or.reduce([~np.isnan(seconds.ravel()) for seconds in times])]
+        tables.append(table)
     return pandas.concat(tables, ignore_index=True)
 
 

@@ -110,13 +110,11 @@ def counts_of(known: Sequence[str], options: PageOptions) -> tuple[Counts, int]:
     return Counts(names, np.concatenate([counts.numbers for counts in found], axis=1)), len(found[1].names)
 
 
-def measures_of(
-    matrix: Matrix, counted: Sequence[str], sought: Sequence[str], options: PageOptions
-) -> list[PageMeasure]:
+def measures_of(matrix: Matrix, names: Sequence[str], sought: Sequence[str], options: PageOptions) -> list[PageMeasure]:
     """What access is shown: that of the matrix, of stops (or points) and what is counted; and times to the nearest."""
     settings, unit = options.settings, options.settings.unit
     own = [PageMeasure(f"{unit} (as ttm counted them)", unit, limit) for limit in matrix.layout.limits]
-    names = [options.what, *counted]
+    names = [options.what, *names]
     times = [PageMeasure(f"nearest {name}", name, None, count) for name in sought for count in settings.nearest]
     return own + [PageMeasure(name, name, round(60 * cutoff)) for name in names for cutoff in settings.cutoffs] + times
 
@@ -170,15 +168,13 @@ class Reading:
 
     def sums(self, seconds: npt.NDArray[np.float32]) -> Floats:
         """What is reached from some origins: of each thing within each cutoff; then the minutes to the nearest."""
-        decay = Decay(STEP)
-        found = np.stack(
-            [decay.weights(seconds, cutoff) @ self.numbers for cutoff in self.options.settings.cutoffs], axis=2
-        )
+        decay, settings = Decay(STEP), self.options.settings
+        found = np.stack([decay.weights(seconds, cutoff) @ self.numbers for cutoff in settings.cutoffs], axis=2)
         sums: Floats = flat(found)
-        if not self.options.settings.nearest or not self.sought.shape[1]:
+        if not settings.nearest or not self.sought.shape[1]:
             return sums
         used = np.flatnonzero(self.sought.any(axis=1))
-        times = times_to(seconds[:, used], self.sought[used], self.options.settings.nearest).astype(np.float32)
+        times = times_to(seconds[:, used], self.sought[used], settings.nearest).astype(np.float32)
         return np.concatenate([sums, minutes_of(flat(times))], axis=1)
 
 
