@@ -19,8 +19,6 @@ Found = Theil | Concentration | Poverty
 
 @dataclass(frozen=True)
 class FairnessOptions:
-    """What is measured."""
-
     measure: str
     kinds: Sequence[AccessKind]
     rank: Floats | None = None  # of concentration, by origin
@@ -47,5 +45,4 @@ def line_of(kind: AccessKind, group: str, scenario: str, found: Found) -> list[s
 
 
 def write_fairness(out: BinaryIO, lines: Iterator[list[str]], measure: str, form: str) -> None:
-    """Writes the table."""
     write_table(out, [*names_of(OF_PEOPLE), *FAIRNESS[measure].columns], list(lines), form)
