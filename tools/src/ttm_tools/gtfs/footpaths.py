@@ -5,7 +5,7 @@ from typing import Mapping, Sequence
 
 import numpy as np
 
-from .columns import Column, texts_of, values_of
+from .columns import Column, begins_run, texts_of, values_of
 from .feeds import used_transfers
 from .fields import Mask, Whole, number
 from .reading import columns
@@ -45,9 +45,7 @@ def read_walks(
 
 
 def direct_walks(timetable: Timetable, footpaths: str | None, limit: int) -> tuple[Footpaths, Whole]:
-    """The shortest walk that a feed and a file of footpaths state from one stop to another, in order, and the change
-    time at each stop.
-    """
+    """The shortest walk that is stated from one stop to another, in order, and the change time at each stop."""
     ends, count, table = ends_of(timetable), len(timetable.stops), timetable.feed.get("transfers.txt").copy()
     table.keep(used_transfers(table))
     stated = [stated_walks(table["from_stop_id"], table["to_stop_id"], table["min_transfer_time"], ends)]
@@ -98,17 +96,15 @@ def change_times(transfers: Table, ends: Ends, count: int) -> Whole:
 
 def joined(some: Sequence[Footpaths]) -> Footpaths:
     """All walks, one after the other."""
-    return Footpaths(
-        *(np.concatenate(column) for column in zip(*((walks.begin, walks.end, walks.seconds) for walks in some)))
-    )
+    columns = zip(*((walks.begin, walks.end, walks.seconds) for walks in some))
+    return Footpaths(*(np.concatenate(column) for column in columns))
 
 
 def least(walks: Footpaths, count: int) -> tuple[Footpaths, Whole]:
     """The shortest walk between each two stops, by their numbers, and its place among all; of several the first."""
     pairs = walks.begin * count + walks.end
     order = np.lexsort((walks.seconds, pairs))
-    pairs = pairs[order]
-    chosen = order[np.flatnonzero(np.concatenate([[True], pairs[1:] != pairs[:-1]])[: len(pairs)])]
+    chosen = order[begins_run(pairs[order])]
     return walks.of(chosen), chosen
 
 
@@ -117,7 +113,7 @@ def closed(direct: Footpaths, limit: int, begins: Mask) -> Footpaths:
     firsts = np.searchsorted(direct.begin, np.arange(len(begins) + 1))
     own = direct.of(begins[direct.begin])
     longer = np.cumsum(firsts[own.end + 1] - firsts[own.end])
-    ends = np.flatnonzero(np.concatenate([own.begin[1:] != own.begin[:-1], [True]])[: len(longer)]) + 1  # of a stop's
+    ends = np.flatnonzero(np.append(begins_run(own.begin), True)[1:]) + 1  # of a stop's
     pieces = [0, *ends[np.diff(longer[ends - 1] // AT_ONCE, append=-1) != 0].tolist()]
     pieces_closed = [over_chains(own.of(np.arange(a, b)), direct, firsts, limit) for a, b in zip(pieces, pieces[1:])]
     return joined([own.of(np.arange(0)), *pieces_closed])

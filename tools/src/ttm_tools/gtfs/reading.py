@@ -36,9 +36,7 @@ def columns(path: str | Path, needed: Sequence[str]) -> Columns:
 
 
 def columns_of(path: str | Path, needed: Sequence[str], keep: Keep) -> tuple[Columns, Whole]:
-    """The needed columns of those records that `keep` chooses of a piece (all where it says None), and the numbers of
-    these records.
-    """
+    """The needed columns of the records that `keep` chooses of a piece (all by None), and these records' numbers."""
     try:
         return plain_columns(path, needed, keep)
     except ODD:
@@ -104,16 +102,8 @@ def joined_pieces(some: Iterable[Columns], needed: Sequence[str], keep: Keep) ->
         first += count
         for name, column in piece.items():
             codes[name].append(known_codes(column, column.codes[rows], found[name]))
-    return {name: column_of(list(found[name]), joined_codes(codes.pop(name))) for name in needed}, np.concatenate(
-        numbers
-    )
-
-
-def joined_codes(codes: list[npt.NDArray[Any]]) -> npt.NDArray[Any]:
-    """The codes of all pieces, which are dropped."""
-    whole: npt.NDArray[Any] = np.concatenate(codes)
-    codes.clear()
-    return whole
+    columns = {name: column_of(list(found[name]), np.concatenate(codes.pop(name))) for name in needed}
+    return columns, np.concatenate(numbers)
 
 
 def known_codes(column: Texts, codes: npt.NDArray[Any], known: dict[str, int]) -> npt.NDArray[Any]:
