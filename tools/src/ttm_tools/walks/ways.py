@@ -1,7 +1,6 @@
 """Shortest ways along streets from some places to others: how long each is, and how it goes.
 
-A place is put on its nearest street. The way there counts as it is where the place is near, and else as a straight line
-with its detour: as `streets` does it, and with the same seconds.
+A place is put on its nearest street, as `streets` does it, and with the same seconds.
 """
 
 from dataclasses import dataclass
@@ -45,13 +44,12 @@ class Ways:
     @cached_property
     def beside(self) -> Floats:
         """How far each place is from its street, metres."""
-        metres: Floats = np.where(self.put.metres <= self.near, self.put.metres, self.put.metres * self.pace.detour)
-        return metres
+        return self.put.beside(self.near, self.pace)
 
     @property
     def most(self) -> float:
         """The longest way, metres."""
-        return self.pace.limit * self.pace.speed + 1e-6
+        return self.pace.along_streets.metres
 
     @property
     def first(self) -> int:
@@ -74,13 +72,11 @@ class Ways:
         metres = metres + self.beside[: len(begins), None] + self.beside[len(begins) :]
         whole: Seconds = np.full(metres.shape, np.nan)
         there = metres <= self.most
-        whole[there] = Pace(self.pace.limit, self.pace.speed, 1.0).seconds(metres[there])
+        whole[there] = self.pace.along_streets.seconds(metres[there])
         return np.where(whole <= self.pace.limit, whole, np.nan)
 
     def way(self, begin: int, end: int) -> tuple[Floats, float]:
-        """The points of the shortest way from one place to another, these with it, and its metres; none where there is
-        none.
-        """
+        """The points of the shortest way from one place to another, and its metres; none where there is none."""
         from scipy.sparse.csgraph import dijkstra
 
         points, connections = self.graph
@@ -105,7 +101,6 @@ def on_streets(streets: Streets, latitudes: Floats, longitudes: Floats) -> tuple
 def degrees_of(points: Floats) -> Floats:
     """Longitude and latitude of points of the globe."""
     length = np.linalg.norm(points, axis=-1)
-    degrees: Floats = np.degrees(
-        np.stack([np.arctan2(points[..., 1], points[..., 0]), np.arcsin(points[..., 2] / length)], axis=-1)
-    )
+    east, north = np.arctan2(points[..., 1], points[..., 0]), np.arcsin(points[..., 2] / length)
+    degrees: Floats = np.degrees(np.stack([east, north], axis=-1))
     return degrees
