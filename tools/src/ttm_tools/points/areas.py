@@ -1,6 +1,4 @@
-"""Areas of points: the polygons of a file of a geographic information system. A folder of points keeps them as GeoJSON,
-so that maps, pages and other files show them.
-"""
+"""Areas of points: polygons, which a folder of points keeps as GeoJSON, for maps, pages and other files."""
 
 import json
 from pathlib import Path

@@ -107,9 +107,8 @@ def grid_over(path: str, side: float) -> Grid:
         if not inside.intersects(band(grid, row, counts[1])):
             continue
         near = [column for column in range(counts[1]) if inside.intersects(grid.square(row, column))]
-        found += [
-            (row, column) for column in near if area.intersection(grid.square(row, column)).area > 1e-9 * side**2
-        ]
+        parts = ((column, area.intersection(grid.square(row, column)).area) for column in near)
+        found += [(row, column) for column, part in parts if part > 1e-9 * side**2]
         refuse_cells(len(found))
     return whole(Grid(projection, side, south, west, np.array(found, np.int64).reshape(-1, 2)))
 
@@ -191,11 +190,8 @@ def from_polygons(grid: Grid, path: str) -> tuple[list[str], Floats, Floats]:
     from shapely.ops import transform
 
     frame = areas_of(path)
-    names = [
-        column
-        for column in frame.columns
-        if frame[column].dtype.kind in "iuf" and column not in ("id", "width", "height")
-    ]
+    others = [column for column in frame.columns if column not in ("id", "width", "height")]
+    names = [column for column in others if frame[column].dtype.kind in "iuf"]
     refuse_none(path, names)
     numbers = numbers_of(path, frame, names)
     places, sums = grid.places(), np.zeros((len(grid.squares), len(names)))

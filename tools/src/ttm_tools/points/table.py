@@ -69,12 +69,13 @@ class Points:
         return Points(self.path, identifiers, names, *places, self.columns, self.numbers[kept], labels, heights, areas)
 
 
-@dataclass
-class Reader:
-    """Looks at the fields of one record."""
+class Taken:
+    """Points as they are read and looked at, of which only the numbers are kept as numbers are."""
 
-    path: str
-    seen: set[str]
+    def __init__(self, path: str, columns: list[str]) -> None:
+        self.path, self.columns, self.seen = path, columns, set[str]()
+        self.identifiers, self.names = list[str](), list[str]()
+        self.places, self.numbers = array("d"), array("d")  # four, and one of each column, for each point
 
     def identifier(self, text: str, record: int) -> str:
         if not text:
@@ -113,23 +114,6 @@ class Reader:
             raise BadInput(self.path, "is invalid", record=record, column=column, value=text, allowed=allowed)
         return number
 
-
-def read_points(path: str, called: Columns = Columns()) -> Points:
-    """The points of a table, or of a GeoPackage or a GeoJSON file."""
-    found = read_areas(path, called) if Path(path).suffix.lower() in AREAS else read_table(path, called)
-    if not found.identifiers:
-        raise BadInput(path, "no points")
-    return found
-
-
-class Taken:
-    """Points as they are read, of which only the numbers are kept as numbers are."""
-
-    def __init__(self, path: str, columns: list[str]) -> None:
-        self.path, self.columns = path, columns
-        self.identifiers, self.names = list[str](), list[str]()
-        self.places, self.numbers = array("d"), array("d")  # four, and one of each column, for each point
-
     def take(self, identifier: str, name: str, place: Iterable[float], numbers: Iterable[float]) -> None:
         """Takes a point with its latitude, longitude, width and height."""
         if len(self.identifiers) >= MOST_POINTS:
@@ -143,6 +127,14 @@ class Taken:
         north, east, wide, high = np.array(self.places, dtype=np.float64).reshape(-1, 4).T.copy()
         table = np.array(self.numbers, dtype=np.float64).reshape(len(self.identifiers), len(self.columns))
         return Points(self.path, self.identifiers, self.names, north, east, wide, self.columns, table, heights=high)
+
+
+def read_points(path: str, called: Columns = Columns()) -> Points:
+    """The points of a table, or of a GeoPackage or a GeoJSON file."""
+    found = read_areas(path, called) if Path(path).suffix.lower() in AREAS else read_table(path, called)
+    if not found.identifiers:
+        raise BadInput(path, "no points")
+    return found
 
 
 def number_columns(path: str, columns: Sequence[str]) -> list[str]:
@@ -165,12 +157,12 @@ def read_table(path: str, called: Columns) -> Points:
     refuse_alike(path, header, [*needed, *others])
     columns = number_columns(path, others)
     labels = {name: list[str]() for name in others if name not in columns}
-    reader, taken = Reader(path, set()), Taken(path, columns)
+    taken = Taken(path, columns)
     for record, (own, latitude, longitude, name, *fields) in rows(path, needed, (*WANTED, *others)):
-        identifier, numbers_stated = reader.identifier(own, record), dict(zip(others, fields[2:]))
-        sides = [reader.side(text, record, column) for text, column in zip(fields, WANTED[1:])]
-        place = (*reader.place(latitude, longitude, record), *sides)
-        numbers = (reader.number(numbers_stated[column], record, column) for column in columns)
+        identifier, numbers_stated = taken.identifier(own, record), dict(zip(others, fields[2:]))
+        sides = [taken.side(text, record, column) for text, column in zip(fields, WANTED[1:])]
+        place = (*taken.place(latitude, longitude, record), *sides)
+        numbers = (taken.number(numbers_stated[column], record, column) for column in columns)
         taken.take(identifier, shown(name.strip() or own), place, numbers)
         for column, texts in labels.items():
             texts.append(shown(numbers_stated[column]))
@@ -196,14 +188,14 @@ def read_areas(path: str, called: Columns) -> Points:
     inside = frame.geometry.representative_point().to_crs(4326)
     kept = [name for name in frame.columns if frame[name].dtype.kind in "iufb" and name not in (*NEEDED, *WANTED)]
     texts = [name for name in frame.columns if frame[name].dtype.kind == "O" and name not in (*NEEDED, *WANTED)]
-    reader, taken = Reader(path, set()), Taken(path, kept)
+    taken = Taken(path, kept)
     names = frame["name"] if "name" in frame.columns else frame["id"]
     sides = [frame[column] if column in frame.columns else [None] * len(frame) for column in WANTED[1:]]
     for place, (own, point, name, *wide) in enumerate(zip(frame["id"], inside, names, *sides)):
-        identifier = reader.identifier(text_of(own), place + 1)
-        where = reader.place(repr(point.y), repr(point.x), place + 1)
-        numbers = [reader.number(text_of(frame[column].iat[place]), place + 1, column) for column in kept]
-        given = [reader.side(text_of(side), place + 1, column) for side, column in zip(wide, WANTED[1:])]
+        identifier = taken.identifier(text_of(own), place + 1)
+        where = taken.place(repr(point.y), repr(point.x), place + 1)
+        numbers = [taken.number(text_of(frame[column].iat[place]), place + 1, column) for column in kept]
+        given = [taken.side(text_of(side), place + 1, column) for side, column in zip(wide, WANTED[1:])]
         taken.take(identifier, text_of(name) or identifier, (*where, *given), numbers)
     labels = {str(name): [text_of(value) for value in frame[name]] for name in texts}
     areas = areas_of(taken.identifiers, frame.geometry.to_crs(4326))
