@@ -41,11 +41,9 @@ LISTED = (
         "route",
         "removes the trips of a `route`",
         '`route = "R2"`: T1 alone runs',
-        "removals.remove_route",
+        "removals.remove",
     ),
-    Action(
-        "remove_trip", ("trip",), "trip", "removes a `trip`", '`trip = "T2"`: T1 alone runs', "removals.remove_trip"
-    ),
+    Action("remove_trip", ("trip",), "trip", "removes a `trip`", '`trip = "T2"`: T1 alone runs', "removals.remove"),
     Action(
         "remove_stop",
         ("stop", *CHOICE),
@@ -60,7 +58,7 @@ LISTED = (
         "route, seconds (negative for earlier)",
         "moves all times of a `route` by `seconds`, negative for earlier",
         '`route = "R1"`, `seconds = 300`: A 08:05, B 08:15, just in time for T2',
-        "removals.shift_route",
+        "removals.shift",
     ),
     Action(
         "shift_trip",
@@ -68,7 +66,7 @@ LISTED = (
         "trip, seconds",
         "moves all times of a `trip` by `seconds`",
         '`trip = "T1"`, `seconds = 300`: the same',
-        "removals.shift_trip",
+        "removals.shift",
     ),
     Action(
         "add_line",

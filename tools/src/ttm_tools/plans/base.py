@@ -21,7 +21,7 @@ from ..gtfs.fields import MOST_STOPS, Floats, Narrow, Whole, date, number, time
 from ..gtfs.service_days import MOST_DAYS, Days, days_of, ordinals
 from ..gtfs.stops import place_of
 from ..prepare.check import check
-from ..prepare.report import counted_errors, fault_lines
+from ..prepare.report import refuse
 from ..records import shown
 from ..opening.kinds import decimal
 from ..opening.toml_file import Entry
@@ -86,18 +86,16 @@ class Base:
 
     @cached_property
     def lengths(self) -> Whole:
-        counts: Whole = np.diff(self.begins)
-        return counts
+        """How many calls each trip has."""
+        return np.diff(self.begins)
 
     @cached_property
     def calls_at(self) -> Whole:
         """How many calls there are at each stop."""
-        count = len(self.places.identifiers)
-        some = range(0, len(self.stop), BLOCK)
-        return sum(
-            (np.bincount(self.stop[begin : begin + BLOCK], minlength=count) for begin in some),
-            np.zeros(count, np.int64),
-        )
+        calls = np.zeros(len(self.places.identifiers), np.int64)
+        for begin in range(0, len(self.stop), BLOCK):
+            calls += np.bincount(self.stop[begin : begin + BLOCK], minlength=len(calls))
+        return calls
 
     @cached_property
     def numbers(self) -> dict[str, int]:
@@ -118,10 +116,6 @@ class Base:
         table = self.feed.tables["routes.txt"]
         return table.text("agency_id", 0) if len(table) else ""
 
-    def last_stop(self, trip: int) -> int:
-        """The stop at which a trip of the feed ends."""
-        return int(self.stop[self.begins[trip + 1] - 1])
-
     @cached_property
     def directions(self) -> list[str]:
         """The direction_id of each trip, empty where none is stated."""
@@ -134,7 +128,8 @@ class Base:
 
     def stops_of(self, trip: int) -> list[int]:
         """The stops at which a trip of the feed calls."""
-        return [int(stop) for stop in self.stop[self.begins[trip] : self.begins[trip + 1]]]
+        stops: list[int] = self.stop[self.begins[trip] : self.begins[trip + 1]].tolist()
+        return stops
 
     @cached_property
     def short_names(self) -> dict[str, str]:
@@ -168,12 +163,7 @@ def read_base(folder: str, new_stops: Sequence[Entry]) -> Base:
     if not path.is_dir():
         raise BadInput(folder, "not the folder of a feed (unzip it first)")
     feed = read_feed(path, path)
-    faults = check(feed)
-    if faults:
-        first = next(fault_lines(faults)).removeprefix("ttm: ")
-        raise BadInput(
-            folder, f"{counted_errors(sum(map(len, faults)))}: {first} (ttm-tools prepare reports and repairs errors)"
-        )
+    refuse(folder, check(feed), "ttm-tools prepare reports and repairs errors")
     table, trips, places = feed.tables[CALLS], feed.tables["trips.txt"].texts("trip_id"), read_places(feed, new_stops)
     calls = calls_of(table, trips)
     stop = positions_of(table["stop_id"], places.numbers)[calls.rows]

@@ -40,8 +40,7 @@ def chosen(state: State, entry: Entry) -> list[Trip]:
         entry.known("service", service, {trip.service for trip in trips}, "is not a service of these trips")
         trips = [trip for trip in trips if trip.service == service]
     if not trips:
-        message = "no trip of the route has this direction_id, pattern and service"
-        raise entry.fault(message, "direction")
+        raise entry.fault("no trip of the route has this direction_id, pattern and service", "direction")
     return trips
 
 
@@ -90,11 +89,9 @@ def runs_along(pattern: Sequence[int], lead: Sequence[int]) -> bool:
 
 def stop_named(state: State, entry: Entry, key: str, name: str) -> int:
     """A stop of the feed or of the plan."""
-    numbers = state.base.places.numbers
+    places, numbers = state.base.places, state.base.places.numbers
     if name not in numbers:
-        by_name = [
-            stop for stop, nearest in zip(state.base.places.identifiers, state.base.places.names) if nearest == name
-        ]
+        by_name = [stop for stop, shown_name in zip(places.identifiers, places.names) if shown_name == name]
         nearest = f"; the nearest is {by_name[0]!r}, which has this name" if by_name else near(name, numbers)
         raise entry.fault(f"is not a stop of the feed or of the plan{nearest}", key, name)
     return numbers[name]

@@ -62,8 +62,7 @@ def weekdays_of(entry: Entry) -> list[str]:
     named = entry.texts("days")
     if len(named) == 1 and named[0] in EVERY:
         return list(EVERY[named[0]])
+    what = "is not a day of the week; allowed are 'daily', 'weekdays', 'weekend' or a list"
     for day in named:
-        entry.known(
-            "days", day, WEEKDAYS, "is not a day of the week; allowed are 'daily', 'weekdays', 'weekend' or a list"
-        )
+        entry.known("days", day, WEEKDAYS, what)
     return named

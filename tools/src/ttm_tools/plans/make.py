@@ -28,9 +28,7 @@ class WrittenFolder:
 
 
 def make(feed: str, path: str, out: str, only: str | None = None, called: str | None = None) -> WrittenFolder:
-    """Writes the folder of all scenarios of a plan, or of one of them alone. The arguments of a run name the folder by
-    its path, or as it is called.
-    """
+    """Writes the folder of all scenarios of a plan, or of one; the arguments of a run name it as it is called."""
     is_free(Path(out))
     plan = read_plan(path)
     if only is not None and only not in [scenario.name for scenario in plan.scenarios]:

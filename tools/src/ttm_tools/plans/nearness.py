@@ -30,9 +30,8 @@ def sentences_on_nearer(folder: str, footpaths: str, walk: int = 0) -> Iterator[
     if found:
         a, b, seconds, before = found[0]
         ends = f"{shown(stops.identifiers[a])} and {shown(stops.identifiers[b])}"
-        times = (
-            f"{seconds} seconds apart by way of them, and {'out of reach' if before is None else before} without them"
-        )
+        without = "out of reach" if before is None else before
+        times = f"{seconds} seconds apart by way of them, and {without} without them"
         pairs = f"{quantity(len(found), 'pair')} of old stops nearer to each other, so today differs from the feed"
         yield f"walks to new stops bring {pairs}: {ends}, {times}"
 

@@ -1,16 +1,21 @@
-"""The records that scenarios add to the files of a feed."""
+"""The records that scenarios add to the files of a feed, and what their routes and trips are called there.
+
+In the feed of all scenarios, those of a scenario's own end with its name behind an @. A scenario's trips stand in
+routes of its own, copies of the feed's, so that another scenario takes them out by their routes. In the feed of one
+scenario all have the names that the plan and the feed give them.
+"""
 
 from dataclasses import dataclass
-from typing import Sequence
+from typing import Container, Sequence
 
 import numpy as np
 
-from ..gtfs.columns import Column, clocks, column_of
+from ..gtfs.columns import Column, clocks, coded, column_of
 from ..gtfs.fields import Whole, clock
 from ..gtfs.tables import Table, table_of
 from ..opening.kinds import whole
 from .base import Base
-from .naming import Names, own_routes, trips_written
+from .carrying_out import Finished
 from .shapes import Shapes
 from .state import State, Trip
 
@@ -18,6 +23,53 @@ ROUTE_TYPE = whole(0, 1_702)  # of the GTFS, extended ones too
 
 HEADSIGN = "trip_headsign"
 NEEDED = ("trip_id", "arrival_time", "departure_time", "stop_id", "stop_sequence")
+
+
+@dataclass(frozen=True)
+class Names:
+    """The names of a feed that is written."""
+
+    base: Base
+    shared: frozenset[str]  # new routes that several scenarios add
+    alone: bool  # whether it is the feed of one scenario
+
+    def route(self, state: State, route: str) -> str:
+        """The route of a scenario's own trips."""
+        if self.alone or route in state.lines and route not in self.shared:
+            return route
+        return free(f"{route}@{state.name}", self.base.by_route)
+
+    def trip(self, state: State, label: str) -> str:
+        """A trip of a scenario's own."""
+        return label if self.alone else free(f"{label}@{state.name}", self.base.numbers)
+
+    def now(self, state: State, label: str) -> str:
+        """What a trip is called in the feed after an action, whichever it is."""
+        return self.trip(state, label) if label in state.own else label
+
+
+def names_of(base: Base, finished: Sequence[Finished], alone: bool) -> Names:
+    """The names of the feed of some scenarios."""
+    added = [route for scenario in finished for route in scenario.state.lines]
+    return Names(base, frozenset(route for route in added if added.count(route) > 1), alone)
+
+
+def free(name: str, taken: Container[str]) -> str:
+    """A name that isn't taken."""
+    while name in taken:
+        name += "'"
+    return name
+
+
+def own_routes(state: State) -> list[str]:
+    """The routes of a scenario's own trips, each once."""
+    return list(dict.fromkeys(trip.route for trip in state.own.values()))
+
+
+def trips_written(state: State, alone: bool) -> list[Trip]:
+    """The trips that are written for a scenario: its own, and in a feed of its own the shifted ones too."""
+    places = [place for place, kept in enumerate(state.kept.tolist()) if kept and state.shift[place]] if alone else []
+    return [*(state.trip(place) for place in places), *state.own.values()]
 
 
 @dataclass(frozen=True)
@@ -49,16 +101,10 @@ def heads(base: Base, name: str, needed: Sequence[str]) -> list[str]:
 def new_stops(base: Base, used: Sequence[int]) -> Table:
     """The plan's own stops at which some scenario calls."""
     places, needed = base.places, ("stop_id", "stop_name", "stop_lat", "stop_lon")
-    rows = [
-        dict(
-            zip(
-                needed,
-                (places.identifiers[place], places.names[place], degrees(places.latitudes[place]), degrees(east)),
-            )
-        )
-        for place in used
-        for east in [places.longitudes[place]]
-    ]
+    rows = list[dict[str, str]]()
+    for place in used:
+        where = map(degrees, (places.latitudes[place], places.longitudes[place]))
+        rows.append(dict(zip(needed, (places.identifiers[place], places.names[place], *where))))
     return table_of("stops.txt", heads(base, "stops.txt", needed if rows else ()), rows)
 
 
@@ -76,11 +122,9 @@ def new_routes(base: Base, states: Sequence[State], names: Names) -> Table:
             name = names.route(state, route)
             if route in state.lines:
                 entry, lined = state.lines[route], True
-                fields = {
-                    "route_short_name": entry.text("name", route),
-                    "agency_id": entry.text("agency", "") or base.first_agency,
-                }
-                rows.append({"route_id": name, "route_type": str(entry.read("type", ROUTE_TYPE, 3)), **fields})
+                kind, agency = str(entry.read("type", ROUTE_TYPE, 3)), entry.text("agency", "") or base.first_agency
+                named = {"route_short_name": entry.text("name", route), "agency_id": agency}
+                rows.append({"route_id": name, "route_type": kind, **named})
             elif name != route:
                 rows.append({**records[route], "route_id": name})
     needed = ("route_id", "route_short_name", "route_type") if lined else ("route_id",)
@@ -95,10 +139,9 @@ def new_trips(base: Base, own: Sequence[OwnTrip]) -> Table:
         named = {"trip_id": new.name, "route_id": new.route, "service_id": new.trip.service}
         old = records[new.trip.source] if new.trip.source >= 0 else {"direction_id": new.trip.direction}
         shape = new.shape if new.trip.redrawn else old.get("shape_id", "")
-        headsign = (
-            {HEADSIGN: base.places.names[new.trip.stop[-1]]} if old.get(HEADSIGN) and ends_elsewhere(base, new) else {}
-        )
-        rows.append({**old, **named, **headsign, "shape_id": shape, "block_id": ""})
+        if old.get(HEADSIGN) and ends_elsewhere(base, new):
+            named[HEADSIGN] = base.places.names[new.trip.stop[-1]]
+        rows.append({**old, **named, "shape_id": shape, "block_id": ""})
     needed = ["route_id", "service_id", "trip_id"]
     needed += ["shape_id"] if any(new.trip.redrawn and new.shape for new in own) else []
     needed += ["direction_id"] if any(new.trip.source < 0 for new in own) else []
@@ -107,7 +150,7 @@ def new_trips(base: Base, own: Sequence[OwnTrip]) -> Table:
 
 def ends_elsewhere(base: Base, own: OwnTrip) -> bool:
     """Whether a trip ends at another stop than the trip of the feed from which it comes."""
-    return own.trip.source >= 0 and int(own.trip.stop[-1]) != base.last_stop(own.trip.source)
+    return own.trip.source >= 0 and int(own.trip.stop[-1]) != base.stops_of(own.trip.source)[-1]
 
 
 def new_stop_times(base: Base, own: Sequence[OwnTrip]) -> Table:
@@ -138,10 +181,9 @@ def new_stop_times(base: Base, own: Sequence[OwnTrip]) -> Table:
 
 def taken_from(column: Column, rows: Whole) -> Column:
     """The texts of some records of a column; empty for a record of -1."""
-    known = {text: code for code, text in enumerate(column.categories)}
-    codes = np.full(len(rows), known.setdefault("", len(known)), np.int32)
+    codes = np.full(len(rows), len(column.categories), np.int32)
     codes[rows >= 0] = column.codes[rows[rows >= 0]]
-    return column_of(list(known), codes)
+    return coded([*column.categories, ""]).at(codes)
 
 
 def timed(trip: Trip, name: str) -> Whole:
@@ -179,10 +221,7 @@ def new_route_rows(base: Base, states: Sequence[State], names: Names, table: Tab
 def new_days(base: Base, own: Sequence[OwnTrip]) -> Table:
     """The days of new services, as days that are added."""
     used = sorted({new.trip.service for new in own} & base.new_services.keys())
-    rows = [
-        {"service_id": name, "date": day.strftime("%Y%m%d"), "exception_type": "1"}
-        for name in used
-        for day in base.new_services[name]
-    ]
-    needed = ("service_id", "date", "exception_type") if rows else ()
-    return table_of("calendar_dates.txt", heads(base, "calendar_dates.txt", needed), rows)
+    dates = [(name, day.strftime("%Y%m%d"), "1") for name in used for day in base.new_services[name]]
+    needed = ("service_id", "date", "exception_type")
+    rows = [dict(zip(needed, date)) for date in dates]
+    return table_of("calendar_dates.txt", heads(base, "calendar_dates.txt", needed if rows else ()), rows)

@@ -1,6 +1,7 @@
 """What a repair leaves of a feed, compared with what was there, and whether that is enough."""
 
 import datetime
+from collections import Counter
 from dataclasses import dataclass
 from typing import Iterator, Mapping, Sequence
 
@@ -19,7 +20,6 @@ MOST_LOST = 0.1  # of a file's records, that one rule may leave out
 CALENDARS = ("calendar.txt", "calendar_dates.txt")
 NEEDED = ("stops.txt", "routes.txt", "trips.txt", "stop_times.txt")
 NO_LOSS = "same"  # the rule that leaves out a record of which another one is there
-NO_RUNS = "no trip runs on any day"
 
 
 @dataclass(frozen=True)
@@ -46,12 +46,11 @@ def left(before: Mapping[str, int], feed: Feed) -> str:
 
 def taken(changes: Sequence[Repaired]) -> dict[tuple[str, str], int]:
     """How many records each rule left out of each file."""
-    counts: dict[tuple[str, str], int] = {}
-    for change in changes:
-        whole = "trips.txt" if change.done.startswith("trip ") else change.file.rpartition("/")[2]
-        if change.done.endswith("left out") and change.rule != NO_LOSS:
-            counts[change.rule, whole] = counts.get((change.rule, whole), 0) + 1
-    return counts
+    lost = [change for change in changes if change.done.endswith("left out") and change.rule != NO_LOSS]
+    return Counter(
+        (change.rule, "trips.txt" if change.done.startswith("trip ") else change.file.rpartition("/")[2])
+        for change in lost
+    )
 
 
 def losses(before: Mapping[str, int], changes: Sequence[Repaired], feed: Feed) -> Iterator[str]:
@@ -71,12 +70,11 @@ def no_runs(feed: Feed, day: datetime.date | None = None) -> str | None:
     days = days_of(feed)
     busy = np.flatnonzero(runs_by_day(feed, days)).tolist()
     if day is None:
-        return None if busy else NO_RUNS
+        return None if busy else likely.NO_RUNS
     if (on_days(feed, [day]) & (runs_of_trips(feed) > 0)).any():
         return None
-    return f"no trip runs on {day}, " + (
-        f"only from {days.day(busy[0])} to {days.day(busy[-1])}" if busy else "or on any other day"
-    )
+    others = f"only from {days.day(busy[0])} to {days.day(busy[-1])}" if busy else "or on any other day"
+    return f"no trip runs on {day}, {others}"
 
 
 def sentences(feed: Feed, has_faults: bool) -> Iterator[str]:

@@ -1,6 +1,7 @@
 """A folder that `ttm` reads, made from published feeds."""
 
 import datetime
+from collections import Counter
 from dataclasses import dataclass
 from pathlib import Path
 from typing import Iterator, Sequence
@@ -22,15 +23,12 @@ from .likely import of_days
 from .losses import Hints, counts_of, left, no_runs, refuse_day, refuse_losses
 from .merge import merge
 from .repair import repair
-from .report import Repaired, counted_errors, fault_lines
+from .report import Repaired, refuse
 
 MOST_RUNS = 1_000_000
 PREPARED = "prepared.csv"
+OF_DAYS = ("trips.txt", "stop_times.txt")  # of which fewer records are left for some days
 ORDER = {name: place for place, name in enumerate(FILES)}
-LESS = {
-    name: "use --box, --area, --routes or --agency" + (", or --date" if name in ("trips.txt", "stop_times.txt") else "")
-    for name in FILES
-}
 
 
 @dataclass(frozen=True)
@@ -56,7 +54,8 @@ def make(options: PrepareOptions, room: Path) -> list[str]:
         before = counts_of(feed)
         found = repair(feed, f"{feed.name}/" if len(options.paths) > 1 else "") if options.mends else []
         done = sorted(found, key=lambda fault: (ORDER[fault.file.rpartition("/")[2]], fault.record))
-        refuse_faults(path, feed, options.hints.after_repair if options.mends else options.hints.errors)
+        hint = options.hints.after_repair if options.mends else options.hints.errors
+        refuse(path, [fault for fault in check(feed) if not fault.is_limit], hint)
         if done and not options.allows_loss:
             refuse_losses(path, before, done, feed, options.hints)
         changes += done
@@ -84,28 +83,17 @@ def refuse_empty(options: PrepareOptions, feed: Feed) -> None:
         raise BadInput(options.out, f"no service is left: {found} ({options.hints.empty})")
 
 
-def refuse_faults(path: str, feed: Feed, help: str) -> None:
-    """Reports the first fault of a feed, limits aside, and how many there are."""
-    faults = [fault for fault in check(feed) if not fault.is_limit]
-    if faults:
-        first = next(fault_lines(faults)).removeprefix("ttm: ")
-        count = sum(map(len, faults))
-        raise BadInput(path, f"{counted_errors(count)}: {first} ({help})")
-
-
 def refuse_limits(feed: Feed) -> None:
     """Refuses a file that is longer than `ttm` takes."""
     for fault in check(feed):
         name = fault.table.name
-        raise BadInput(name, f"{len(feed.tables[name]):,} records; ttm takes {fault.allowed}; {LESS[name]}")
+        less = "use --box, --area, --routes or --agency" + (", or --date" if name in OF_DAYS else "")
+        raise BadInput(name, f"{len(feed.tables[name]):,} records; ttm takes {fault.allowed}; {less}")
 
 
 def mended_lines(changes: Sequence[Repaired]) -> list[str]:
     """How often each rule was applied, and what it did."""
-    counts: dict[tuple[str, str, str], int] = {}
-    for change in changes:
-        key = (change.rule, change.file, noun_of(change.done))
-        counts[key] = counts.get(key, 0) + 1
+    counts = Counter((change.rule, change.file, noun_of(change.done)) for change in changes)
     return [
         f"{rule}: {file}: {quantity(count, noun)} {'repaired' if noun == 'field' else 'removed'}"
         for (rule, file, noun), count in counts.items()

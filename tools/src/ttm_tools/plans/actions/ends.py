@@ -4,14 +4,14 @@ from dataclasses import replace
 
 import numpy as np
 
-from ...gtfs.fields import Whole
+from ...gtfs.fields import Mask, Whole
 from ..base import NO_ROW
 from ..choice import chosen, stop_named, stops_named, stop_shown
 from ...opening.kinds import near
 from ...opening.toml_file import Entry
 from ..state import State, Trip, in_range
+from .lines import run_times
 from .removals import kept_calls, sentences_on_lost
-from .times import run_times
 
 
 def extend(state: State, entry: Entry) -> list[str]:
@@ -87,7 +87,7 @@ def cut(state: State, entry: Entry) -> list[str]:
     return sentences_on_lost(lost)
 
 
-def kept_by(trip: Trip, stop: int, ends: bool) -> "np.ndarray[tuple[int, ...], np.dtype[np.bool_]]":
+def kept_by(trip: Trip, stop: int, ends: bool) -> Mask:
     """Which calls a trip keeps that ends, or begins, at a stop; all where it doesn't call there."""
     found, numbers = np.flatnonzero(trip.stop == stop), np.arange(len(trip.stop))
     if not len(found):

@@ -1,18 +1,21 @@
-"""New lines."""
+"""New lines, and how long a vehicle takes from stop to stop of a way that the feed has no times for."""
+
+import math
 
 import numpy as np
 
-from ...gtfs.fields import Whole, clock
+from ...gtfs.fields import Floats, Whole, clock
+from ...gtfs.stops import Projection
 from ...records import shown
 from ..base import NO_ROW
-from ..choice import stops_named
+from ..choice import stop_shown, stops_named
 from ..days import service_named
-from ...opening.kinds import FLAG, TIME, whole
+from ...opening.kinds import FLAG, TIME, decimal, whole, wholes
 from ...opening.toml_file import Entry
 from ..new_records import ROUTE_TYPE
 from ..state import State, Trip, in_range
-from .times import run_times
 
+MOST = 86_400  # seconds between two stops
 EVERY = whole(1, 86_400)  # seconds
 PERIOD = {"first": TIME, "last": TIME, "every": EVERY}
 
@@ -36,7 +39,7 @@ def add_line(state: State, entry: Entry) -> list[str]:
         for number, time in enumerate(times, 1):
             arrive, depart = times_of(time, seconds, dwell)
             label, none = f"{route}-{direction}#{number}", np.full(len(stops), NO_ROW)
-            trip = Trip(label, -1, True, route, service, str(direction), stops, arrive, depart, none, redrawn=True)
+            trip = Trip(label, -1, route, service, str(direction), stops, arrive, depart, none, redrawn=True)
             state.add(in_range(entry, trip))
     length = int(run.sum()) + dwell * (len(way) - 2)
     sentence = f"route {route}: {len(way):,} stops in {clock(length)}; {len(times):,} departures from each end"
@@ -69,3 +72,26 @@ def departures_of(entry: Entry) -> list[int]:
             raise period.fault(f"is before first, {clock(first)}", "last", clock(last))
         times.update(range(first, last + 1, every))
     return sorted(times)
+
+
+def run_times(state: State, entry: Entry, way: Whole) -> tuple[Whole, int]:
+    """The seconds between each two stops of a way, as they are stated or by a speed along straight lines, rounded up;
+    and how long a vehicle stands at each stop between the ends.
+    """
+    dwell = entry.read("dwell", whole(0, 3_600), 0)
+    if entry.one_of("seconds", "speed") == "seconds":
+        return np.array(entry.read("seconds", wholes(len(way) - 1, MOST)), dtype=np.int64), dwell
+    kilometres_an_hour = float(entry.read("speed", decimal("0.1", "1000")))
+    places = state.base.places
+    north, east = places.latitudes[way], places.longitudes[way]
+    for stop in way[np.isnan(north)].tolist():
+        raise entry.fault(f"needs coordinates, and stop {stop_shown(state, stop)} has none: give seconds", "speed")
+    metres = [straight(north[place : place + 2], east[place : place + 2]) for place in range(len(way) - 1)]
+    return np.ceil(np.round(np.array(metres) * 3.6 / kilometres_an_hour, 6)).astype(np.int64), dwell
+
+
+def straight(latitudes: Floats, longitudes: Floats) -> float:
+    """Metres between two places."""
+    projection = Projection(latitudes, longitudes)
+    east, north = projection.east(longitudes), projection.north(latitudes)
+    return 1000 * math.hypot(east[1] - east[0], north[1] - north[0])

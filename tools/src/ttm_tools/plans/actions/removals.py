@@ -6,22 +6,33 @@ import numpy as np
 
 from ..choice import chosen, routes_of, stops_named, stop_shown
 from ...faults import quantity
+from ...gtfs.fields import Mask
 from ...opening.kinds import LAST_TIME, near, whole
 from ...opening.toml_file import Entry
 from ..state import State, Trip, in_range
 
 
-def remove_route(state: State, entry: Entry) -> list[str]:
-    """Takes out all trips of routes."""
-    for trip in trips_of_routes(state, entry):
+def remove(state: State, entry: Entry) -> list[str]:
+    """Takes out trips, or all trips of routes."""
+    for trip in trips_about(state, entry):
         state.drop(trip)
     return []
 
 
-def shift_route(state: State, entry: Entry) -> list[str]:
-    """Moves all times of routes."""
-    shift(state, entry, trips_of_routes(state, entry))
+def shift(state: State, entry: Entry) -> list[str]:
+    """Moves all times of trips, or of routes."""
+    trips, seconds = trips_about(state, entry), entry.read("seconds", whole(-LAST_TIME, LAST_TIME))
+    if seconds == 0:
+        raise entry.fault("changes nothing", "seconds", "0")
+    for trip in trips:
+        in_range(entry, trip.moved(seconds))
+        state.move(trip, seconds)
     return []
+
+
+def trips_about(state: State, entry: Entry) -> list[Trip]:
+    """The trips that an action is about."""
+    return trips_of_routes(state, entry) if entry.text("do").endswith("route") else trips_named(state, entry)
 
 
 def trips_of_routes(state: State, entry: Entry) -> list[Trip]:
@@ -33,19 +44,6 @@ def trips_of_routes(state: State, entry: Entry) -> list[Trip]:
             raise entry.fault("has no trips in this scenario, so nothing changes", "route", route)
         trips_found += trips
     return trips_found
-
-
-def remove_trip(state: State, entry: Entry) -> list[str]:
-    """Takes out trips."""
-    for trip in trips_named(state, entry):
-        state.drop(trip)
-    return []
-
-
-def shift_trip(state: State, entry: Entry) -> list[str]:
-    """Moves all times of trips."""
-    shift(state, entry, trips_named(state, entry))
-    return []
 
 
 def trips_named(state: State, entry: Entry) -> list[Trip]:
@@ -65,23 +63,14 @@ def trips_named(state: State, entry: Entry) -> list[Trip]:
     return trips
 
 
-def shift(state: State, entry: Entry, trips: list[Trip]) -> None:
-    seconds = entry.read("seconds", whole(-LAST_TIME, LAST_TIME))
-    if seconds == 0:
-        raise entry.fault("changes nothing", "seconds", "0")
-    for trip in trips:
-        in_range(entry, trip.moved(seconds))
-        state.move(trip, seconds)
-
-
 def remove_stop(state: State, entry: Entry) -> list[str]:
     """Takes calls at stops out of trips; one that is left with a single call is taken out."""
     stops, lost = stops_named(state, entry, "stop"), 0
     trips = chosen(state, entry) if entry.has("route") else trips_calling(state, stops)
     trips = [trip for trip in trips if np.isin(trip.stop, stops).any()]
     if not trips:
-        message = "is not a stop at which these trips call, so nothing changes"
-        raise entry.fault(message, "stop", ", ".join(stop_shown(state, stop) for stop in stops))
+        named = ", ".join(stop_shown(state, stop) for stop in stops)
+        raise entry.fault("is not a stop at which these trips call, so nothing changes", "stop", named)
     for trip in trips:
         rest = kept_calls(trip, ~np.isin(trip.stop, stops))
         if rest is None:
@@ -102,10 +91,10 @@ def trips_calling(state: State, stops: list[int]) -> list[Trip]:
     calls = np.flatnonzero(np.isin(base.stop, stops))
     places = np.unique(np.searchsorted(base.begins, calls, side="right") - 1)
     own = [trip for trip in state.own.values() if np.isin(trip.stop, stops).any()]
-    return state.some(places[state.kept[places]]) + own
+    return [*map(state.trip, places[state.kept[places]].tolist()), *own]
 
 
-def kept_calls(trip: Trip, kept: "np.ndarray[tuple[int, ...], np.dtype[np.bool_]]") -> Trip | None:
+def kept_calls(trip: Trip, kept: Mask) -> Trip | None:
     """A trip with some of its calls, at the times that they had; none where one call alone is left."""
     if kept.sum() < 2:
         return None
