@@ -3,7 +3,7 @@
 import numpy as np
 
 from ..gtfs.fields import WEEKDAYS, Mask
-from .base import Base
+from .base import Base, free
 from ..opening.toml_file import Entry
 
 EVERY = {"daily": WEEKDAYS, "weekdays": WEEKDAYS[:5], "weekend": WEEKDAYS[5:]}
@@ -37,8 +37,7 @@ def runs_of(base: Base, name: str) -> Mask:
 
 def new_service(base: Base, name: str, runs: Mask) -> str:
     """A service of the plan for some of the days that the calendars know, named so that none of the feed has it."""
-    while name in base.service_numbers:
-        name += "'"
+    name = free(name, base.service_numbers)
     base.new_services[name] = [base.days.day(int(place)) for place in np.flatnonzero(runs)]
     return name
 

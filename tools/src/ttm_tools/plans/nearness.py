@@ -14,8 +14,7 @@ Leaving = dict[int, list[tuple[int, int]]]  # of each stop the stops that one wa
 
 def sentences_on_nearer(folder: str, footpaths: str, walk: int = 0) -> Iterator[str]:
     """A sentence where walks by way of new stops of a folder of scenarios are shorter than all others, within the
-    longest of the footpaths or the walk of a run, in seconds; nothing where they aren't, or the folder has no new
-    stops.
+    longest of the footpaths or the walk of a run, in seconds.
     """
     path = os.path.join(folder, NEW_STOPS)
     names = [stop for _, (stop,) in rows(path, ["stop_id"])] if os.path.isfile(path) else []

@@ -6,7 +6,7 @@ scenario all have the names that the plan and the feed give them.
 """
 
 from dataclasses import dataclass
-from typing import Container, Sequence
+from typing import Sequence
 
 import numpy as np
 
@@ -14,13 +14,11 @@ from ..gtfs.columns import Column, clocks, coded, column_of
 from ..gtfs.fields import Whole, clock
 from ..gtfs.tables import Table, table_of
 from ..opening.kinds import whole
-from .base import Base
-from .carrying_out import Finished
+from .base import Base, free
 from .shapes import Shapes
 from .state import State, Trip
 
 ROUTE_TYPE = whole(0, 1_702)  # of the GTFS, extended ones too
-
 HEADSIGN = "trip_headsign"
 NEEDED = ("trip_id", "arrival_time", "departure_time", "stop_id", "stop_sequence")
 
@@ -40,7 +38,6 @@ class Names:
         return free(f"{route}@{state.name}", self.base.by_route)
 
     def trip(self, state: State, label: str) -> str:
-        """A trip of a scenario's own."""
         return label if self.alone else free(f"{label}@{state.name}", self.base.numbers)
 
     def now(self, state: State, label: str) -> str:
@@ -48,28 +45,9 @@ class Names:
         return self.trip(state, label) if label in state.own else label
 
 
-def names_of(base: Base, finished: Sequence[Finished], alone: bool) -> Names:
-    """The names of the feed of some scenarios."""
-    added = [route for scenario in finished for route in scenario.state.lines]
-    return Names(base, frozenset(route for route in added if added.count(route) > 1), alone)
-
-
-def free(name: str, taken: Container[str]) -> str:
-    """A name that isn't taken."""
-    while name in taken:
-        name += "'"
-    return name
-
-
 def own_routes(state: State) -> list[str]:
     """The routes of a scenario's own trips, each once."""
     return list(dict.fromkeys(trip.route for trip in state.own.values()))
-
-
-def trips_written(state: State, alone: bool) -> list[Trip]:
-    """The trips that are written for a scenario: its own, and in a feed of its own the shifted ones too."""
-    places = [place for place, kept in enumerate(state.kept.tolist()) if kept and state.shift[place]] if alone else []
-    return [*(state.trip(place) for place in places), *state.own.values()]
 
 
 @dataclass(frozen=True)
@@ -83,10 +61,11 @@ class OwnTrip:
 
 
 def own_trips(states: Sequence[State], names: Names, shapes: Shapes | None) -> list[OwnTrip]:
-    """The trips that are written, scenario by scenario."""
+    """The trips that are written, scenario by scenario: its own, and in a feed of its own the shifted ones too."""
     trips = []
     for state in states:
-        for trip in trips_written(state, names.alone):
+        shifted = np.flatnonzero(state.kept & (state.shift != 0)).tolist() if names.alone else []
+        for trip in (*map(state.trip, shifted), *state.own.values()):
             route = names.route(state, trip.route)
             shape = "" if shapes is None else shapes.of(trip, route)
             trips.append(OwnTrip(trip, names.trip(state, trip.label), route, shape))
@@ -103,13 +82,10 @@ def new_stops(base: Base, used: Sequence[int]) -> Table:
     places, needed = base.places, ("stop_id", "stop_name", "stop_lat", "stop_lon")
     rows = list[dict[str, str]]()
     for place in used:
-        where = map(degrees, (places.latitudes[place], places.longitudes[place]))
+        degrees = (places.latitudes[place], places.longitudes[place])
+        where = (f"{number:.6f}".rstrip("0").rstrip(".") for number in degrees)
         rows.append(dict(zip(needed, (places.identifiers[place], places.names[place], *where))))
     return table_of("stops.txt", heads(base, "stops.txt", needed if rows else ()), rows)
-
-
-def degrees(number: float) -> str:
-    return f"{number:.6f}".rstrip("0").rstrip(".")
 
 
 def new_routes(base: Base, states: Sequence[State], names: Names) -> Table:
@@ -197,7 +173,6 @@ def together(columns: Sequence[Whole]) -> Whole:
 
 
 def new_headways(base: Base, own: Sequence[OwnTrip]) -> Table:
-    """The rows of frequencies.txt."""
     table, rows = base.feed.get("frequencies.txt"), list[dict[str, str]]()
     records = table.rows()
     for new in own:
@@ -207,7 +182,7 @@ def new_headways(base: Base, own: Sequence[OwnTrip]) -> Table:
     return table_of("frequencies.txt", list(table.columns), rows)
 
 
-def new_route_rows(base: Base, states: Sequence[State], names: Names, table: Table) -> Table:
+def new_route_rows(states: Sequence[State], names: Names, table: Table) -> Table:
     """The records of a file that name a route, again for each copy of that route."""
     copies: dict[str, list[str]] = {}
     for state in states:

@@ -18,7 +18,6 @@ STOPS = ["stop_id", "stop_name", "stop_lat", "stop_lon", "scenarios"]
 
 
 def action_rows(finished: Sequence[Finished]) -> Iterator[list[object]]:
-    """A line for each action."""
     for done in (done for scenario in finished for done in scenario.done):
         counts = [part[name] for name in COUNTS for part in (done.before, done.after)]
         yield [*begin_of(done), " ".join(done.about), *counts, *map(done.count, KINDS)]
@@ -48,7 +47,6 @@ def stop_rows(written: Written) -> Iterator[list[object]]:
 
 
 def write_lists(written: Written, folder: Path) -> None:
-    """Writes the lists next to the feed."""
     for name, header, rows in (
         ("actions.csv", ACTIONS, action_rows(written.finished)),
         ("changes.csv", CHANGES, change_rows(written)),

@@ -5,7 +5,7 @@ from dataclasses import dataclass, field, replace
 import numpy as np
 
 from ..gtfs.fields import Mask, Whole, clock
-from .base import Base, Headway
+from .base import Base, Headway, free
 from ..opening.kinds import LAST_TIME
 from ..opening.toml_file import Entry
 
@@ -103,12 +103,7 @@ class State:
         own = [trip for trip in self.own.values() if trip.route == route]
         return [*map(self.trip, places[self.kept[places]].tolist()), *own]
 
-    def routes(self) -> list[str]:
-        """The routes that can be named: the feed's, and the scenario's new ones."""
-        return [*self.base.by_route, *self.lines]
-
     def drop(self, trip: Trip) -> None:
-        """Takes a trip out."""
         self.leave(trip)
         self.changes.append(Change("taken out", trip.label, "", trip.route))
 
@@ -126,7 +121,7 @@ class State:
 
     def add(self, trip: Trip) -> None:
         """Puts a new trip in; its label becomes one that no other has."""
-        added = replace(trip, label=self.free(trip.label))
+        added = replace(trip, label=free(trip.label, self.used, self.base.numbers))
         self.put(added)
         self.changes.append(Change("added", "", added.label, added.route))
 
@@ -135,20 +130,12 @@ class State:
         self.own[trip.label] = trip
         self.count(trip, 1)
 
-    def free(self, label: str) -> str:
-        """A label that no trip has, nor one of the feed."""
-        while label in self.used or label in self.base.numbers:
-            label += "'"
-        return label
-
     def change(self, before: Trip, after: Trip) -> None:
-        """Puts a trip in another's place."""
         self.leave(before)
         self.put(after)
         self.changes.append(Change("changed", before.label, after.label, after.route))
 
     def move(self, trip: Trip, seconds: int) -> None:
-        """Shifts a trip."""
         if trip.label in self.own:
             self.own[trip.label] = trip.moved(seconds)
         else:

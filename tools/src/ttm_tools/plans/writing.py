@@ -1,7 +1,5 @@
-"""The feed of all scenarios, and that of one.
-
-The feed of all has the files of the feed that the plan begins from, as they are, and behind their records those of the
-scenarios. The feed of one has its trips alone.
+"""The feed of all scenarios, which has the files of the feed that the plan begins from, as they are, and behind their
+records those of the scenarios; and that of one, which has its trips alone.
 """
 
 import shutil
@@ -16,13 +14,11 @@ from ..faults import BadInput
 from ..gtfs.columns import one_of
 from ..gtfs.fields import MOST_BYTES, Mask
 from ..gtfs.tables import Table, joined, no_table, read_table, write_lines, write_table
-from ..records import names_of as columns_of
-from ..records import records
+from ..records import names_of as columns_of, records
 from . import new_records as new
 from .base import Base
 from .carrying_out import Finished
-from .shapes import NAME as SHAPES
-from .shapes import Shapes, read_shapes
+from .shapes import NAME as SHAPES, Shapes, read_shapes
 from .state import State
 
 BLOCK = 1 << 20
@@ -56,7 +52,9 @@ class Written:
 
 
 def written_of(base: Base, finished: Sequence[Finished], alone: bool) -> Written:
-    return Written(base, finished, new.names_of(base, finished, alone))
+    added = [route for scenario in finished for route in scenario.state.lines]
+    shared = frozenset(route for route in added if added.count(route) > 1)
+    return Written(base, finished, new.Names(base, shared, alone))
 
 
 def used_stops(written: Written) -> list[int]:
@@ -67,7 +65,6 @@ def used_stops(written: Written) -> list[int]:
 
 
 def write_all(written: Written, folder: Path) -> None:
-    """Writes the files of a feed."""
     base, names, own = written.base, written.names, written.own
     tables = [
         new.new_stops(base, used_stops(written)),
@@ -84,7 +81,7 @@ def write_all(written: Written, folder: Path) -> None:
     for name in OF_ROUTES:
         if name in base.feed.others:
             table = read_table(name, base.feed.others[name])
-            put_together(table, new.new_route_rows(base, written.states, names, table), folder / name)
+            put_together(table, new.new_route_rows(written.states, names, table), folder / name)
 
 
 def taken_out(base: Base, state: State) -> set[str]:

@@ -2,15 +2,16 @@
 several checks the first is a fault. What refers to a file that isn't there, or that lacks a column, isn't looked at.
 """
 
+import itertools
 from dataclasses import dataclass
-from typing import Callable, Iterable, Iterator, Sequence
+from typing import Callable, Iterable, Iterator
 
 import numpy as np
 
 from ..gtfs import fields
 from ..gtfs.calls import calls_of
 from ..gtfs.columns import empty, one_of, positions_of, repeated, repeated_pairs, values_of
-from ..gtfs.feeds import Feed, is_stop, names_in, stops_of, used_transfers
+from ..gtfs.feeds import OPTIONAL, Feed, is_stop, names_in, stops_of, used_transfers
 from ..gtfs.fields import FILES, WEEKDAYS, Mask, Whole, date, number, time
 from ..gtfs.tables import Table, no_table
 
@@ -107,29 +108,19 @@ class Checks:
 
 def check(feed: Feed) -> list[Fault]:
     """All faults of a feed: one for each check that fails, the first in the order of `ttm` first."""
-    return [*unread_in(feed), *(fault for name in FILES for fault in in_order(faults_in(feed, name)))]
-
-
-def in_order(faults: Sequence[Fault]) -> list[Fault]:
-    return sorted(faults, key=lambda fault: int(fault.ranks[0]) if len(fault.ranks) else -1)
-
-
-def unread_in(feed: Feed) -> Iterator[Fault]:
-    """The folders that stand in the places of files: `ttm` reads all files before it looks at one."""
-    none = np.zeros(0, np.int64)
-    for name, path in feed.unread.items():
-        allowed = "a file has to be there, and it is a folder"
-        yield Fault(no_table(name, path), UNREAD, "", allowed, none, none, True)
+    none = np.zeros(0, np.int64)  # `ttm` reads all files before it looks at one
+    allowed = "a file has to be there, and it is a folder"
+    unread = [Fault(no_table(name, path), UNREAD, "", allowed, none, none, True) for name, path in feed.unread.items()]
+    in_order = (sorted(faults_in(feed, name), key=lambda fault: list(fault.ranks[:1])) for name in FILES)
+    return [*unread, *itertools.chain.from_iterable(in_order)]
 
 
 def faults_in(feed: Feed, name: str) -> list[Fault]:
-    """The faults of a file."""
     table, none = feed.get(name), np.zeros(0, np.int64)
     if name in feed.unread:
         return []
     if name not in feed.tables:
-        optional = ("calendar_dates.txt", "frequencies.txt", "transfers.txt")
-        if name in optional or (name == "calendar.txt" and "calendar_dates.txt" in feed.tables):
+        if name in OPTIONAL and (name != "calendar.txt" or "calendar_dates.txt" in feed.tables):
             return []
         allowed = "the file has to be there" + (", or calendar_dates.txt" if name == "calendar.txt" else "")
         return [Fault(table, "missing file", "", allowed, none, none, missing=True)]
@@ -141,7 +132,9 @@ def faults_in(feed: Feed, name: str) -> list[Fault]:
         return [Fault(table, "missing column", "", allowed, none, none)]
     checks = Checks(table)
     CHECKS[name](feed, checks)
-    return [*checks.found, *WHOLE.get(name, lambda *_: iter(()))(feed, table)]
+    if name == "stop_times.txt":  # once the columns that its checks looked at are gone
+        checks.found += whole_trips(feed, table)
+    return checks.found
 
 
 def check_stops(_: Feed, checks: Checks) -> None:
@@ -212,6 +205,7 @@ def check_transfers(feed: Feed, checks: Checks) -> None:
         checks.named(column, "unknown stop", names, "stops.txt has to name it", but=~used)
     wrong = values_of(table["min_transfer_time"], number) == fields.NONE
     checks.add("min_transfer_time", "bad number", NUMBER, used & wrong)
+    checks.found += too_many_footpaths(feed, table)
 
 
 def too_many_footpaths(feed: Feed, table: Table) -> Iterator[Fault]:
@@ -226,12 +220,8 @@ def too_many_footpaths(feed: Feed, table: Table) -> Iterator[Fault]:
 
 
 def footpaths_of(table: Table, stops: Table) -> Whole:
-    """How many footpaths each row of transfers.txt makes: from each stop of its first end to each other one of its
-    second, where a station stands for its children, and another place for none.
-    """
-    places: dict[str, int] = {}
-    for place, stop in enumerate(stops.texts("stop_id")):
-        places.setdefault(stop, place)
+    """How many footpaths each row of transfers.txt makes; a station stands for its children, another place for none."""
+    places = {stop: place for place, stop in reversed(list(enumerate(stops.texts("stop_id"))))}  # the first of several
     called, is_station = is_stop(stops), values_of(stops["location_type"], number) == 1
     parents = positions_of(stops["parent_station"], places)
     parents = np.where(called & (parents >= 0) & is_station[parents], parents, -1)
@@ -244,9 +234,7 @@ def footpaths_of(table: Table, stops: Table) -> Whole:
 
 
 def whole_trips(feed: Feed, table: Table) -> Iterator[Fault]:
-    """The faults of whole trips, trip by trip in the order of trips.txt: ends without a time, and times that go back.
-    A field that is itself a fault isn't reported again.
-    """
+    """The faults of whole trips, in the order of trips.txt; a field that is a fault isn't reported again."""
     trips = names_in(feed, "trips.txt", "trip_id")
     if trips is None:
         return
@@ -272,7 +260,3 @@ CHECKS = {
     "frequencies.txt": check_frequencies,
     "transfers.txt": check_transfers,
 }
-WHOLE: dict[str, Callable[[Feed, Table], Iterator[Fault]]] = {
-    "stop_times.txt": whole_trips,
-    "transfers.txt": too_many_footpaths,
-}  # checks of whole files, which come after those of each record

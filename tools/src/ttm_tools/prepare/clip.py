@@ -24,7 +24,7 @@ from ..gtfs.service_days import on_days
 from ..gtfs.tables import Table
 from ..records import rows, shown
 from .likely import places_of
-from .references import leave_out_references, left_out_by, there
+from .references import leave_out_references, there
 
 Box = tuple[float, float, float, float]  # west, south, east, north in degrees
 SHAPES = ("Polygon", "MultiPolygon")
@@ -68,11 +68,13 @@ def clip(feed: Feed, options: Clip) -> list[str]:
         routes.keep(one_of(routes["route_id"], names_in(feed, "trips.txt", "route_id") or []))
     walks, named = feed.get("transfers.txt"), {*(names_in(feed, "stops.txt", "stop_id") or []), ""}
     walks.keep(one_of(walks["from_stop_id"], named) & one_of(walks["to_stop_id"], named))
-    return [left_out_by(feed, list(FILES), counts), *leave_out_references(feed, before)]
+    lost = {name: counts[name] - len(feed.get(name)) for name in FILES if name in counts}
+    stated = [f"{name} {count:,} of {counts[name]:,}" for name, count in lost.items() if count]
+    line = f"left out: {', '.join(stated)}" if stated else "nothing is left out"
+    return [line, *leave_out_references(feed, before)]
 
 
 def of_routes(feed: Feed, options: Clip) -> Mask:
-    """Which trips are of the routes and agencies."""
     routes, trips = feed.tables["routes.txt"], feed.tables["trips.txt"]
     agencies = agencies_of(feed) if options.agencies else [""] * len(routes)
     kept = routes.texts("route_id")
@@ -101,9 +103,7 @@ def near(stops: Table, options: Clip) -> set[str] | None:
 
 
 def of_region(stops: Table, options: Clip) -> Mask:
-    """Which locations stay: the stops inside, where a stop without a place is at its station; the stations of these;
-    and what belongs to a station or stop that stays.
-    """
+    """Which locations stay: stops inside, by their stations where they have no place; stations; parts of both."""
     kinds, parents = np.maximum(values_of(stops["location_type"], number), 0), parents_of(stops)
     latitudes, longitudes = places_of(stops)
     lost = np.isnan(latitudes) & (parents >= 0)

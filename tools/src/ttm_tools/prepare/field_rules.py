@@ -22,7 +22,6 @@ LOOSE_TIME = re.compile(r"([0-9]{1,3}):([0-9]{1,2})(?::([0-9]{1,2})(?:\.[0-9]*)?
 LOOSE_DATE = re.compile(r"([0-9]{4})[-/.]([0-9]{1,2})[-/.]([0-9]{1,2})")
 YEAR_LAST = re.compile(r"([0-9]{1,2})([-/.])([0-9]{1,2})\2([0-9]{4})")
 READINGS = {"-": ("dmy", "mdy"), "/": ("dmy", "mdy"), ".": ("dmy",)}  # by the sign between day, month and year
-DURATIONS = ("headway_secs", "min_transfer_time")
 
 
 def mended_number(text: str) -> str | None:
@@ -78,7 +77,7 @@ A_DATE: Mend = ("date", date, mended_date)
 MENDED: dict[str, Mend] = {
     **{name: A_NUMBER for name in ("location_type", "exception_type", "stop_sequence", "pickup_type", "drop_off_type")},
     **{name: A_NUMBER for name in (*WEEKDAYS, "transfer_type")},
-    **{name: A_DURATION for name in DURATIONS},
+    **{name: A_DURATION for name in ("headway_secs", "min_transfer_time")},
     **{name: A_TIME for name in ("arrival_time", "departure_time", "start_time", "end_time")},
     **{name: A_DATE for name in ("start_date", "end_date", "date")},
 }
@@ -94,7 +93,7 @@ def mend_columns(repair: Repair, table: Table) -> None:
         if old != new:
             repair.changes.append(Repaired(repair.label + table.name, 1, new, old, "column", f"now {new}"))
             table.source = None
-    table.rename(names)
+    table.fields = {names[name]: column for name, column in table.fields.items()}
 
 
 def mend_texts(repair: Repair, table: Table) -> None:
@@ -137,18 +136,13 @@ def mend_names(repair: Repair, table: Table) -> None:
 
 
 def mend_stations(repair: Repair, table: Table) -> None:
-    """Rule `station`: a call at a station is at its first stop, one at a boarding area at its stop; a station without
-    stops is made a stop.
-    """
+    """Rule `station`: a call at a station or boarding area moves to its stop; a station without stops becomes one."""
     if table.name != "stop_times.txt" or not repair.feed.has_columns("stops.txt"):
         return
     stops = repair.feed.tables["stops.txt"]
     kinds, known = values_of(stops["location_type"], number), set(stops_of(repair.feed) or [])
     identifiers, parents = stops.texts("stop_id"), [text.strip(" ") for text in stops.texts("parent_station")]
-    children: dict[str, str] = {}
-    for name, parent in zip(identifiers, parents):
-        if name in known:
-            children.setdefault(parent, name)
+    children = {parent: name for name, parent in reversed(list(zip(identifiers, parents))) if name in known}
     called = set(table["stop_id"].categories) - known
     right: dict[str, str] = {}
     for row, (name, parent, kind) in enumerate(zip(identifiers, parents, kinds)):

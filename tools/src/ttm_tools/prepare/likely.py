@@ -28,9 +28,8 @@ def sentences(feed: Feed, with_days: bool = True) -> Iterator[str]:
     """What is reported of a feed in addition to its errors; its days if it has none."""
     yield from misspelt(feed)
     if feed.has_columns("stops.txt"):
-        yield from unplaced(feed.tables["stops.txt"])
-        yield from with_commas(feed.tables["stops.txt"])
-        yield from formulas(feed.tables["stops.txt"])
+        for some in (unplaced, with_commas, formulas):
+            yield from some(feed.tables["stops.txt"])
     if feed.has_columns("trips.txt"):
         yield from of_days(feed) if with_days else ()
         if feed.has_columns("stop_times.txt"):

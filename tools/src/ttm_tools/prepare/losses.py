@@ -34,7 +34,6 @@ class Hints:
 
 
 def counts_of(feed: Feed) -> dict[str, int]:
-    """How many records each file has."""
     return {name: len(feed.tables[name]) for name in FILES if name in feed.tables}
 
 
@@ -44,18 +43,11 @@ def left(before: Mapping[str, int], feed: Feed) -> str:
     return "records left: " + ", ".join(f"{name} {after[name]:,} of {count:,}" for name, count in before.items())
 
 
-def taken(changes: Sequence[Repaired]) -> dict[tuple[str, str], int]:
-    """How many records each rule left out of each file."""
-    lost = [change for change in changes if change.done.endswith("left out") and change.rule != NO_LOSS]
-    return Counter(
-        (change.rule, "trips.txt" if change.done.startswith("trip ") else change.file.rpartition("/")[2])
-        for change in lost
-    )
-
-
 def losses(before: Mapping[str, int], changes: Sequence[Repaired], feed: Feed) -> Iterator[str]:
     """Why what a repair leaves isn't the feed any more: a file that is empty, or a rule that took a lot of one."""
-    for (rule, name), count in taken(changes).items():
+    lost = [change for change in changes if change.done.endswith("left out") and change.rule != NO_LOSS]
+    files = ["trips.txt" if it.done.startswith("trip ") else it.file.rpartition("/")[2] for it in lost]
+    for (rule, name), count in Counter(zip((change.rule for change in lost), files)).items():
         if count > MOST_LOST * before[name]:
             yield f"rule {rule} removes {count:,} of {before[name]:,} records of {name}"
     for name in NEEDED:

@@ -67,20 +67,17 @@ def make(options: PrepareOptions, room: Path) -> list[str]:
         refuse_day(options.paths[0] if len(feeds) == 1 else "the feeds", feed, options.day, options.hints)
     if options.clip.is_any:
         lines += clip(feed, options.clip)
-        refuse_empty(options, feed)
+        empty = None if options.allows_loss or options.day is None else no_runs(feed, options.day)
+        if empty:  # no trip of what was clipped runs on the day of the departures
+            raise BadInput(options.out, f"no service is left: {empty} ({options.hints.empty})")
     refuse_limits(feed)
     with many_written_aside(options.out) as folder:
         write_feed(feed, folder)
         with open(folder / PREPARED, "wb") as file:
             write_rows(file, names_of(REPAIRS), [change.row() for change in changes])
-    return [*lines, *run_lines(feed, options.clip.days), counted(options.out, feed)]
-
-
-def refuse_empty(options: PrepareOptions, feed: Feed) -> None:
-    """Ends where no trip of what was clipped runs on the day of the departures."""
-    found = None if options.allows_loss or options.day is None else no_runs(feed, options.day)
-    if found:
-        raise BadInput(options.out, f"no service is left: {found} ({options.hints.empty})")
+    stops, trips, calls = (len(feed.get(name)) for name in ("stops.txt", "trips.txt", "stop_times.txt"))
+    counts = f"{stops:,} stops and stations, {quantity(trips, 'trip')}, {quantity(calls, 'stop time')}"
+    return [*lines, *run_lines(feed, options.clip.days), f"{options.out}: {counts}"]
 
 
 def refuse_limits(feed: Feed) -> None:
@@ -118,8 +115,3 @@ def run_lines(feed: Feed, days: Sequence[datetime.date]) -> Iterator[str]:
     most = f"{MOST_RUNS:,} and {fields.MOST_STOP_TIMES:,}"
     few = total <= MOST_RUNS and events <= fields.MOST_STOP_TIMES
     yield sentence if few else f"{sentence}, of which ttm takes {most}; use --back 0 --ahead 0, or a smaller region"
-
-
-def counted(out: str, feed: Feed) -> str:
-    stops, trips, calls = (len(feed.get(name)) for name in ("stops.txt", "trips.txt", "stop_times.txt"))
-    return f"{out}: {stops:,} stops and stations, {quantity(trips, 'trip')}, {quantity(calls, 'stop time')}"

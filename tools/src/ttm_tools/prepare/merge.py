@@ -28,7 +28,8 @@ def merge(feeds: Sequence[Feed], same_clock: bool = False) -> tuple[Feed, list[s
     for feed in feeds:
         feed.tables |= {name: read_table(name, feed.others[name]) for name in ALSO if name in feed.others}
     refuse_clocks(feeds, same_clock)
-    lines += left_out(feeds)
+    others = [f"{feed.name}/{name}" for feed in feeds for name in sorted(feed.others) if name not in (*ALSO, INFO)]
+    lines += [f"left out, since no rule merges them: {', '.join(others)}"] if others else []
     info = feed_info_of([feed.others.get(INFO) for feed in feeds])
     merged = feeds[0]
     lines += name_agency(merged)
@@ -56,12 +57,6 @@ def refuse_clocks(feeds: Sequence[Feed], same_clock: bool) -> None:
     if len(zones) > 1 and not same_clock:
         zones_stated = ", ".join(f"{shown(zone)} ({name})" for zone, name in zones.items())
         raise BadInput("agency.txt", f"the feeds have several time zones, {zones_stated}: {HELP}")
-
-
-def left_out(feeds: Sequence[Feed]) -> list[str]:
-    """Which files of the feeds are left out."""
-    names = [f"{feed.name}/{name}" for feed in feeds for name in sorted(feed.others) if name not in (*ALSO, INFO)]
-    return [f"left out, since no rule merges them: {', '.join(names)}"] if names else []
 
 
 def name_agency(feed: Feed) -> list[str]:

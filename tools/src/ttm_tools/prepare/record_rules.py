@@ -47,10 +47,8 @@ def leave_out_repeats(repair: Repair, table: Table, rows: Rows, column: str) -> 
     keys = ("trip_id", "stop_sequence") if column == "stop_sequence" else (column,)
     columns = [table[name].codes for name in table.columns]
     wanted = {key_of(table, keys, int(row)) for row in rows}
-    first: dict[tuple[object, ...], int] = {}
     maybe = np.flatnonzero(one_of(table[keys[0]], {str(key[0]) for key in wanted}))
-    for row in maybe:
-        first.setdefault(key_of(table, keys, int(row)), int(row))
+    first = {key_of(table, keys, row): row for row in reversed(maybe.tolist())}
     firsts = [first[key_of(table, keys, int(row))] for row in rows]
     same = np.array([all(column[a] == column[b] for column in columns) for a, b in zip(rows, firsts)], dtype=np.bool_)
     repair.leave_out_both(table, rows, column, same, ("same", "duplicate"))
@@ -87,19 +85,16 @@ def leave_out_ends(repair: Repair, table: Table, calls: Calls, names: Sequence[s
     before = (calls.before < 0) & ~calls.timed
     after = (calls.after >= len(calls.rows)) & ~calls.timed
     trips = np.unique(calls.trip[before & after])
-    never = {names[trip]: int(calls.rows[np.searchsorted(calls.trip, trip)]) for trip in trips}
+    never = table.records[calls.rows[np.searchsorted(calls.trip, trips)]]
     rows = np.sort(calls.rows[(before | after) & ~np.isin(calls.trip, trips)])
-    named = {name: int(table.records[row]) for name, row in never.items()}
     repair.leave_out(table, rows, "arrival_time", "ends")
-    if named:
-        where = np.searchsorted(table.records, list(named.values()))
-        repair.leave_out_trips("ends", dict(zip(named, where.tolist())))
+    if len(trips):
+        where = np.searchsorted(table.records, never).tolist()
+        repair.leave_out_trips("ends", dict(zip((names[trip] for trip in trips), where)))
 
 
 def a_day_later(table: Table, calls: Calls, places: slice) -> list[tuple[str, int, str]] | None:
-    """Rule `midnight`: where times fall by more than half a day, those from there on are a day later: the fields that
-    change, or None if the trip goes back even then.
-    """
+    """Rule `midnight`: the fields that change where times fall by half a day; None if the trip goes back even then."""
     last, added, moved = 0, 0, list[tuple[str, int, str]]()
     for place in range(places.start, places.stop):
         for name, values in (("arrival_time", calls.arrival), ("departure_time", calls.departure)):
@@ -116,9 +111,7 @@ def a_day_later(table: Table, calls: Calls, places: slice) -> list[tuple[str, in
 
 
 def mend_headways(repair: Repair, table: Table) -> None:
-    """Rule `headway`: a row that is empty is left out; one that begins before another of its trip ends begins when
-    that ends, or is left out where nothing is left of it.
-    """
+    """Rule `headway`: empty rows go; one that begins before another of its trip ends begins then, or goes."""
     if table.name != "frequencies.txt":
         return
     start, end = (values_of(table[name], time) for name in ("start_time", "end_time"))

@@ -1,6 +1,6 @@
 """What of a feed's files refers to records that were left out of others, and is left out with them."""
 
-from typing import Iterator, Mapping, Sequence
+from typing import Iterator, Mapping
 
 import numpy as np
 
@@ -87,10 +87,3 @@ def leave_out_fares(feed: Feed) -> dict[str, int]:
     column, table = rules["fare_id"], read_table("fare_attributes.txt", path)
     lost = set(column.categories) - set(used(column))
     return {table.name: left_out(feed, table, ~one_of(table["fare_id"], lost))}
-
-
-def left_out_by(feed: Feed, names: Sequence[str], counts: Mapping[str, int]) -> str:
-    """How many records of some files were left out."""
-    lost = {name: counts[name] - len(feed.get(name)) for name in names if name in counts}
-    counts_stated = [f"{name} {count:,} of {counts[name]:,}" for name, count in lost.items() if count]
-    return f"left out: {', '.join(counts_stated)}" if counts_stated else "nothing is left out"

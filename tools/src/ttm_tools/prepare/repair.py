@@ -12,7 +12,7 @@ from ..gtfs.feeds import Feed
 from ..gtfs.fields import FILES, Mask
 from ..gtfs.tables import Table
 from .report import Repaired
-from .rules import RULES
+from .rules import OF_FIELDS, RULES
 
 Rows = npt.NDArray[np.intp]
 
@@ -35,7 +35,6 @@ class Repair:
         ]
 
     def put(self, table: Table, column: str, rows: Rows, texts: Sequence[str], rule: str) -> None:
-        """Repairs fields."""
         self.note(table, rows, column, rule, [f"now {text}" if text else "emptied" for text in texts])
         table.put(column, rows, texts)
 
@@ -47,7 +46,6 @@ class Repair:
             self.put(table, column, rows, [right[text] for text in wrong], rule)
 
     def leave_out(self, table: Table, rows: Rows, column: str, rule: str) -> None:
-        """Removes records."""
         self.leave_out_both(table, rows, column, np.ones(len(rows), dtype=np.bool_), (rule, rule))
 
     def leave_out_both(self, table: Table, rows: Rows, column: str, which: Mask, rules: tuple[str, str]) -> None:
@@ -85,6 +83,6 @@ def repair(feed: Feed, label: str = "") -> list[Repaired]:
 
 def apply(repaired: Repair, table: Table, is_of_fields: bool) -> None:
     """Applies all rules of fields, or all others, to a table, in their order; each function once."""
-    for name in dict.fromkeys(rule.apply for rule in RULES if rule.is_of_fields == is_of_fields):
+    for name in dict.fromkeys(rule.apply for rule in RULES if (rule.apply in OF_FIELDS) == is_of_fields):
         module, function = name.split(".")
         getattr(importlib.import_module(f".{module}", __package__), function)(repaired, table)

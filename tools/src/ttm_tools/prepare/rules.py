@@ -1,14 +1,13 @@
-"""The rules of `--repair`, each one entry: its name, what it finds, what it does, and the function that does it, by its
-module, so that `--help` needs no package.
+"""The rules of `--repair`, each one entry, which `--help` lists; functions are named, so that it needs no package.
 
 Fields are repaired first, in all files; then, file by file in the order of `ttm`, so that what refers to a removed
-record is found in turn, identifiers, what is still refused, and whole trips. `--help` lists these entries.
+record is found in turn, identifiers, what is still refused, and whole trips.
 """
 
 import textwrap
 from dataclasses import dataclass
 
-OF_FIELDS = tuple(f"field_rules.mend_{name}" for name in ("columns", "texts", "fields"))
+OF_FIELDS = tuple(f"field_rules.mend_{name}" for name in ("columns", "texts", "fields"))  # first, in all files
 WIDTHS = 10, 63, 39  # of the columns of --help
 DATES = (
     "`2026-05-04`, `2026/5/4`; `31.12.2026` and `31/12/2026`, if all dates of the file agree on the order of day and"
@@ -24,11 +23,6 @@ class Rule:
     finds: str
     does: str
     apply: str  # a function of a repair and a table
-
-    @property
-    def is_of_fields(self) -> bool:
-        """Whether it comes first, in all files, whatever refers to what."""
-        return self.apply in OF_FIELDS
 
 
 FUNCTIONS = {  # by the name of each function its rules: what each finds, and what it does

@@ -246,7 +246,7 @@ def plan_stage(maker: Maker) -> Stage:
     sources = maker.reads(maker.study.scenarios.plan)
 
     def make() -> list[str]:
-        return plans.make(feed, plan, maker.at(PLANNED), called=PLANNED).lines
+        return plans.make(feed, plan, maker.at(PLANNED), called=PLANNED)[0]
 
     depends = {"feed": maker.feed_sums, "inputs": sources.sums}
     return Stage("plan", depends, [PLANNED], make, refuse_changed=sources.refuse_changed)

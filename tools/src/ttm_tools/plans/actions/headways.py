@@ -1,6 +1,4 @@
-"""A route that runs at a headway: copies of a typical trip replace its trips of a period; or several times as often:
-departures are added between those that are there, which stay.
-"""
+"""A route that runs at a headway, by copies of a typical trip; or several times as often, by trips in between."""
 
 from dataclasses import replace
 from typing import Sequence
@@ -71,9 +69,7 @@ def departures_in(trip: Trip, start: int, end: int) -> int:
 
 
 def typical_of(trips: Sequence[Trip], start: int, end: int) -> Trip:
-    """Of the pattern with the most departures in the period, with the most calls where several have as many, the trip
-    whose running time is the median; of several the first to leave.
-    """
+    """Of the pattern with the most departures in the period, then calls, the first trip of the median running time."""
     by_pattern: dict[tuple[int, ...], list[Trip]] = {}
     for trip in trips:
         by_pattern.setdefault(pattern_of(trip), []).append(trip)
@@ -93,8 +89,7 @@ def copy_of(state: State, typical: Trip, number: int, time: int, service: str) -
     later = time - int(typical.depart[0])
     arrive, depart = typical.arrive + later, typical.depart + later
     arrive[0] = depart[0]  # nobody arrives there
-    times = {"arrive": arrive, "depart": depart, "headways": ()}
-    return replace(typical, label=f"{name}#{number}", service=service, **times)
+    return replace(typical, label=f"{name}#{number}", service=service, arrive=arrive, depart=depart, headways=())
 
 
 def without(trip: Trip, start: int, end: int) -> Trip | None:
@@ -120,7 +115,8 @@ def oftener(state: State, entry: Entry, trips: Sequence[Trip], start: int, end: 
     departure from the same stop on one of its days; strictly before the end of the period.
     """
     times = entry.read("times", whole(2, MOST_TIMES))
-    beside = services_beside(state, {trip.service for trip in trips})
+    days = {name: runs_of(state.base, name) for name in {trip.service for trip in trips}}
+    beside = {a: {b for b in days if a == b or bool(np.any(days[a] & days[b]))} for a in days}
     known = [(int(trip.stop[0]), time, trip) for trip in trips for time in sorted(trip.departures)]
     inside = sorted((time, trip.label, stop) for stop, time, trip in known if start <= time < end)
     if not inside:
@@ -138,9 +134,3 @@ def oftener(state: State, entry: Entry, trips: Sequence[Trip], start: int, end: 
                 state.add(in_range(entry, copy_of(state, trip, added, extra, trip.service)))
     ends = " to ".join(stop_shown(state, int(trips[0].stop[place])) for place in (0, -1))
     return [f"route {trips[0].route}, {ends}: {quantity(added, 'departure')} added to {len(inside):,}"]
-
-
-def services_beside(state: State, services: set[str]) -> dict[str, set[str]]:
-    """For each service those that run on one of its days, itself too."""
-    days = {name: runs_of(state.base, name) for name in services}
-    return {one: {name for name in services if name == one or bool(np.any(days[one] & days[name]))} for one in services}
