@@ -113,24 +113,21 @@ class Pieces:
 
 
 class CallReader:
-    """Reads the calls of some trips from stop_times.txt, and its other columns as a table, or some of these."""
+    """Reads the calls of some trips from stop_times.txt, and its other columns as a table."""
 
-    def __init__(
-        self, path: Path, trips: Sequence[str], stops: Mapping[str, int], others: Sequence[str] | None = None
-    ) -> None:
+    def __init__(self, path: Path, trips: Sequence[str], stops: Mapping[str, int]) -> None:
         self.path, self.count, self.stops = path, len(trips), dict(stops)
         self.kind = np.min_scalar_type(min(NO_STOP, -len(stops)))  # of the places of stops
         self.trips = {name: place for place, name in enumerate(trips)}
-        there = names_of(path)
-        self.others = [name for name in there if name not in NAMES and (others is None or name in others)]
-        self.names = [name for name in there if name in NAMES or name in self.others]
+        self.names = names_of(path)
+        self.others = [name for name in self.names if name not in NAMES]
 
     def read(self) -> tuple[CallNumbers, Table]:
         for pieces in ways_to_read(self.path, self.names, ROWS_AT_ONCE):
             with contextlib.suppress(*ODD):
                 numbers, others = self.in_runs(pieces()) or self.in_any_order(pieces())
                 break
-        apart = [name for name in names_of(self.path) if name not in others]
+        apart = [name for name in self.names if name not in others]
         return numbers, Table(CALLS, others, unnumbered(numbers.records), self.path, apart)
 
     def in_runs(self, some: Iterable[Mapping[str, Texts]]) -> tuple[CallNumbers, Columns] | None:

@@ -58,9 +58,7 @@ class Calls:
         return np.asarray(self.timed & ((self.departure < self.arrival) | (self.arrival < before)), dtype=np.bool_)
 
     def filled(self) -> tuple[Whole, Whole]:
-        """All arrivals and departures, open ones by place between the timed calls round them, as `ttm` has them; the
-        ends are timed.
-        """
+        """All arrivals and departures, open ones by place between the timed calls round them; the ends are timed."""
         if self.timed.all():
             return self.arrival, self.departure
         open_ones = np.flatnonzero(~self.timed & (self.before >= 0) & (self.after < len(self.rows)))

@@ -102,12 +102,8 @@ def used(column: Texts) -> list[str]:
 
 def distinct(column: Texts, among: Mask | None = None) -> list[str]:
     """The texts of all records, or of some, each once, in the order of the records."""
-    return texts_at(column, firsts(column.codes if among is None else column.codes[among]))
-
-
-def firsts(codes: Codes) -> Codes:
-    """The different codes of some records, in the order in which they come."""
-    return codes[np.sort(np.unique(codes, return_index=True)[1])]
+    codes = column.codes if among is None else column.codes[among]
+    return texts_at(column, codes[np.sort(np.unique(codes, return_index=True)[1])])
 
 
 def values_of(column: Texts, read: Callable[[str], int], default: int = EMPTY) -> Whole:

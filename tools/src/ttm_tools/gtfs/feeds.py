@@ -19,6 +19,7 @@ from .reading import columns_of, is_long
 from .stops import has_file, in_folder
 from .tables import Table, no_table, read_table, write_table
 
+Near = Callable[[Table], "set[str] | None"]  # the stops of stops.txt that matter; none where all do
 OPTIONAL = ("calendar.txt", "calendar_dates.txt", "frequencies.txt", "transfers.txt")
 
 
@@ -40,13 +41,8 @@ class Feed:
         return name in self.tables and all(column in self.tables[name] for column in FILES[name].needed)
 
 
-Near = Callable[[Table], "set[str] | None"]  # the stops of stops.txt that matter; none where all do
-
-
 def calls_near(path: Path, stops: set[str]) -> Table:
-    """The calls of stop_times.txt that are of trips with a call at some of the stops. Of a long file only these are
-    held: it is read twice, a million records at a time.
-    """
+    """The calls of trips with a call at some stops; a long file is read twice, a million records at a time."""
     known = stops | {stop.strip() for stop in stops}
     trips = set[str]()
 

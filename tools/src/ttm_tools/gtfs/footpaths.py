@@ -27,16 +27,13 @@ class Footpaths:
     seconds: Whole
 
     def of(self, rows: Whole | Mask) -> "Footpaths":
-        """Some of them."""
         return Footpaths(self.begin[rows], self.end[rows], self.seconds[rows])
 
 
 def read_walks(
     timetable: Timetable, footpaths: str | None, limit: int, start: int | None = None
 ) -> tuple[Footpaths, Whole]:
-    """The walks of a feed and of a file of footpaths, closed within the limit, and the change time at each stop. With
-    a start those walks alone that begin there or where vehicles call, as others aren't of its journeys.
-    """
+    """The closed walks of a feed and a file, and the change times; from a start those that its journeys need."""
     direct, changes = direct_walks(timetable, footpaths, limit)
     begins = np.full(len(changes), start is None, dtype=np.bool_)
     if start is not None:
@@ -95,7 +92,6 @@ def change_times(transfers: Table, ends: Ends, count: int) -> Whole:
 
 
 def joined(some: Sequence[Footpaths]) -> Footpaths:
-    """All walks, one after the other."""
     columns = zip(*((walks.begin, walks.end, walks.seconds) for walks in some))
     return Footpaths(*(np.concatenate(column) for column in columns))
 

@@ -9,7 +9,7 @@ import numpy as np
 import numpy.typing as npt
 
 Numbers = npt.NDArray[Any]
-BLOCK = 1 << 21  # numbers by which the array grows in addition to a piece, so that the system moves it seldom
+BLOCK = 1 << 18  # numbers by which the array grows in addition to a piece, so that the system moves it seldom
 
 
 class Growing:
@@ -30,6 +30,5 @@ class Growing:
         self.used = end
 
     def whole(self) -> Numbers:
-        """The column."""
         self.numbers.resize(self.used, refcheck=False)
         return self.numbers

@@ -32,9 +32,7 @@ class NotPlain(ValueError):
 
 @dataclass(frozen=True)
 class Piece:
-    """A column of a block: its different texts, as words of eight bytes with bytes 0 behind the end, and of each line
-    which of them it has.
-    """
+    """A column of a block: its different texts, in words with bytes 0 behind the end, and which each line has."""
 
     words: Sequence[Words]
     codes: Places
@@ -163,7 +161,6 @@ def drawers(columns: Sequence[Words], drawn: Words, bits: int) -> Places:
 
 
 def texts_of(columns: Sequence[Words]) -> list[str]:
-    """The texts of some words."""
     joined = np.ascontiguousarray(np.stack(columns, axis=1)).view(f"S{WORD * len(columns)}").ravel()
     return [text.decode("utf-8", "surrogateescape") for text in joined.tolist()]
 

@@ -101,15 +101,13 @@ def kind_of(text: str) -> int:
     return 0 if kind == fields.EMPTY else kind if kind <= 4 else fields.NONE
 
 
-WANTED = ("stop_name", "stop_lat", "stop_lon", "location_type", "parent_station")
-
-
 def read_stops(folder: str) -> Stops:
     """The stops of a feed; identifiers are bytes, and names are text of whatever encoding."""
     path = in_folder(folder, "stops.txt")
     identifiers: dict[str, None] = {}
     names, places, kinds, stations = [], [], [], []
-    for number, (stop, name, latitude, longitude, kind, station) in rows(path, ["stop_id"], WANTED):
+    wanted = ("stop_name", "stop_lat", "stop_lon", "location_type", "parent_station")
+    for number, (stop, name, latitude, longitude, kind, station) in rows(path, ["stop_id"], wanted):
         if stop in identifiers:
             raise BadInput(path, f"{shown(stop)} occurs twice", record=number)
         identifiers[stop] = None

@@ -76,12 +76,10 @@ class Timetable:
         return os.path.dirname(self.all_stops.path)
 
 
-FILES_READ = ("trips.txt", "stop_times.txt", "frequencies.txt", "calendar.txt", "calendar_dates.txt", "transfers.txt")
-
-
 def read_timetable(all_stops: Stops) -> Timetable:
     """The timetable of the feed that has these stops."""
-    feed = read_files(os.path.dirname(all_stops.path), FILES_READ)
+    files = ("trips.txt", "stop_times.txt", "frequencies.txt", "calendar.txt", "calendar_dates.txt", "transfers.txt")
+    feed = read_files(os.path.dirname(all_stops.path), files)
     stops = [name for name, kind in zip(all_stops.identifiers, all_stops.kinds.tolist()) if kind == 0]
     trips, routes = (feed.tables["trips.txt"].texts(name) for name in ("trip_id", "route_id"))
     events = events_of(feed.tables.pop("stop_times.txt"), trips, stops)
