@@ -36,7 +36,8 @@ class WaysFound:
 
     def all(self) -> Ways:
         """The shortest way between any two places."""
-        shortest = least(self.ways)
+        none = (np.zeros(0, np.int64), np.zeros(0, np.int64), np.zeros(0))
+        shortest = least(*(np.concatenate(columns) for columns in zip(none, *self.ways)))
         self.ways, self.count = [shortest], len(shortest[0])
         if self.count * self.directions > MOST_PAIRS:
             text = f"more than the {MOST_PAIRS:,} walks that ttm takes: use a shorter --limit, or fewer places"
@@ -44,10 +45,8 @@ class WaysFound:
         return shortest
 
 
-def least(found: list[Ways]) -> Ways:
+def least(a: Places, b: Places, metres: Floats) -> Ways:
     """Of several ways from one place to another the shortest."""
-    none = (np.zeros(0, np.int64), np.zeros(0, np.int64), np.zeros(0))
-    a, b, metres = (np.concatenate(columns) for columns in zip(none, *found))
     order = np.lexsort((metres, b, a))
     a, b, metres = a[order], b[order], metres[order]
     first = begins_run(a, b)

@@ -54,8 +54,7 @@ class Reach:
         end = np.concatenate([self.end, nodes])
         metres = np.concatenate([np.maximum(self.metres, 1e-9), most - left[places] + 1e-9])
         found = dijkstra(csr_matrix((metres, (begin, end)), shape=(count + 1, count + 1)), indices=count, limit=most)
-        after: Floats = np.where(np.isfinite(found), most - found, -1.0)[:count]
-        return after
+        return np.asarray(np.where(np.isfinite(found), most - found, -1.0)[:count])
 
 
 def reach_of(streets: Streets, latitudes: Floats, longitudes: Floats, pace: Pace, near: float) -> Reach:
@@ -67,8 +66,7 @@ def reach_of(streets: Streets, latitudes: Floats, longitudes: Floats, pace: Pace
 
     def along(numbers: Floats) -> Floats:
         low, high = (numbers[ends[put.piece]] for ends in (streets.begin, streets.end))
-        numbers_along: Floats = np.concatenate([numbers, low + put.along * (high - low)])
-        return numbers_along
+        return np.concatenate([numbers, low + put.along * (high - low)])
 
     return Reach(along(streets.latitudes), along(streets.longitudes), begin, graph.end, graph.metres, beside)
 

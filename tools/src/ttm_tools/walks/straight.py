@@ -45,8 +45,7 @@ class Pace:
 
     def seconds(self, metres: Floats) -> npt.NDArray[np.int64]:
         """The time of straight lines, in whole seconds, rounded up."""
-        whole: npt.NDArray[np.int64] = np.ceil(np.round(metres * self.detour / self.speed, 6)).astype(np.int64)
-        return whole
+        return np.asarray(np.ceil(np.round(metres * self.detour / self.speed, 6)), dtype=np.int64)
 
 
 @dataclass(frozen=True)
@@ -79,15 +78,13 @@ def points_of(latitudes: Floats, longitudes: Floats) -> Floats:
     """Places on the globe, in metres from its middle."""
     north, east = np.radians(latitudes), np.radians(longitudes)
     across = np.cos(north)
-    points: Floats = EARTH * np.stack([across * np.cos(east), across * np.sin(east), np.sin(north)], axis=-1)
-    return points
+    return np.asarray(EARTH * np.stack([across * np.cos(east), across * np.sin(east), np.sin(north)], axis=-1))
 
 
 def distances(a: Floats, b: Floats) -> Floats:
     """Metres over ground between points of the globe."""
     chord = np.sqrt(((a - b) ** 2).sum(axis=-1))
-    metres: Floats = 2 * EARTH * np.arcsin(np.minimum(1.0, chord / (2 * EARTH)))
-    return metres
+    return np.asarray(2 * EARTH * np.arcsin(np.minimum(1.0, chord / (2 * EARTH))))
 
 
 def near_pairs(points: Floats, metres: float) -> Iterator[tuple[Places, Places]]:
@@ -102,9 +99,7 @@ def near_pairs(points: Floats, metres: float) -> Iterator[tuple[Places, Places]]
 
 
 def near_some(points: Floats, some: Places, metres: float) -> Iterator[tuple[Places, Places]]:
-    """The same pairs, but those alone that have one of some points, and two of these twice: where points are many, and
-    these are few, all other pairs would take hours.
-    """
+    """The same pairs, but those alone with one of some points, and two of these twice; all others would take hours."""
     cubes = cubes_of(points, metres)
     for step in ROUND:
         for a, b in ranges(*cubes.span(cubes.key[some] + step)):
@@ -197,7 +192,6 @@ def inside_ways(points: Floats, stations: list[str], entrances: dict[str, Floats
 
 
 def entrances_of(stops: Stops) -> dict[str, Floats]:
-    """The points of each station's entrances."""
     found: dict[str, list[int]] = {}
     for place in np.flatnonzero((stops.kinds == 2) & stops.placed):
         found.setdefault(stops.stations[place], []).append(int(place))

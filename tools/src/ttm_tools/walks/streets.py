@@ -1,7 +1,6 @@
 """Walks along streets: stops, entrances and points are put on the nearest way, and the shortest ways between them are
 looked for by Dijkstra's search, cut at the limit.
 
-The way between a place and its street counts as it is where it is near, and else as a straight line, with its detour.
 The search runs cube by cube of space, each as wide as the longest walk: whoever begins in a cube ends in it or in a
 neighbour, so only the streets of these are looked at.
 """
@@ -53,8 +52,7 @@ class Snapped:
 
     def beside(self, near: float, pace: Pace) -> Floats:
         """The metres from each place to its street; with a straight line's detour where that isn't near."""
-        beside: Floats = np.where(self.metres <= near, self.metres, self.metres * pace.detour)
-        return beside
+        return np.asarray(np.where(self.metres <= near, self.metres, self.metres * pace.detour))
 
 
 @dataclass(frozen=True)
@@ -98,9 +96,7 @@ def short_pieces(begin: Floats, end: Floats) -> tuple[Places, Floats, Floats]:
 
 
 def at(begin: Floats, end: Floats, piece: Places, along: Floats) -> Floats:
-    """Points on pieces."""
-    points: Floats = begin[piece] + (end[piece] - begin[piece]) * along[:, None]
-    return points
+    return np.asarray(begin[piece] + (end[piece] - begin[piece]) * along[:, None])
 
 
 def nearest_on(begin: Floats, end: Floats, piece: Places, points: Floats) -> Snapped:
@@ -133,12 +129,7 @@ def graph_of(streets: Streets, put: Snapped) -> Graph:
     begins = [begin[there], end[back], crossing, at_end + count]
     ends = [end[there], begin[back], at_end + count, crossing]
     lengths = np.concatenate([metres[there], metres[back], np.zeros(2 * len(at_end))])
-    return by_begin(points, np.concatenate(begins), np.concatenate(ends), lengths)
-
-
-def by_begin(points: Floats, begin: Places, end: Places, metres: Floats) -> Graph:
-    """Connections in order, of several between two nodes the shortest alone."""
-    begin, end, metres = least([(begin, end, metres)])
+    begin, end, metres = least(np.concatenate(begins), np.concatenate(ends), lengths)
     return Graph(points, np.searchsorted(begin, np.arange(len(points) + 1)), end, metres)
 
 
@@ -157,13 +148,6 @@ def inner(graph: Graph, nodes: Places, local: Places) -> Any:
     return csr_matrix((graph.metres[chosen][there], ends[there], begins), shape=(len(nodes), len(nodes)))
 
 
-def close(points: Floats, nodes: Places, begins: Places, most: float) -> Places:
-    """The nodes that may be within a distance in metres of one of some others."""
-    low, high = points[begins].min(axis=0) - most, points[begins].max(axis=0) + most
-    kept: Places = nodes[((points[nodes] >= low) & (points[nodes] <= high)).all(axis=1)]
-    return kept
-
-
 def searched(graph: Graph, first: int, extra: Floats, most: float, only: Ends) -> Iterator[Ways]:
     """The shortest ways between the places that were put behind the streets' own nodes, from `first` on: from which to
     which, and metres with those next to the streets, if these are within a distance. `only` is of these places.
@@ -177,7 +161,9 @@ def searched(graph: Graph, first: int, extra: Floats, most: float, only: Ends) -
     keys, counts = np.unique(cubes.key[sources], return_counts=True)
     groups = np.split(sources, np.cumsum(counts)[:-1]) if len(keys) else []
     for key, begins in progress.shown(zip(keys.tolist(), groups), len(keys), "streets", "cubes"):
-        nodes = close(graph.points, cubes.around(key), begins, most)
+        nodes = cubes.around(key)
+        low, high = graph.points[begins].min(axis=0) - most, graph.points[begins].max(axis=0) + most
+        nodes = nodes[((graph.points[nodes] >= low) & (graph.points[nodes] <= high)).all(axis=1)]
         ends = nodes[nodes >= first]
         ends = ends[(extra[ends - first] <= most) & only.ends[ends - first]]
         connections = inner(graph, nodes, local)
@@ -203,9 +189,7 @@ class OnStreets:
     beside: Floats  # metres from each door to its street
 
     def ways(self, streets: Streets, pace: Pace, only: Ends) -> Iterator[Ways]:
-        """The shortest ways along streets, and within stations, between those of these stops that may be ends: of
-        several between two stops one is the shortest.
-        """
+        """Ways along streets, and within stations, between those that may be ends; of several one is the shortest."""
         most, may = pace.along_streets.metres, Ends(only.begins[self.chosen], only.ends[self.chosen])
         extra = self.beside + self.doors.inside * pace.detour
         yield from between_doors(graph_of(streets, self.put), self.doors, extra, most, may)

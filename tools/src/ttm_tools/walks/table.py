@@ -34,7 +34,6 @@ class WalkTable:
             yield rows, self.seconds[rows]
 
     def put(self, ways: Iterable[Ways], pace: Pace) -> None:
-        """Takes in ways between stops."""
         row, column = positions_in(self.begins), positions_in(self.ends)
         for one, other, metres in ways:
             seconds = pace.along_streets.seconds(metres)

@@ -1,7 +1,4 @@
-"""Shortest ways along streets from some places to others: how long each is, and how it goes.
-
-A place is put on its nearest street, as `streets` does it, and with the same seconds.
-"""
+"""Shortest ways along streets from some places to others, their seconds as `streets` has them, and how they go."""
 
 from dataclasses import dataclass
 from functools import cached_property
@@ -47,11 +44,6 @@ class Ways:
         return self.put.beside(self.near, self.pace)
 
     @property
-    def most(self) -> float:
-        """The longest way, metres."""
-        return self.pace.along_streets.metres
-
-    @property
     def first(self) -> int:
         """The node of the first place."""
         return len(self.graph[0]) - len(self.put.piece)
@@ -61,17 +53,17 @@ class Ways:
         from scipy.sparse.csgraph import dijkstra
 
         points, connections = self.graph
-        begins = self.first + np.arange(len(self.begins))
+        most, begins = self.pace.along_streets.metres, self.first + np.arange(len(self.begins))
         ends = begins[-1:].max(initial=self.first - 1) + 1 + np.arange(len(self.ends))
         turned = len(ends) < len(begins)  # then the searches begin at the ends
         sources, others, matrix = (ends, begins, connections.T) if turned else (begins, ends, connections)
         found = np.full((len(sources), len(others)), np.inf)
         for some in np.array_split(np.arange(len(sources)), -(-len(sources) * len(points) // CELLS_AT_ONCE) or 1):
-            found[some] = dijkstra(matrix, indices=sources[some], limit=self.most)[:, others]
+            found[some] = dijkstra(matrix, indices=sources[some], limit=most)[:, others]
         metres = found.T if turned else found
         metres = metres + self.beside[: len(begins), None] + self.beside[len(begins) :]
         whole: Seconds = np.full(metres.shape, np.nan)
-        there = metres <= self.most
+        there = metres <= most
         whole[there] = self.pace.along_streets.seconds(metres[there])
         return np.where(whole <= self.pace.limit, whole, np.nan)
 
@@ -81,7 +73,8 @@ class Ways:
 
         points, connections = self.graph
         source, target = self.first + begin, self.first + len(self.begins) + end
-        found, before = dijkstra(connections, indices=source, limit=self.most, return_predecessors=True)
+        most = self.pace.along_streets.metres
+        found, before = dijkstra(connections, indices=source, limit=most, return_predecessors=True)
         if not np.isfinite(found[target]):
             return np.zeros((0, 3)), float("nan")
         nodes = [target]
@@ -102,5 +95,4 @@ def degrees_of(points: Floats) -> Floats:
     """Longitude and latitude of points of the globe."""
     length = np.linalg.norm(points, axis=-1)
     east, north = np.arctan2(points[..., 1], points[..., 0]), np.arcsin(points[..., 2] / length)
-    degrees: Floats = np.degrees(np.stack([east, north], axis=-1))
-    return degrees
+    return np.asarray(np.degrees(np.stack([east, north], axis=-1)))
