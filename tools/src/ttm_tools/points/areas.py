@@ -2,7 +2,7 @@
 
 import json
 from pathlib import Path
-from typing import Any, BinaryIO, Iterable, Mapping
+from typing import Any, BinaryIO, Mapping
 
 import numpy as np
 
@@ -31,11 +31,6 @@ def ring_of(corners: Any) -> Floats:
     """A ring as rows of longitude and latitude."""
     whole: Floats = np.array([corner[:2] for corner in corners], dtype=np.float64)
     return whole.round(DECIMALS)
-
-
-def areas_of(identifiers: Iterable[str], shapes: Iterable[Any]) -> dict[str, Area]:
-    """The areas of those shapes, in degrees, that are polygons."""
-    return {name: area_of(shape) for name, shape in zip(identifiers, shapes) if shape.geom_type in KINDS}
 
 
 def squares_of(stops: Stops) -> dict[str, Area]:

@@ -62,13 +62,8 @@ class PointStudy:
     file: npt.NDArray[np.intp]  # of each point the place of its file
 
     def of_files(self, chosen: Sequence[bool]) -> list[str]:
-        """The points of some files."""
         kept = np.array(chosen, dtype=np.bool_)[self.file]
         return [self.points.identifiers[place] for place in np.flatnonzero(kept).tolist()]
-
-    def only(self, kept: Flags) -> "PointStudy":
-        places = np.flatnonzero(kept)
-        return PointStudy(self.points.only(places), self.file[places])
 
 
 def make(options: PointsOptions, walker: WalkFinder) -> list[str]:
@@ -82,13 +77,16 @@ def make(options: PointsOptions, walker: WalkFinder) -> list[str]:
         refuse_places(len(stops.identifiers), study, helps)
     walks = walker(stops.followed_by(study.points.as_stops()), len(stops.identifiers) if options.leaves_out else None)
     near = in_reach(stops, study, walks)
-    sentences = [*sentences_on_prefixes(options.files, prefixes), *sentences_on_reach(study, near, options.leaves_out)]
+    sentences = list(sentences_on(options, prefixes, study, near))
     sentences += [walks_summary(walks, "stops", options.near)] if walks.lost or walks.far or walks.apart else []
     if options.leaves_out:
-        study = study.only(near)
+        places = np.flatnonzero(near)
+        study = PointStudy(study.points.only(places), study.file[places])
         refuse_places(len(stops.identifiers), study, helps)
         walks = walker(stops.followed_by(study.points.as_stops()), None)
-    refuse_pairs(walks, study, helps)
+    if len(walks.seconds) > MOST_PAIRS:
+        what = f"{len(walks.seconds):,} walks are more than the {MOST_PAIRS:,} that ttm takes"
+        raise TooManyWalks(study.points.path, f"{what}: use a shorter --limit, or fewer points; {helps}")
     rounded = Rounded()
     with many_written_aside(options.out) as folder:
         write_feed(folder / FEED, options.feed, study.points)
@@ -99,9 +97,7 @@ def make(options: PointsOptions, walker: WalkFinder) -> list[str]:
 
 
 def prefixes_of(files: Sequence[Points], stops: Stops) -> list[str]:
-    """What identifiers of each file begin with in the feed: nothing, or the file's name where one of them is a stop's
-    already, or a point's of a file before.
-    """
+    """What identifiers of each file begin with in the feed: its name where one is a stop's or earlier point's."""
     taken, prefixes = set(stops.identifiers), list[str]()
     for points in files:
         prefix = ""
@@ -145,31 +141,20 @@ def in_reach(stops: Stops, study: PointStudy, walks: Walks) -> Flags:
 
 
 def refuse_places(stops: int, study: PointStudy, helps: str) -> None:
-    """Refuses more stops and points than `ttm` takes."""
     count = len(study.file)
     if stops + count > MOST_STOPS:
         what = f"{stops:,} locations of the feed and {count:,} points are more than the {MOST_STOPS:,} that ttm takes"
         raise TooManyPlaces(study.points.path, f"{what}: {helps}")
 
 
-def refuse_pairs(walks: Walks, study: PointStudy, helps: str) -> None:
-    """Refuses more walks than `ttm` takes."""
-    if len(walks.seconds) > MOST_PAIRS:
-        what = f"{len(walks.seconds):,} walks are more than the {MOST_PAIRS:,} that ttm takes"
-        raise TooManyWalks(study.points.path, f"{what}: use a shorter --limit, or fewer points; {helps}")
-
-
-def sentences_on_prefixes(files: Sequence[Points], prefixes: Sequence[str]) -> Iterator[str]:
-    for points, prefix in zip(files, prefixes):
+def sentences_on(options: PointsOptions, prefixes: Sequence[str], study: PointStudy, near: Flags) -> Iterator[str]:
+    """The files whose identifiers have a prefix, and the points from which no stop is in reach."""
+    for points, prefix in zip(options.files, prefixes):
         if prefix:
             yield f"{points.path}: identifiers begin with {shown(prefix)} in the feed, since one of them already exists"
-
-
-def sentences_on_reach(study: PointStudy, near: Flags, left_out: bool) -> Iterator[str]:
-    """The points from which no stop is in reach."""
     lost = [shown(study.points.identifiers[place]) for place in np.flatnonzero(~near).tolist()]
     if lost:
-        yield f"{quantity(len(lost), 'point')} {UNREACHED}{', left out' if left_out else ''}: {some(lost)}"
+        yield f"{quantity(len(lost), 'point')} {UNREACHED}{', left out' if options.leaves_out else ''}: {some(lost)}"
 
 
 def write_feed(folder: Path, feed: str, points: Points) -> None:
@@ -231,7 +216,6 @@ def has_heights(points: Points) -> bool:
 
 
 def write_files(folder: Path, options: PointsOptions, study: PointStudy, walks: Walks, rounded: Rounded) -> None:
-    """Writes the files next to the feed."""
     labels, files = study.points.labels, list[tuple[str, list[str], Iterable[Sequence[object]]]]()
     files.append((FOOTPATHS, ["from_stop_id", "to_stop_id", "seconds"], walks.rows()))
     for column, name in file_names(study.points.columns).items():

@@ -14,7 +14,7 @@ from ..gtfs.fields import Floats
 from ..gtfs.stops import Area, Stops
 from ..opening.paths import as_one_line, sized
 from ..records import number_of, places_of, records, refuse_alike, rows, shown
-from .areas import areas_of
+from .areas import KINDS, area_of
 
 NEEDED, WANTED = ("id", "lat", "lon"), ("name", "width", "height")
 AREAS = {".gpkg": b"SQLite format 3", ".geojson": b"{", ".json": b"{"}  # what geopandas reads, and how it begins
@@ -22,6 +22,10 @@ BYTE_ORDER = b"\xef\xbb\xbf"
 MOST_AREAS = 1_000_000_000  # bytes
 MOST_POINTS = 1_000_000  # of a file
 WIDEST = 1_000_000.0  # metres
+Range = tuple[float, float, str]  # the least number that is allowed, the most, and what an error says of them
+LATITUDE, LONGITUDE = (-90, 90, "degrees from -90 to 90"), (-180, 180, "degrees from -180 to 180")
+SIDE = (math.ulp(0), WIDEST, f"metres above 0, up to {WIDEST:,.0f}, or nothing")
+NUMBER = (0, math.inf, "a number from 0 on")
 
 
 @dataclass(frozen=True)
@@ -31,10 +35,6 @@ class Columns:
     identifier: str = "id"
     latitude: str = "lat"
     longitude: str = "lon"
-
-    @property
-    def needed(self) -> tuple[str, str, str]:
-        return self.identifier, self.latitude, self.longitude
 
 
 @dataclass(frozen=True)
@@ -60,7 +60,6 @@ class Points:
         return Stops(self.path, self.identifiers, self.names, *places, kinds, stations, *sides, areas=self.areas)
 
     def only(self, kept: npt.NDArray[np.intp]) -> "Points":
-        """Some of the points."""
         identifiers, names = ([texts[place] for place in kept.tolist()] for texts in (self.identifiers, self.names))
         places = (self.latitudes[kept], self.longitudes[kept], self.widths[kept])
         heights = None if self.heights is None else self.heights[kept]
@@ -85,33 +84,19 @@ class Taken:
         self.seen.add(text)
         return text
 
-    def degrees(self, text: str, record: int, column: str, most: int) -> float:
-        number = number_of(text.strip())
-        if not abs(number) <= most:
-            allowed = f"degrees from -{most} to {most}"
-            raise BadInput(self.path, "is invalid", record=record, column=column, value=text, allowed=allowed)
-        return number
-
     def place(self, latitude: str, longitude: str, record: int) -> tuple[float, float]:
-        degrees = self.degrees(latitude, record, "lat", 90), self.degrees(longitude, record, "lon", 180)
+        degrees = self.number(latitude, record, "lat", LATITUDE), self.number(longitude, record, "lon", LONGITUDE)
         if not any(degrees):
             raise BadInput(self.path, "lat and lon are 0 and 0, which is not a place", record=record)
         return degrees
 
     def side(self, text: str, record: int, column: str) -> float:
-        if not text.strip():
-            return math.nan
-        number = number_of(text.strip())
-        if not 0 < number <= WIDEST:
-            allowed = f"metres above 0, up to {WIDEST:,.0f}, or nothing"
-            raise BadInput(self.path, "is invalid", record=record, column=column, value=text, allowed=allowed)
-        return number
+        return self.number(text, record, column, SIDE) if text.strip() else math.nan
 
-    def number(self, text: str, record: int, column: str) -> float:
-        number = number_of(text.strip())
-        if not number >= 0:
-            allowed = "a number from 0 on"
-            raise BadInput(self.path, "is invalid", record=record, column=column, value=text, allowed=allowed)
+    def number(self, text: str, record: int, column: str, allowed: Range = NUMBER) -> float:
+        number, (least, most, said) = number_of(text.strip()), allowed
+        if not least <= number <= most:
+            raise BadInput(self.path, "is invalid", record=record, column=column, value=text, allowed=said)
         return number
 
     def take(self, identifier: str, name: str, place: Iterable[float], numbers: Iterable[float]) -> None:
@@ -152,7 +137,7 @@ def number_columns(path: str, columns: Sequence[str]) -> list[str]:
 def read_table(path: str, called: Columns) -> Points:
     """The points of a CSV file; a column in which no field is a number has labels."""
     _, header = next(records(path), (1, list[str]()))
-    needed = called.needed
+    needed = called.identifier, called.latitude, called.longitude
     others = [name for name in places_of(header, path, needed) if name and name not in needed + WANTED]
     refuse_alike(path, header, [*needed, *others])
     columns = number_columns(path, others)
@@ -170,9 +155,7 @@ def read_table(path: str, called: Columns) -> Points:
 
 
 def read_areas(path: str, called: Columns) -> Points:
-    """A point inside of each area of a file of a geographic information system, with that area; a point where that has
-    points. Its columns of text have labels.
-    """
+    """A point inside each area of a file, with the area, or each of its points; columns of text have labels."""
     frame = read_frame(path)
     twice = next((name for name in frame.columns if list(frame.columns).count(name) > 1), None)
     if twice is not None:
@@ -198,7 +181,8 @@ def read_areas(path: str, called: Columns) -> Points:
         given = [taken.side(text_of(side), place + 1, column) for side, column in zip(wide, WANTED[1:])]
         taken.take(identifier, text_of(name) or identifier, (*where, *given), numbers)
     labels = {str(name): [text_of(value) for value in frame[name]] for name in texts}
-    areas = areas_of(taken.identifiers, frame.geometry.to_crs(4326))
+    shapes = zip(taken.identifiers, frame.geometry.to_crs(4326))
+    areas = {name: area_of(shape) for name, shape in shapes if shape.geom_type in KINDS}
     return replace(taken.points(), labels=labels, areas=areas)
 
 
