@@ -135,7 +135,7 @@ def write_table(table: Table, file: BinaryIO) -> None:
 def write_lines(table: Table, file: BinaryIO) -> None:
     """Writes the records of a table without its header."""
     columns = [table[name] for name in table.columns]
-    texts = [fields_as_texts(column.categories, b"," if place else b"") for place, column in enumerate(columns)]
+    texts = [fields_as_texts(column.categories, before=b"," if place else b"") for place, column in enumerate(columns)]
     if len(texts) == 1:
         texts[0][texts[0] == b""] = b'""'  # an empty line is no record
     for first in range(0, len(table), ROWS_AT_ONCE):
