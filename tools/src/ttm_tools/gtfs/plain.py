@@ -53,6 +53,8 @@ def plain_pieces(path: str | Path, needed: Sequence[str], size: int = BLOCK) -> 
     """The needed columns of a file, a block of whole lines at a time, which takes fifteen times its size in memory."""
     _, header = next(records(path), (1, list[str]()))
     places = places_of(header, path, needed)
+    if not header:
+        raise NotPlain  # no record, but perhaps a byte-order mark or empty lines
     with open(looked_at(path), "rb") as file:
         for number, block in enumerate(line_blocks(file, size)):
             fields = fields_of(block, len(header))
