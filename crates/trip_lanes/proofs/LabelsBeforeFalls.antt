@@ -1,10 +1,9 @@
 -- Labels before that are kept as a stop first falls.
-use Rattle.std.proofs.Common.{◌≡◌, ℕ, ◌<◌, inl, inr, List, Bool, length, get_or, set, slice_get, Some}
-use Rattle.std.proofs.Common.{true, sym, ◌∙◌}
+use Rattle.std.proofs.Common.{◌≡◌, ℕ, ◌<◌, inl, inr, List, Bool, length, get_or, set, slice_get, Some, true, sym, ◌∙◌}
 use Rattle.std.proofs.lemmas.Bool.{cases_eq}
+use Rattle.timetable.proofs.ListsAddedTo.{set_other, set_same}
 use Rattle.trip_lanes.specs.Lane.{lane, labels_in}
 use Rattle.trip_lanes.specs.Falls.{AreNoted}
-use Rattle.trip_lanes.proofs.LoweredStop.{set_get_apart, set_get_to}
 use Rattle.trip_lanes.proofs.WrittenLanes.{row_old, row_new, row_other}
 
 -- one stop more is noted, or is noted again
@@ -19,12 +18,12 @@ module _ {A : Type 0} (labels : A → List ℕ) (was : List ℕ) (ready kept : L
         noted = λ p on. elim (cases_eq p s) [
           | inl e ↦ rw e (row_new labels kept old s l in_kept ∙ (sym (row_old labels ready s old l read in_ready)
               ∙ are.still s none))
-          | inr ne ↦ row_other labels kept old s p l ne ∙ are.noted p (sym (set_get_apart fallen s p true ne) ∙ on)
+          | inr ne ↦ row_other labels kept old s p l ne ∙ are.noted p (sym (set_other fallen s p true ne) ∙ on)
         ];
         still = λ p out. elim (cases_eq p s) [
-          | inl e ↦ absurd (out (rw e (set_get_to fallen s true in_fallen)))
+          | inl e ↦ absurd (out (rw e (set_same fallen s true in_fallen)))
           | inr ne ↦ row_other labels ready new s p l ne
-              ∙ are.still p (λ on. out (set_get_apart fallen s p true ne ∙ on))
+              ∙ are.still p (λ on. out (set_other fallen s p true ne ∙ on))
         ];
       }
 
@@ -34,11 +33,11 @@ module _ {A : Type 0} (labels : A → List ℕ) (was : List ℕ) (ready kept : L
       record {
         noted = λ p on. elim (cases_eq p s) [
           | inl e ↦ rw e (are.noted s again)
-          | inr ne ↦ are.noted p (sym (set_get_apart fallen s p true ne) ∙ on)
+          | inr ne ↦ are.noted p (sym (set_other fallen s p true ne) ∙ on)
         ];
         still = λ p out. elim (cases_eq p s) [
-          | inl e ↦ absurd (out (rw e (set_get_to fallen s true in_fallen)))
+          | inl e ↦ absurd (out (rw e (set_same fallen s true in_fallen)))
           | inr ne ↦ row_other labels ready new s p l ne
-              ∙ are.still p (λ on. out (set_get_apart fallen s p true ne ∙ on))
+              ∙ are.still p (λ on. out (set_other fallen s p true ne ∙ on))
         ];
       }

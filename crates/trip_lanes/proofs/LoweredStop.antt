@@ -136,16 +136,3 @@ pub row_lane : {A : Type 0} (labels : A → List ℕ) (rows : List A) (i l : ℕ
 row_lane labels rows i l row none is within =
     lane_old (labels_in labels rows) i l (omega (arith, length-map rows labels))
     ∙ ap (λ v. slice_index v l) (row_labels labels rows i row none is within)
-
--- a flag that was written, and another
-pub set_get_apart : (was : List Bool) (i p : ℕ) (b : Bool) → (p ≡ i → ⊥) → slice_get (set was i b) p ≡ slice_get was p
-set_get_apart [] i p b ne = refl
-set_get_apart (c ∷ was) zero zero b ne = absurd (ne refl)
-set_get_apart (c ∷ was) zero (suc p) b ne = refl
-set_get_apart (c ∷ was) (suc i) zero b ne = refl
-set_get_apart (c ∷ was) (suc i) (suc p) b ne = set_get_apart was i p b (λ e. ne (ap suc e))
-
-pub set_get_to : (was : List Bool) (i : ℕ) (b : Bool) → i < length was → slice_get (set was i b) i ≡ Some b
-set_get_to [] i b l = absurd (omega arith)
-set_get_to (c ∷ was) zero b l = refl
-set_get_to (c ∷ was) (suc i) b l = set_get_to was i b (omega arith)

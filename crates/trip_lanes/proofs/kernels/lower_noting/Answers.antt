@@ -51,11 +51,8 @@ returns-then-changed-clause-fallen g c =
     let read = row_labels labels c.args.ready.now c.args.stop row row c.index-ready-stop.is c.requires.stop in
     let long = length-map c.args.ready.now labels in
     rw (map-set labels c.args.ready.now c.args.stop c.lower_of-low.result)
-    (marks_fell xs (labels c.lower_of-low.result) c.args.stop c.args.fallen.now (omega (
-      arith,
-      long,
-      c.requires.stop,
-    )) (omega (arith, long, c.requires.fallen)) (rw read (c.changed.ensures.0 c.if-changed.true)))
+    (marks_fell xs (labels c.lower_of-low.result) c.args.stop c.args.fallen.now (omega (arith, long, c.requires.stop))
+    (omega (arith, long, c.requires.fallen)) (rw read (c.changed.ensures.0 c.if-changed.true)))
 
 pub returns-else-changed-clause-fallen : goal.returns-else-changed-clause-fallen
 returns-else-changed-clause-fallen g c = marks_none (labels_in g.R.LaneLabels.labels c.args.ready.now) c.args.fallen.now

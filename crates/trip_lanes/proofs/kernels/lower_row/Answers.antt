@@ -48,11 +48,8 @@ returns-then-changed-clause-marks g c =
     let read = row_labels labels c.args.labels.now c.args.stop row row c.index-labels-stop.is c.requires.stop in
     let long = length-map c.args.labels.now labels in
     rw (map-set labels c.args.labels.now c.args.stop c.lower_of-new.result)
-    (marks_fell xs (labels c.lower_of-new.result) c.args.stop c.args.marked.now (omega (
-      arith,
-      long,
-      c.requires.stop,
-    )) (omega (arith, long, c.requires.same)) (rw read (c.changed.ensures.0 c.if-changed.true)))
+    (marks_fell xs (labels c.lower_of-new.result) c.args.stop c.args.marked.now (omega (arith, long, c.requires.stop))
+    (omega (arith, long, c.requires.same)) (rw read (c.changed.ensures.0 c.if-changed.true)))
 
 pub returns-else-changed-clause-marks : goal.returns-else-changed-clause-marks
 returns-else-changed-clause-marks g c = marks_none (labels_in g.R.LaneLabels.labels c.args.labels.now) c.args.marked.now
