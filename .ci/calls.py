@@ -17,7 +17,7 @@ from pathlib import Path
 
 import repository
 
-FUNCTION = re.compile(r"( *)(?:pub(?:\([a-z]+\))? )?(?:(?:const|unsafe|final) )*fn (\w+)")
+FUNCTION = re.compile(r"( *)(pub(?:\([a-z]+\))? )?(?:(?:const|unsafe|final) )*fn (\w+)")
 TRAIT = re.compile(r"(?:pub(?:\([a-z]+\))? )?trait (\w+)")
 IMPL = re.compile(r"impl\b(?:<(?P<parameters>.*?)>(?= \w))? ?(?:(?P<trait>[\w:]+)(?:<.*>)? for )?(?P<type>\w+)")
 STRUCT = re.compile(r"(?:pub(?:\([a-z]+\))? )?(?:struct|enum) (\w+)")
@@ -36,24 +36,25 @@ class Function:
     name: str
 
 
-@dataclass
-class Found:
-    """What a crate's sources have: the text of each function without its clauses, and of each type."""
+@dataclass(frozen=True)
+class Item:
+    """A function, or a type, which is of nothing; its lines up to that with which its body begins, and the body's."""
 
-    functions: dict[Function, str]
-    types: dict[str, str]
+    function: Function
+    is_type: bool
+    is_public: bool
+    head: list[str]
+    body: list[str]
+
+    @property
+    def text(self) -> str:
+        """All of it without its clauses."""
+        return "\n".join([*itertools.takewhile(lambda line: not CLAUSE.match(line), self.head), *self.body])
 
 
-def read(crate: str, files: list[Path]) -> Found:
-    """The functions and types of a crate's files."""
-    found = Found({}, {})
-    for file in files:
-        text = (line for line in file.read_text().splitlines() if not line.strip().startswith("//"))
-        read_file(crate, text, found)
-    return found
-
-
-def read_file(crate: str, lines: Iterator[str], found: Found) -> None:
+def items_of(crate: str, path: Path) -> Iterator[Item]:
+    """The functions and types of a file of a crate."""
+    lines = (line for line in path.read_text().splitlines() if not line.strip().startswith("//"))
     owner, of_trait = "", False
     for line in lines:
         if line == "}":
@@ -64,20 +65,17 @@ def read_file(crate: str, lines: Iterator[str], found: Found) -> None:
             parameter = implemented["type"] in re.findall(r"\w+", implemented["parameters"] or "")
             owner, of_trait = "" if parameter else implemented["type"], implemented["trait"] is not None
         elif kind := STRUCT.match(line):
-            found.types[kind[1]] = found.types.get(kind[1], "") + "\n".join(rest_of(line, lines, ""))
+            yield Item(Function(crate, "", False, kind[1]), True, False, *parts_of(line, lines, ""))
         elif start := FUNCTION.match(line):
-            function = Function(crate, owner, of_trait, start[2])
-            text = "\n".join(rest_of(line, lines, start[1]))
-            found.functions[function] = found.functions.get(function, "") + text
+            function = Function(crate, owner, of_trait, start[3])
+            yield Item(function, False, start[2] == "pub ", *parts_of(line, lines, start[1]))
 
 
-def rest_of(line: str, lines: Iterator[str], indent: str) -> list[str]:
-    """The lines of an item that begins so, to its end, without its clauses."""
+def parts_of(line: str, lines: Iterator[str], indent: str) -> tuple[list[str], list[str]]:
+    """The head and the body of an item that begins so."""
     head = repository.head_of(line, lines, indent)
-    kept = list(itertools.takewhile(lambda line: not CLAUSE.match(line), head))
-    if head[-1].endswith("{"):
-        kept += itertools.takewhile(lambda line: line != indent + "}", lines)
-    return kept
+    body = itertools.takewhile(lambda line: line != indent + "}", lines) if head[-1].endswith("{") else ()
+    return head, list(body)
 
 
 class Walk:
@@ -86,22 +84,27 @@ class Walk:
     def __init__(self, root: Path, crates: repository.Crates) -> None:
         self.crates = crates
         self.sees = {crate: {crate, *repository.below(crates, crate)} for crate in crates}
-        self.texts: dict[Function, str] = {}
+        self.texts: dict[Function, str] = defaultdict(str)
+        self.contracts: set[Function] = set()  # those that say what they ensure
         self.types: dict[str, str] = defaultdict(str)
         self.named: dict[str, list[Function]] = defaultdict(list)
         for crate in crates:
-            folder = root / "crates" / crate / "src"
-            tests = repository.test_modules(folder)
-            found = read(
-                crate, [path for path in repository.files_of(folder) if path.suffix == ".rt" and path.name not in tests]
-            )
-            self.texts |= found.functions
-            for name, text in found.types.items():
-                self.types[name] += text
+            tests = repository.test_modules(root / "crates" / crate / "src")
+            for path in [path for path in repository.sources_of(root, crate) if path.name not in tests]:
+                for item in items_of(crate, path):
+                    self.note(item)
         for function in self.texts:
             self.named[function.name].append(function)
         self.reached: set[Function] = set()
         self.met: set[str] = set()
+
+    def note(self, item: Item) -> None:
+        if item.is_type:
+            self.types[item.function.name] += item.text
+            return
+        self.texts[item.function] += item.text
+        if any(line.strip().startswith("ensures") for line in item.head):
+            self.contracts.add(item.function)
 
     def start(self, crate: str, name: str) -> Walk:
         """Walks from a free function, until nothing new is found."""
@@ -119,15 +122,12 @@ class Walk:
         left = set(TYPE.findall(text)) - self.met
         while left:
             self.met |= left
-            left = {
-                type_name for name in left if name in self.types for type_name in TYPE.findall(self.types[name])
-            } - self.met
+            left = set(TYPE.findall("\n".join(self.types[name] for name in left if name in self.types))) - self.met
 
     def called_by(self, function: Function) -> set[Function]:
         return {called for call in set(CALL.findall(self.texts[function])) for called in self.meant(function, *call)}
 
     def meant(self, caller: Function, dot: str, path: str, name: str) -> list[Function]:
-        """The functions that a call may mean."""
         path = caller.owner if path == "Self" else path
         own = [one for one in self.named[name] if one.crate in self.sees[caller.crate]]
         if dot:
@@ -138,15 +138,15 @@ class Walk:
         free = [one for one in own if not one.owner]
         return [one for one in free if one.crate == caller.crate] or free
 
-    def has(self, crate: str, owner: str, name: str) -> bool:
-        """Whether a type or trait of the crate has a function of this name."""
-        return any(found.crate == crate and found.owner == owner for found in self.named[name])
+    def called(self, crate: str, path: str) -> list[Function]:
+        """The crate's functions of this name, or of this type or trait and name."""
+        *types, name = path.split("::")
+        owner = types[-1] if types and types[-1][:1].isupper() else ""
+        return [found for found in self.named[name] if found.crate == crate and owner in ("", found.owner)]
 
     def comes_to(self, crate: str, path: str) -> bool:
         """Whether a function of this name, or of this type and name, was reached; or a type or constant was named."""
-        *types, name = path.split("::")
-        owner = types[-1] if types and types[-1][:1].isupper() else ""
-        functions = [found for found in self.named[name] if found.crate == crate and owner in ("", found.owner)]
-        if functions:
+        if functions := self.called(crate, path):
             return any(found in self.reached for found in functions)
+        name = path.split("::")[-1]
         return any(re.search(rf"\b{name}\b", self.texts[found]) for found in self.reached)

@@ -19,6 +19,8 @@ from collections.abc import Callable
 from dataclasses import dataclass, field
 from pathlib import Path
 
+import repository
+
 PROVED, REFUSED, WAITS, UNKNOWN = "proved", "refused", "waits", "unknown"
 VERDICT = re.compile(r"(fn|impl) (\S+): (proved|not proved|no proof: expected answers|no proof: it calls)\b")
 LOGIC = re.compile(r"logic=(proved|not-proved)\b")
@@ -28,27 +30,16 @@ NAMES_ONLY = re.compile(r"has no field|is not in scope|has no `|was not admitted
 UNREADABLE = re.compile(r"is not in scope|has no field|is no name|operand is missing|expected the end|cannot continue")
 
 Texts = Callable[[str], str]
-Span = tuple[str, int, int, str]
 
 
 def lines_of(command: list[str], folder: Path) -> list[str]:
     """What a command prints, line by line."""
-    ran = subprocess.run(
-        command,
-        cwd=folder,
-        stdin=subprocess.DEVNULL,
-        stdout=subprocess.PIPE,
-        stderr=subprocess.STDOUT,
-        text=True,
-        errors="replace",
-    )
-    return ran.stdout.split("\n")
+    lines: list[str] = subprocess.run(command, cwd=folder, **repository.PIPED).stdout.split("\n")
+    return lines
 
 
 class Edit:
-    """A planted bug: what of which file is replaced by what, and the function that it changes, where its name says
-    it.
-    """
+    """A planted bug: what of which file is replaced by what, and the function that it changes, if its name says it."""
 
     def __init__(self, path: Path) -> None:
         self.path, self.name = path, path.name
@@ -67,23 +58,8 @@ class Edit:
         known = len(parts) == 4 and module
         self.function: tuple[str, str] | None = (module[1].replace("/", "::"), parts[1]) if known and module else None
 
-    def spans(self, texts: Texts) -> list[Span] | None:
-        """Where it replaces what in files as they stand: file, start, end, text.
-
-        Nothing where a text isn't there once.
-        """
-        found = []
-        for file, old, new in self.replacements:
-            if texts(file).count(old) != 1:
-                return None
-            start = texts(file).index(old)
-            found.append((file, start, start + len(old), new))
-        return found
-
     def applied(self, texts: Texts) -> dict[str, str] | None:
-        """The texts of the files that it changes, one replacement after another; nothing where a text isn't there
-        once.
-        """
+        """The texts of the files that it changes, replacement by replacement; nothing where a text isn't there once."""
         texts_changed: dict[str, str] = {}
         for file, old, new in self.replacements:
             text = texts_changed.get(file, texts(file))
@@ -93,38 +69,21 @@ class Edit:
         return texts_changed
 
 
-def planted(texts: Texts, spans: list[Span]) -> dict[str, str]:
-    """The texts of the files that are changed, by their names."""
-    texts_planted = {file: texts(file) for file, *_ in spans}
-    for file, start, end, new in sorted(spans, key=lambda span: -span[1]):
-        texts_planted[file] = texts_planted[file][:start] + new + texts_planted[file][end:]
-    return texts_planted
-
-
-def overlap(spans: list[Span], others: list[Span]) -> bool:
-    return any(a[0] == b[0] and a[1] < b[2] and b[1] < a[2] for a in spans for b in others)
-
-
-def choose(edits: list[Edit], texts: Texts) -> tuple[list[Edit], list[Span]]:
-    """The edits of the next check, one for each function, no two of which replace the same text; with all that they
-    replace.
-    """
-    chosen: list[Edit] = []
-    spans: list[Span] = []
-    taken = set()
+def choose(edits: list[Edit], texts: Texts) -> tuple[list[Edit], dict[str, str]]:
+    """The edits of the next check, one for each function, no two in one text; and the texts that they change."""
+    chosen: dict[tuple[str, str], Edit] = {}
+    changed: dict[str, str] = {}
     for edit in edits:
-        own = edit.spans(texts)
-        if edit.function and own and edit.function not in taken and not overlap(own, spans):
-            chosen.append(edit)
-            spans += own
-            taken.add(edit.function)
-    return chosen, spans
+        if edit.function and edit.function not in chosen and edit.applied(texts):
+            own = edit.applied(lambda file: changed.get(file, texts(file)))
+            if own:
+                chosen[edit.function] = edit
+                changed |= own
+    return list(chosen.values()), changed
 
 
 def unread(lines: list[str]) -> str:
-    """What says that the prover could not read a text, where an edit that only makes a statement false reads well;
-    nothing where it read all.
-    """
+    """What says that the prover could not read a text, which it can where an edit only makes a statement false."""
     for line in lines:
         found = ERROR.match(line)
         if found and (found[1] or not found[2] or UNREADABLE.search(re.sub(r"`[^`]*`", "", found[3]))):
@@ -159,9 +118,7 @@ def logic_of(lines: list[str]) -> str | None:
 
 @dataclass
 class Outcome:
-    """What came of a crate's edits: the names of those refused, of these those by a missing name alone, and why each
-    other one wasn't.
-    """
+    """The names of a crate's edits that were refused, those by a missing name alone, and why others weren't."""
 
     crate: str
     refused: list[str] = field(default_factory=list)
@@ -219,10 +176,10 @@ class Trial:
 
         Where the check comes to no verdict on any, half as many are tried.
         """
-        chosen, spans = choose(edits, self.texts)
+        chosen, changed = choose(edits, self.texts)
         if not chosen:
             return []
-        lines = self.check(planted(self.texts, spans))
+        lines = self.check(changed)
         verdicts = {edit: UNKNOWN if unread(lines) else verdict_of(self.crate, edit, lines) for edit in chosen}
         if len(chosen) > 1 and all(verdict == UNKNOWN for verdict in verdicts.values()):
             half = len(chosen) // 2
@@ -251,11 +208,8 @@ class Trial:
         if logic_of(self.check({})) != "proved":
             outcome.others = {edit.name: "the crate isn't proved without it" for edit in edits}
             return outcome
-        for edit in self.run_joint(edits, outcome):
-            why = self.alone(edit)
-            if why:
-                outcome.others[edit.name] = why
-            else:
-                outcome.refused.append(edit.name)
+        whys = {edit.name: self.alone(edit) for edit in self.run_joint(edits, outcome)}
+        outcome.refused += [name for name, why in whys.items() if not why]
+        outcome.others = {name: why for name, why in whys.items() if why}
         outcome.by_name = self.by_name
         return outcome

@@ -22,11 +22,11 @@ import tempfile
 import time
 from collections.abc import Iterator
 from concurrent.futures import ThreadPoolExecutor
-from dataclasses import dataclass
 from pathlib import Path
 
 import repository
 import trials
+from repository import Count
 
 MEMORY_OF_A_CHECK = 4_000_000  # kilobytes
 SECONDS_OF_TESTS = 900  # that those of a crate may take together
@@ -39,21 +39,6 @@ ON_PROGRAM = [
     [".ci/packaging_checks.py", PROGRAM],
     ["bench/hostile.py", PROGRAM, TRIALS],
 ]
-
-
-@dataclass(frozen=True)
-class Count:
-    """How many checks passed, failed, and were skipped."""
-
-    passed: int = 0
-    failed: int = 0
-    skipped: int = 0
-
-    def __add__(self, other: Count) -> Count:
-        return Count(self.passed + other.passed, self.failed + other.failed, self.skipped + other.skipped)
-
-    def __str__(self) -> str:
-        return f"{self.passed} passed, {self.failed} failed" + (f", {self.skipped} skipped" if self.skipped else "")
 
 
 def jobs() -> int:
@@ -74,16 +59,8 @@ def lines_of(command: list[str], folder: Path, title: str, at_once: bool = False
     """Runs a command; its status and its lines, which are printed when it has ended, or `at_once` as they come."""
     began = time.monotonic()
     lines = []
-    with subprocess.Popen(
-        command,
-        cwd=folder,
-        env={"SOURCE_DATE_EPOCH": time_of_commit(folder), **os.environ},
-        stdin=subprocess.DEVNULL,
-        stdout=subprocess.PIPE,
-        stderr=subprocess.STDOUT,
-        text=True,
-        errors="replace",
-    ) as process:
+    environment = {"SOURCE_DATE_EPOCH": time_of_commit(folder), **os.environ}
+    with subprocess.Popen(command, cwd=folder, env=environment, **repository.PIPED) as process:
         assert process.stdout
         for line in process.stdout:
             if at_once:
@@ -105,7 +82,6 @@ def time_of_commit(folder: Path) -> str:
 
 
 def run_scripts(root: Path, scripts: list[list[str]]) -> Count:
-    """Runs those of the scripts that are there, one after another."""
     count = Count()
     for script in scripts:
         if (root / script[0]).is_file():
@@ -123,7 +99,7 @@ def gate(root: Path) -> Count:
 def quick(root: Path) -> Count:
     """The tests and the program's main job by `rt try`, the tests of the tools that run no program, and the pages."""
     trials = ["ttm", *(name for name in reversed(repository.crates_of(root)) if has_tests(root, name))]
-    scripts = [[".ci/tools_checks.py", "--no-browser"], [".ci/names.py"], [".ci/same.py"], [".ci/lemmas.py"]]
+    scripts = [[*WITHOUT_PROGRAM[0], "--no-browser"], *WITHOUT_PROGRAM[1:]]
     with ThreadPoolExecutor(jobs()) as pool:
         tested = pool.map(lambda name: try_crate(root, name), trials)
         checked = pool.map(lambda script: run_scripts(root, [script]), scripts)
@@ -139,8 +115,7 @@ def try_crate(root: Path, name: str) -> Count:
 
 
 def has_tests(root: Path, name: str) -> bool:
-    files = repository.files_of(root / "crates" / name / "src")
-    return any("#[test]" in file.read_text() for file in files if file.suffix == ".rt")
+    return "#[test]" in repository.source_of(root, name)
 
 
 def try_planted(root: Path, names: list[str]) -> Iterator[Count]:
@@ -152,9 +127,8 @@ def try_planted(root: Path, names: list[str]) -> Iterator[Count]:
 
 
 def arguments_of(arguments: list[str]) -> argparse.Namespace:
-    parser = argparse.ArgumentParser(
-        prog=".ci/run", description=__doc__, formatter_class=argparse.RawDescriptionHelpFormatter
-    )
+    form = argparse.RawDescriptionHelpFormatter
+    parser = argparse.ArgumentParser(prog=".ci/run", description=__doc__, formatter_class=form)
     part = parser.add_mutually_exclusive_group()
     part.add_argument("--quick", action="store_true", help="run tests without any proof")
     part.add_argument("--planted", nargs="*", metavar="CRATE", help="try the planted bugs, and nothing else")

@@ -8,11 +8,19 @@ import shutil
 import subprocess
 import tempfile
 import time
-from collections.abc import Sequence
+from collections.abc import Mapping, Sequence
 from pathlib import Path
 
+PYTHON = "/usr/bin/python3"  # that of Debian's packages
 SECONDS = 300
 LOCK = Path(tempfile.gettempdir()) / "ttm-installing.lock"
+
+
+def lacking(modules: Mapping[str, str]) -> list[str]:
+    """The Debian packages of those of these modules that Debian's Python lacks."""
+    script = "import importlib.util, sys; print(*[it for it in sys.argv[1:] if importlib.util.find_spec(it) is None])"
+    found = subprocess.run([PYTHON, "-c", script, *modules], capture_output=True, text=True)
+    return [modules[name] for name in (found.stdout.split() if found.returncode == 0 else modules)]
 
 
 def install(*groups: Sequence[str]) -> None:

@@ -42,38 +42,26 @@ class Item:
     name: str
     at: int
     is_answer: bool
-    lines: list[tuple[int, str]] = field(default_factory=list)
+    lines: list[str] = field(default_factory=list)
 
 
 @dataclass
 class Proof:
-    """A file of proofs."""
-
     path: Path
     module: str
     items: list[Item]
-    imports: dict[str, set[tuple[str, str]]]
-    renamed: dict[str, str]
+    imports: list[tuple[str, str, str]]  # the module of a name, the name there, and here
+    renamed: dict[str, str]  # modules by the names that they have here
 
 
-def without_comment(line: str) -> str:
-    return re.sub(r"(?:^|\s)--(?:\s.*)?$", "", line).rstrip()
-
-
-def module_of(root: Path, path: Path) -> str:
-    """The module that a file is, as others import it."""
-    crate, *rest = path.relative_to(root / "crates").with_suffix("").parts
-    return ".".join(["Rattle", crate, *rest])
-
-
-def imports_in(text: str) -> tuple[dict[str, set[tuple[str, str]]], dict[str, str]]:
-    """The names that a text imports, each with its name here, by module; and the modules that have a name here."""
-    names: dict[str, set[tuple[str, str]]] = {}
+def imports_in(text: str) -> list[tuple[str, str, str]]:
+    """The names that a text imports: the module of each, its name there, and here."""
+    imports = []
     for found in LISTED.finditer(text):
         for name in filter(None, (text.strip() for text in found["names"].split(","))):
             there, _, here = name.partition(" as ")
-            names.setdefault(found["path"], set()).add((there, here or there))
-    return names, {match["name"]: match["path"] for match in RENAMED.finditer(text)}
+            imports.append((found["path"], there, here or there))
+    return imports
 
 
 def items_in(lines: list[str], for_the_prover: bool) -> list[Item]:
@@ -81,7 +69,7 @@ def items_in(lines: list[str], for_the_prover: bool) -> list[Item]:
     items: list[Item] = []
     bodies, header = [0], False
     for at, whole in enumerate(lines, 1):
-        line = without_comment(whole)
+        line = re.sub(r"(?:^|\s)--(?:\s.*)?$", "", whole).rstrip()  # without a comment
         if not line.strip():
             continue
         indent = len(line) - len(line.lstrip())
@@ -91,7 +79,7 @@ def items_in(lines: list[str], for_the_prover: bool) -> list[Item]:
         if not header and indent == bodies[-1]:
             header = bool(MODULE.match(text))
             begin_item(items, text, at, for_the_prover)
-        items[-1].lines.append((at, text))
+        items[-1].lines.append(text)
         if header and text.endswith("where"):
             bodies, header = [*bodies, bodies[-1] + 2], False
     return items
@@ -109,49 +97,46 @@ def begin_item(items: list[Item], text: str, at: int, for_the_prover: bool) -> N
 
 def proof_at(root: Path, path: Path) -> Proof:
     text = path.read_text()
-    imports, renamed = imports_in(text)
     items = items_in(text.splitlines(), path.name in FOR_THE_PROVER)
-    return Proof(path, module_of(root, path), items, imports, renamed)
-
-
-def is_import(item: Item) -> bool:
-    return bool(re.match(r"(?:pub )?(?:use|mod)\b", item.lines[0][1]))
+    renamed = {match["name"]: match["path"] for match in RENAMED.finditer(text)}
+    crate, *rest = path.relative_to(root / "crates").with_suffix("").parts
+    module = ".".join(["Rattle", crate, *rest])  # as others import it
+    return Proof(path, module, items, imports_in(text), renamed)
 
 
 def tokens_of(item: Item) -> set[str]:
-    return {match.strip("()") for _, line in item.lines for match in TOKEN.findall(line)}
+    """The names in an item, unless it is an import."""
+    is_import = re.match(r"(?:pub )?(?:use|mod)\b", item.lines[0])
+    return set() if is_import else {match.strip("()") for line in item.lines for match in TOKEN.findall(line)}
 
 
 def cited_in(proof: Proof) -> set[tuple[str, str]]:
     """The module and the name of each lemma that a file cites."""
     cited: set[tuple[str, str]] = set()
-    here = {there: (module, name) for module, names in proof.imports.items() for name, there in names}
+    here = {own: (module, name) for module, name, own in proof.imports}
     for item in proof.items:
-        for token in set() if is_import(item) else tokens_of(item):
+        for token in tokens_of(item):
             first, *rest = token.split(".")
             if first != item.name:
                 cited.add((proof.module, first))
             if first in here:
                 cited.add(here[first])
-            for name in rest[:1]:
-                cited |= {(proof.renamed.get(first, proof.module), name)}
-    again = {(module, name) for module, names in imports_in(passed_on(proof))[0].items() for name, _ in names}
-    return cited | again
+            if rest:
+                cited.add((proof.renamed.get(first, proof.module), rest[0]))
+    return cited | passed_on(proof)
 
 
-def passed_on(proof: Proof) -> str:
-    """The imports that a file hands on to those that import it."""
-    given = [item for item in proof.items if item.lines[0][1].startswith("pub use")]
-    return "\n".join(" ".join(text for _, text in item_given.lines) for item_given in given)
+def passed_on(proof: Proof) -> set[tuple[str, str]]:
+    """What a file hands on to those that import it."""
+    given = "\n".join(" ".join(item.lines) for item in proof.items if item.lines[0].startswith("pub use"))
+    return {(module, name) for module, name, _ in imports_in(given)}
 
 
 def cited_by_code(root: Path, path: Path) -> set[tuple[str, str]]:
-    """The module and the name of each lemma that a source file names."""
     text = path.read_text()
     crate = path.relative_to(root / "crates").parts[0]
     found = {match.replace("::", ".").replace("crate.", f"Rattle.{crate}.", 1) for match in USING.findall(text)}
-    listed, _ = imports_in(text)
-    named = {(module, name) for module, names in listed.items() for name, _ in names}
+    named = {(module, name) for module, name, _ in imports_in(text)}
     return named | {(item.rpartition(".")[0], item.rpartition(".")[2]) for item in found}
 
 
@@ -172,7 +157,7 @@ def uncited(root: Path, proofs: list[Proof]) -> Iterator[tuple[str, bool]]:
 def begin_of(item: Item) -> str:
     """The first lines of a lemma's statement and proof, but for its own name and who may cite it."""
     name = re.compile(rf"(?<![\w.-]){re.escape(item.name)}(?![\w-])")
-    lines = [name.sub("", text) for _, text in item.lines[:LINES_ALIKE]]
+    lines = [name.sub("", text) for text in item.lines[:LINES_ALIKE]]
     return re.sub(r"^(?:pub |abbrev )+", "", "\n".join(lines))
 
 

@@ -34,8 +34,8 @@ SPEC = re.compile(r"(?:\b(\w+)/)?\b([A-Z]\w*)\b")
 MODULE = re.compile(r"`([\w/]+\.py)`")
 TOOLS = "tools/src/ttm_tools"
 PYTHON = r"(?m)^(?:(?:def|class) {0}\b|{0}(?:: [^=\n]+)? = )"
-FUNCTION = r"(?m)^( *)(?:pub(?:\([a-z]+\))? )?(?:(?:const|unsafe|final) )*fn {}\b"
-OTHER = r"(?m)^(?:pub(?:\([a-z]+\))? )?(?:struct|enum|trait|type|const) {}\b"
+VISIBLE = r"(?:pub(?:\([a-z]+\))? )?"
+NAMED = rf"(?m)^(?: *{VISIBLE}(?:(?:const|unsafe|final) )*fn|{VISIBLE}(?:struct|enum|trait|type|const)) {{}}\b"
 
 
 @dataclass(frozen=True)
@@ -55,31 +55,19 @@ class Sources:
         crates = repository.crates_of(root)
         self.root = root
         self.names = list(crates)
-        self.texts = {crate: self.text_of(root / "crates" / crate / "src") for crate in crates}
+        self.texts = {crate: repository.source_of(root, crate) for crate in crates}
         self.walk = calls.Walk(root, crates).start(PROGRAM, "main")
-
-    @staticmethod
-    def text_of(folder: Path) -> str:
-        return "\n".join(path.read_text() for path in repository.files_of(folder) if path.suffix == ".rt")
 
     def has(self, claim: Claim) -> bool:
         """Whether the crate has a function of that name, of that type where one is named; or a type or a constant."""
         *types, last = claim.name.split("::")
         if types and types[-1][:1].isupper():
-            return self.walk.has(claim.crate, types[-1], last)
-        text = self.texts[claim.crate]
-        return bool(re.search(FUNCTION.format(last), text) or re.search(OTHER.format(last), text))
+            return bool(self.walk.called(claim.crate, claim.name))
+        return bool(re.search(NAMED.format(last), self.texts[claim.crate]))
 
     def has_contract(self, claim: Claim) -> bool:
         """Whether a function of that name says what it ensures."""
-        last = re.escape(claim.name.split("::")[-1])
-        text = self.texts[claim.crate]
-        for found in re.finditer(FUNCTION.format(last), text):
-            lines = iter(text[found.start() :].splitlines())
-            header = repository.header_of(next(lines), lines, found[1])
-            if any(item.strip().startswith("ensures") for item in header):
-                return True
-        return False
+        return not self.walk.contracts.isdisjoint(self.walk.called(claim.crate, claim.name.split("::")[-1]))
 
     def has_spec(self, claim: Claim) -> bool:
         return (self.root / "crates" / claim.crate / "specs" / f"{claim.name}.antt").is_file()
@@ -94,21 +82,19 @@ def promises(readme: str) -> Iterator[tuple[str, str]]:
             yield found[1].rstrip("."), found[2]
 
 
-def claims_of_promise(text: str, crates: list[str], page: str = "README") -> list[Claim]:
+def claims_of_promise(text: str, crates: list[str]) -> list[Claim]:
     """The names of a promise; one without a crate is of the crate that was named last."""
     claims, crate = [], ""
     for path in NAME.findall(text):
         first = path.split("::")[0]
         crate = first if first in crates else crate
         if crate and path != crate:
-            claims.append(Claim(page, crate, path))
+            claims.append(Claim("README", crate, path))
     return claims
 
 
 def entries_of(architecture: str, crates: list[str]) -> Iterator[tuple[str, str, str, str]]:
-    """The entries of what is decided where: the crate, what is decided, the functions on the program's way, and those
-    apart from it.
-    """
+    """What is decided where: the crate, what is decided, functions on the program's way, and those apart from it."""
     part = architecture.split("\n## Where is it decided", 1)[1].split("\n## ", 1)[0]
     for block in re.split(r"\n(?=- `)", part)[1:]:
         crate, *entries = re.split(r"\n {2}- ", block)
@@ -118,23 +104,17 @@ def entries_of(architecture: str, crates: list[str]) -> Iterator[tuple[str, str,
             yield crate.strip("- `\n"), what, on_way, apart
 
 
-def claims_of_entries(architecture: str, crates: list[str]) -> list[Claim]:
-    """The names in the entries: those that the program comes to, and those apart from its way."""
-    claims = []
-    for crate, _, on_way, apart in entries_of(architecture, crates):
+def claims_of_entries(architecture: str, crates: list[str]) -> tuple[list[Claim], list[Claim]]:
+    """The names in the entries, those that the program comes to and those apart from its way; and the spec files that
+    entries name in square brackets.
+    """
+    claims, specs = [], []
+    for crate, what, on_way, apart in entries_of(architecture, crates):
         claims += [Claim("architecture.md", crate, match, True) for match in NAME.findall(on_way)]
         claims += [Claim("architecture.md", crate, match) for match in NAME.findall(apart)]
-    return claims
-
-
-def specs_of_entries(architecture: str, crates: list[str]) -> list[Claim]:
-    """The spec files that the entries name in square brackets."""
-    return [
-        Claim("architecture.md", crate, spec)
-        for crate, what, _, _ in entries_of(architecture, crates)
-        for words in re.findall(r"\[([^\]]*)\](?!\()", what)
-        for _, spec in SPEC.findall(words)
-    ]
+        words = " ".join(re.findall(r"\[([^\]]*)\](?!\()", what))
+        specs += [Claim("architecture.md", crate, spec) for _, spec in SPEC.findall(words)]
+    return claims, specs
 
 
 def specs_of_definitions(definitions: str, crates: list[str]) -> list[Claim]:
@@ -178,7 +158,7 @@ def judged(root: Path) -> Iterator[tuple[str, bool]]:
     """Each thing that is looked at, and whether it is as it should be."""
     sources = Sources(root)
     architecture = (root / "docs/explanation/architecture.md").read_text()
-    claims = claims_of_entries(architecture, sources.names)
+    claims, specs = claims_of_entries(architecture, sources.names)
     for title, text in promises((root / "README.md").read_text()):
         named = claims_of_promise(text, sources.names)
         yield f"README: '{title}' names no function with a contract", any(map(sources.has_contract, named))
@@ -188,8 +168,8 @@ def judged(root: Path) -> Iterator[tuple[str, bool]]:
         if claim.on_way and sources.has(claim):
             said = f"{claim.page}: {PROGRAM} doesn't come to {claim.crate}'s {claim.name}"
             yield said, sources.walk.comes_to(claim.crate, claim.name)
-    specs = specs_of_definitions((root / "docs/explanation/definitions.md").read_text(), sources.names)
-    for claim in specs_of_entries(architecture, sources.names) + specs:
+    specs += specs_of_definitions((root / "docs/explanation/definitions.md").read_text(), sources.names)
+    for claim in specs:
         yield f"{claim.page}: {claim.crate} has no spec {claim.name}", sources.has_spec(claim)
     yield from judged_assurance(root, sources)
     yield from judged_tools(root, architecture)

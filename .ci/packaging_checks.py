@@ -17,14 +17,14 @@ import tempfile
 from pathlib import Path
 from typing import Callable, Iterator
 
-from installing import install
+from installing import PYTHON, install, lacking
 from packed import Packages, Skipped
+from repository import Count
 
 ROOT = Path(__file__).resolve().parent.parent
 COMMANDS = ("ttm", "ttm-tools")
 NEEDED = {"mmdebstrap": "mmdebstrap", "man": "man-db", "twine": "twine"}  # packages by the command that they have
 MODULES = {"sphinx": "python3-sphinx", "myst_parser": "python3-myst-parser"}  # of Python, for the HTML
-PYTHON = "/usr/bin/python3"  # that of Debian's packages
 PATH = os.environ["PATH"] + ":/usr/sbin"
 BASH = """source "$1"; COMP_WORDS=("${@:3}"); COMP_CWORD=$(($# - 3)); "$2"; echo "${COMPREPLY[*]}" """
 
@@ -74,7 +74,7 @@ def documents_are_there(of: Packages) -> None:
 
 def html_needs_no_network(of: Packages) -> None:
     """the pages are there as HTML, which loads nothing from elsewhere, and the tools find it"""
-    if lacking():
+    if lacking(MODULES):
         raise Skipped("no Sphinx or no MyST on this machine")
     folder = of.tree / "usr/share/doc/ttm/html"
     names = [path.relative_to(ROOT).with_suffix(".html") for path in (ROOT / "docs").rglob("*.md")]
@@ -143,11 +143,8 @@ def manuals_have_every_option(of: Packages) -> None:
     programs: tuple[list[object], ...] = ([of.program], [sys.executable, of.folder / "bin/ttm-tools"])
     for name, program in zip(COMMANDS, programs):
         page = of.share(f"man/man1/{name}.1.gz").replace("\\-", "-")
-        missing = [
-            match
-            for match in re.findall(r"(?<![\w-])--[a-z][\w-]*", of.output(*program, "--help"))
-            if match not in page
-        ]
+        options = re.findall(r"(?<![\w-])--[a-z][\w-]*", of.output(*program, "--help"))
+        missing = [option for option in options if option not in page]
         assert not missing, f"{name}.1: {missing}"
 
 
@@ -157,12 +154,9 @@ def manuals_are_read_without_warnings(of: Packages) -> None:
         raise Skipped("no man on this machine")
     for name in COMMANDS:
         page = of.tree / f"usr/share/man/man1/{name}.1.gz"
-        ran = subprocess.run(
-            ["man", "--warnings", "-E", "UTF-8", "-l", "-Tutf8", "-Z", page],
-            env={**os.environ, "LC_ALL": "C.UTF-8", "MANWIDTH": "100"},
-            capture_output=True,
-            text=True,
-        )
+        command = ["man", "--warnings", "-E", "UTF-8", "-l", "-Tutf8", "-Z", str(page)]
+        environment = {**os.environ, "LC_ALL": "C.UTF-8", "MANWIDTH": "100"}
+        ran = subprocess.run(command, env=environment, capture_output=True, text=True)
         assert (ran.returncode, ran.stderr) == (0, ""), ran.stderr
 
 
@@ -221,35 +215,17 @@ def installed_in_debian(of: Packages) -> None:
     of.install("debian")
 
 
-CHECKS: tuple[Callable[[Packages], None], ...] = (
-    same_bytes_again,
-    program_is_the_built_one,
-    every_file_in_both,
-    toolchain_is_named,
-    documents_are_there,
-    html_needs_no_network,
-    licence_and_changes_are_said,
-    lintian_finds_no_error,
-    sample_feed_is_taken,
-    tools_say_that_python_is_not_there,
-    folder_gives_the_example,
-    tools_of_the_folder_run,
-    control_says_what_is_needed,
-    manuals_have_every_option,
-    manuals_are_read_without_warnings,
-    words_are_completed,
-    wheel_says_what_an_index_asks,
-    wheel_is_installed_by_pip,
-    installed_by_dpkg,
-    installed_in_debian,
-)
+def checks() -> list[Callable[[Packages], None]]:
+    """The functions above that look at the packages, in their order."""
+    taken = {"of": Packages, "return": None}
+    return [item for item in list(globals().values()) if getattr(item, "__annotations__", None) == taken]
 
 
 def results(program: Path) -> Iterator[str]:
     """How each check ended: passed, failed or skipped."""
     with tempfile.TemporaryDirectory(prefix="ttm-packaging-") as folder:
         of = Packages(program, Path(folder))
-        for check in CHECKS:
+        for check in checks():
             try:
                 check(of)
                 yield "passed"
@@ -261,25 +237,18 @@ def results(program: Path) -> Iterator[str]:
                 yield "failed"
 
 
-def lacking() -> list[str]:
-    """The Debian packages of the modules that Python lacks."""
-    script = "import importlib.util, sys; print(*[it for it in sys.argv[1:] if importlib.util.find_spec(it) is None])"
-    found = subprocess.run([PYTHON, "-c", script, *MODULES], capture_output=True, text=True)
-    return [MODULES[text] for text in found.stdout.split()]
-
-
 def main() -> int:
     if len(sys.argv) != 2:
         sys.exit("usage: packaging_checks.py PROGRAM")
-    install([package for command, package in NEEDED.items() if not shutil.which(command, path=PATH)], lacking())
+    install([package for command, package in NEEDED.items() if not shutil.which(command, path=PATH)], lacking(MODULES))
     try:
         ended = list(results(Path(sys.argv[1]).resolve()))
     except (AssertionError, OSError, subprocess.SubprocessError) as fault:
         print(f"wrong: both packages are made: {fault}", flush=True)
         ended = ["failed"]
-    passed, failed, skipped = (ended.count(name) for name in ("passed", "failed", "skipped"))
-    print(f"{passed} passed, {failed} failed" + (f", {skipped} skipped" if skipped else ""))
-    return 1 if failed else 0
+    count = Count(*map(ended.count, ("passed", "failed", "skipped")))
+    print(count)
+    return 1 if count.failed else 0
 
 
 if __name__ == "__main__":

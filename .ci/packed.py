@@ -28,9 +28,8 @@ class Packages:
     @staticmethod
     def output(*command: object, **more: str) -> str:
         """What a command prints; its failure is a fault."""
-        ran = subprocess.run(
-            list(map(str, command)), env={**os.environ, **more}, capture_output=True, text=True, timeout=SECONDS
-        )
+        words, environment = list(map(str, command)), {**os.environ, **more}
+        ran = subprocess.run(words, env=environment, capture_output=True, text=True, timeout=SECONDS)
         if ran.returncode:
             raise AssertionError(f"{command[0]}: status {ran.returncode}: {ran.stderr}")
         return ran.stdout
@@ -48,9 +47,8 @@ class Packages:
 
     def install(self, kind: str) -> None:
         """Installs the package into a room of a kind, and runs the example there."""
-        ran = subprocess.run(
-            [PACKAGING / "try.sh", "--room", kind, self.deb], capture_output=True, text=True, timeout=SECONDS
-        )
+        command = [str(PACKAGING / "try.sh"), "--room", kind, str(self.deb)]
+        ran = subprocess.run(command, capture_output=True, text=True, timeout=SECONDS)
         if ran.returncode == NO_ROOM:
             raise Skipped(ran.stderr.strip())
         assert ran.returncode == 0, ran.stderr + ran.stdout

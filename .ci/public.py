@@ -11,12 +11,10 @@ import re
 from collections.abc import Iterator
 from pathlib import Path
 
+import calls
 import repository
 from edits import Edit
 
-WITHOUT = re.compile(r"_tests$|_trials$|^measure$")  # crates that promise nothing
-FUNCTION = re.compile(r"( *)(pub )?(?:(?:const|unsafe|final) )*fn (\w+)")
-IMPL = re.compile(r"impl\b(?:<.*?>(?= \w))? ?(?:[\w:]+(?:<.*>)? (for) )?(\w+)")
 TEST = re.compile(r"((?:[ \t]*///.*\n)*)(?:[ \t]*#\[.*\]\n)*[ \t]*#\[test\]\n")
 NAME = re.compile(r"`((?:\w+::)?\w+)`")
 LAWS = "laws"  # modules whose functions have nothing but a contract, which is a theorem
@@ -29,23 +27,14 @@ def functions_of(root: Path, crate: str) -> Iterator[tuple[str, str]]:
     """
     folder = root / "crates" / crate / "src"
     shown = shown_by(folder)
-    for file in repository.files_of(folder):
-        module = file.stem
-        if file.suffix != ".rt" or file.name in repository.test_modules(folder) or module == LAWS:
+    for file in repository.sources_of(root, crate):
+        if file.name in repository.test_modules(folder) or file.stem == LAWS:
             continue
-        owner, of_trait = "", False
-        lines = iter([line for line in file.read_text().splitlines() if not line.strip().startswith("//")])
-        for line in lines:
-            implemented = IMPL.match(line)
-            if line == "}" or implemented:
-                owner, of_trait = (implemented[2], bool(implemented[1])) if implemented else ("", False)
-            found = FUNCTION.match(line)
-            if not found:
-                continue
-            head = repository.head_of(line, lines, found[1])
-            if found[2] and not of_trait and (owner or found[3]) in shown and found[3] not in NOTHING:
-                if not head[-1].endswith("{}"):
-                    yield module, f"{owner}::{found[3]}" if owner else found[3]
+        for item in calls.items_of(crate, file):
+            owner, name = item.function.owner, item.function.name
+            is_shown = item.is_public and not item.function.of_trait and (owner or name) in shown
+            if is_shown and name not in NOTHING and not item.head[-1].endswith("{}"):
+                yield file.stem, f"{owner}::{name}" if owner else name
 
 
 def shown_by(folder: Path) -> set[str]:
@@ -57,10 +46,8 @@ def shown_by(folder: Path) -> set[str]:
 
 def named_by_tests(root: Path, crates: repository.Crates) -> set[str]:
     """The names in the first lines of the doc comments of all tests."""
-    files = [path for crate in crates for path in repository.files_of(root / "crates" / crate / "src")]
-    firsts = [
-        match.split("\n")[0] for file in files if file.suffix == ".rt" for match in TEST.findall(file.read_text())
-    ]
+    texts = [repository.source_of(root, crate) for crate in crates]
+    firsts = [match.split("\n")[0] for text in texts for match in TEST.findall(text)]
     return {name for line in firsts for name in NAME.findall(line)}
 
 
@@ -78,7 +65,7 @@ def judged(root: Path) -> Iterator[tuple[str, bool]]:
     crates = repository.crates_of(root)
     tests = named_by_tests(root, crates)
     for crate in crates:
-        if WITHOUT.search(crate):
+        if repository.PROMISE_NOTHING.search(crate):
             continue
         paths = repository.edits_of(root, crate) + repository.edits_of(root, crate, "planted")
         edits = {tuple(path.name.split(".")[:2]) for path in paths}

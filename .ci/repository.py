@@ -3,18 +3,44 @@
 from __future__ import annotations
 
 import re
+import subprocess
 from collections.abc import Iterable, Iterator
 from dataclasses import dataclass
 from pathlib import Path
+from typing import Any
+
+PROMISE_NOTHING = re.compile(r"_tests$|_trials$|^measure$")  # crates that only test or measure
+# how a command runs whose output is read as one text
+PIPED: dict[str, Any] = {
+    "stdin": subprocess.DEVNULL,
+    "stdout": subprocess.PIPE,
+    "stderr": subprocess.STDOUT,
+    "text": True,
+    "errors": "replace",
+}
+
+
+@dataclass(frozen=True)
+class Count:
+    """How many checks passed, failed, and were skipped."""
+
+    passed: int = 0
+    failed: int = 0
+    skipped: int = 0
+
+    def __add__(self, other: Count) -> Count:
+        return Count(self.passed + other.passed, self.failed + other.failed, self.skipped + other.skipped)
+
+    def __str__(self) -> str:
+        return f"{self.passed} passed, {self.failed} failed" + (f", {self.skipped} skipped" if self.skipped else "")
 
 
 @dataclass(frozen=True)
 class Crate:
     """A crate of crates.txt: its line there, and the crates of this repository right below it."""
 
-    name: str
     line: str
-    right_below: tuple[str, ...]
+    right_below: list[str]
 
 
 Crates = dict[str, Crate]
@@ -29,10 +55,8 @@ def name_in(line: str) -> str:
 def crates_of(root: Path) -> Crates:
     listed = (root / "crates.txt").read_text().splitlines()
     lines = {name_in(line): line for line in listed if name_in(line)}
-    return {
-        name: Crate(name, line, tuple(text for text in line.split(":")[1].split() if text in lines))
-        for name, line in lines.items()
-    }
+    lower = {name: line.split(":")[1].split() for name, line in lines.items()}
+    return {name: Crate(line, [text for text in lower[name] if text in lines]) for name, line in lines.items()}
 
 
 def below(crates: Crates, name: str) -> list[str]:
@@ -55,6 +79,14 @@ def files_of(folder: Path) -> list[Path]:
     return sorted(path for path in folder.rglob("*") if path.is_file()) if folder.is_dir() else []
 
 
+def sources_of(root: Path, crate: str) -> list[Path]:
+    return [path for path in files_of(root / "crates" / crate / "src") if path.suffix == ".rt"]
+
+
+def source_of(root: Path, crate: str) -> str:
+    return "\n".join(path.read_text() for path in sources_of(root, crate))
+
+
 def begins_a_body(line: str, indent: str) -> bool:
     heads = tuple(indent + name for name in (")", "pub", "fn", "const", "struct", "enum"))
     return line.endswith(("{}", ";")) or line == indent + "{" or line.startswith(heads) and line.endswith(" {")
@@ -74,16 +106,6 @@ def head_of(line: str, lines: Iterator[str], indent: str) -> list[str]:
     return head
 
 
-def header_of(line: str, lines: Iterator[str], indent: str) -> list[str]:
-    """A function's signature and clauses; what follows them is read and left out."""
-    header = head_of(line, lines, indent)
-    if header[-1].endswith("{"):
-        for line in lines:
-            if line == indent + "}":
-                break
-    return header
-
-
 def test_modules(folder: Path) -> set[str]:
     """The files of a crate that are read for its tests alone."""
     root = "\n".join(item.read_text() for item in [folder / "lib.rt", folder / "main.rt"] if item.is_file())
@@ -92,10 +114,10 @@ def test_modules(folder: Path) -> set[str]:
 
 def counted(judged: Iterable[tuple[str, bool]]) -> int:
     """Prints what isn't as it should be, and how many are; the exit status, 1 also if nothing was looked at."""
-    holds = []
+    count = Count()
     for what, right in judged:
-        holds.append(right)
+        count += Count(right, not right)
         if not right:
             print(f"FAILED: {what}")
-    print(f"{sum(holds)} passed, {len(holds) - sum(holds)} failed")
-    return 0 if holds and all(holds) else 1
+    print(count)
+    return 0 if count.passed and not count.failed else 1

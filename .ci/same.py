@@ -19,17 +19,6 @@ sys.path.insert(0, str(Path(__file__).resolve().parent.parent / "bench"))
 from small import FEED  # noqa: E402
 
 ROOT = Path(__file__).resolve().parent.parent
-OF_TESTS = [
-    "board_trials",
-    "edge_tests",
-    "growth_trials",
-    "matrix_tests",
-    "measure",
-    "network_tests",
-    "row_tests",
-    "surface_tests",
-    "table_tests",
-]
 BYTES = re.compile(r'b"((?:[^"\\]|\\.)*)"', re.DOTALL)
 LIMIT = re.compile(r"(?m)^(?:pub )?const (MOST_\w+|LANES): \w+ = ([\d_]+);")
 
@@ -48,33 +37,17 @@ STATED = [
 FILES_STATED = "Scenario files, at most {};"
 
 
-def source_of(root: Path, crate: str) -> str:
-    files = repository.files_of(root / "crates" / crate / "src")
-    return "\n".join(file.read_text() for file in files if file.suffix == ".rt")
-
-
-def byte_strings(source: str) -> set[str]:
-    """The texts of the literals of bytes."""
-    return {match.replace("\\\n", "").replace("\\n", "\n") for match in BYTES.findall(source)}
-
-
-def limits_of(sources: dict[str, str]) -> Iterator[tuple[str, str, int]]:
-    """The crate, the name and the number of each limit that a crate of the program declares."""
-    for crate, source in sources.items():
-        for name, number in LIMIT.findall(source) if crate not in OF_TESTS else ():
-            yield crate, name, int(number)
-
-
 def judged(root: Path) -> Iterator[tuple[str, bool]]:
     """Each thing that is looked at, and whether it is as it should be."""
-    sources = {item: source_of(root, item) for item in repository.crates_of(root)}
-    strings = byte_strings(sources["small_feed"])
+    sources = {item: repository.source_of(root, item) for item in repository.crates_of(root)}
+    strings = {match.replace("\\\n", "").replace("\\n", "\n") for match in BYTES.findall(sources["small_feed"])}
     for name, text in FEED.items():
         yield f"small_feed: {name}", text in strings
     limits: dict[str, int] = {}
-    for crate, name, number in limits_of(sources):
-        yield f"{crate}: {name} is declared once", name not in limits
-        limits[name] = number
+    for crate, source in sources.items():
+        for name, number in LIMIT.findall(source) if not repository.PROMISE_NOTHING.search(crate) else ():
+            yield f"{crate}: {name} is declared once", name not in limits
+            limits[name] = int(number)
     files = FILES_STATED.format(limits.get("MOST_SCENARIOS", 0) - 1)
     for text in [text.format(limits.get(name)) for text, name in STATED] + [files]:
         yield f"help: '{text}'", bool(re.search(re.escape(text) + r"(?!\d)", sources["command_line"]))

@@ -6,15 +6,13 @@ Most run over a stand-in for `rt`; the last goes through the toolchain itself.
 
 from __future__ import annotations
 
-import sys
 from pathlib import Path
 
 import pytest
 
-sys.path.insert(0, str(Path(__file__).resolve().parent))
-import edits  # noqa: E402
-import gate  # noqa: E402
-from small_repository import LOWER, Repository  # noqa: E402
+import edits
+import gate
+from small_repository import LOWER, Repository
 
 # what stands in for `rt`: it refuses each edit that adds another number, and notes what it was asked
 STAND_IN = """#!/bin/sh

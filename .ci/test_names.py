@@ -2,12 +2,10 @@
 
 from __future__ import annotations
 
-import sys
 from pathlib import Path
 
-sys.path.insert(0, str(Path(__file__).resolve().parent))
-import names  # noqa: E402
-from small_repository import LOWER, Repository  # noqa: E402
+import names
+from small_repository import LOWER, Repository
 
 README = (
     "# x\n\n## What is proved\n\n1. **Sums.** Added: `lower::bump`, `gone`.\n2. **Hopes.** `lower::bare`.\n\n## Else\n"
@@ -48,9 +46,8 @@ def wrong_names(root: Path, source: str) -> list[str]:
     repository.write("crates/ttm/src/main.rt", MAIN)
     repository.write("README.md", README)
     repository.write("docs/explanation/architecture.md", ENTRIES)
-    repository.write(
-        "docs/explanation/definitions.md", "**Sum.** What is added. [lower/Sums, Adds; seen in ttm/Seen]\n"
-    )
+    definition = "**Sum.** What is added. [lower/Sums, Adds; seen in ttm/Seen]\n"
+    repository.write("docs/explanation/definitions.md", definition)
     return [why for why, right in names.judged(root) if not right]
 
 
@@ -76,9 +73,8 @@ def test_a_name_that_is_not_there_or_has_no_contract_or_is_not_reached_is_report
 
 def test_modules_and_names_of_the_tools_that_are_not_there_are_reported(tmp_path: Path) -> None:
     (tmp_path / names.TOOLS).mkdir(parents=True)
-    (tmp_path / names.TOOLS / "days.py").write_text(
-        "MOST: int = 3\nLEAST = 1\n\n\ndef day_of() -> int:\n    return 1\n"
-    )
+    module = "MOST: int = 3\nLEAST = 1\n\n\ndef day_of() -> int:\n    return 1\n"
+    (tmp_path / names.TOOLS / "days.py").write_text(module)
     rows = "| days | `days.py` | `MOST`, `LEAST`, `day_of`, `day` |\n| others | `lost.py` | |\n"
     judged = list(names.judged_tools(tmp_path, f"\n## The tools\n\n{rows}\n## Folders\n\n| a | `b.py` | `c` |\n"))
     wrong = [why for why, right in judged if not right]

@@ -5,6 +5,8 @@ from pathlib import Path
 import pytest
 
 import tools_checks
+from installing import PYTHON
+from repository import Count
 
 TESTS = """\
 from pathlib import Path
@@ -25,22 +27,20 @@ def test_passes():
 """
 
 
-def counts_of(folder: Path, monkeypatch: pytest.MonkeyPatch, fails: bool) -> tools_checks.Counts:
+def count_of(folder: Path, monkeypatch: pytest.MonkeyPatch, fails: bool) -> Count:
     (folder / "tests").mkdir()
     (folder / "tests" / "test_late.py").write_text(TESTS.replace("{fails}", str(not fails)))
     monkeypatch.setattr(tools_checks, "ROOT", folder)
-    counts = tools_checks.Counts()
-    command = [tools_checks.PYTHON, "-m", "pytest", "-rfs", "-p", "no:cacheprovider"]
-    tools_checks.add_tests(counts, command, [], "tests")
-    return counts
+    command = [PYTHON, "-m", "pytest", "-rfs", "-p", "no:cacheprovider"]
+    return tools_checks.tested(command, [], "tests")
 
 
 def test_a_test_that_fails_once_is_named_and_passes(
     tmp_path: Path, monkeypatch: pytest.MonkeyPatch, capsys: pytest.CaptureFixture[str]
 ) -> None:
-    assert counts_of(tmp_path, monkeypatch, False) == tools_checks.Counts(4, 0, 0)
+    assert count_of(tmp_path, monkeypatch, False) == Count(4, 0, 0)
     assert "by themselves: test_late.py::test_fails_once[at - once], test_late.py" in capsys.readouterr()[0]
 
 
 def test_a_test_that_fails_again_fails(tmp_path: Path, monkeypatch: pytest.MonkeyPatch) -> None:
-    assert counts_of(tmp_path, monkeypatch, True) == tools_checks.Counts(3, 1, 0)
+    assert count_of(tmp_path, monkeypatch, True) == Count(3, 1, 0)

@@ -17,72 +17,42 @@ import re
 import shutil
 import subprocess
 import sys
-from dataclasses import dataclass
 from pathlib import Path
 
-from installing import install
+from installing import PYTHON, install, lacking
+from repository import PIPED, Count
 
 ROOT = Path(__file__).resolve().parent.parent
-PYTHON = "/usr/bin/python3"  # that of Debian's packages
 CHECKED = ["tools", "bench", ".ci", "packaging", "tests"]  # folders that pass all linters
 OF_PROGRAM = "tests/program"
 MOST_AGAIN = 3  # failed tests of a folder that are run again
 FAILED = re.compile(r"^FAILED ([^\s\[]+(?:\[.*?\])?)(?: - .*)?$", re.MULTILINE)
-COMMANDS = {"black": "black", "flake8": "flake8", "mypy": "mypy"}
-PACKAGES = {
-    "numpy": "python3-numpy",
-    "pandas": "python3-pandas",
-    "matplotlib": "python3-matplotlib",
-    "h5py": "python3-h5py",
-    "geopandas": "python3-geopandas",
-    "scipy": "python3-scipy",
-    "pytest": "python3-pytest",
-    "xdist": "python3-pytest-xdist",
-    "tqdm": "python3-tqdm",
-    "tables": "python3-tables",
-    "shapely": "python3-shapely",
-    "osmium": "python3-pyosmium",
-    "networkx": "python3-networkx",
-    "jinja2": "python3-jinja2",
-    "flask": "python3-flask",
-}
-BROWSER = {"selenium": "python3-selenium", "chromium": "chromium", "chromedriver": "chromium-driver"}  # large: the last
+COMMANDS = ("black", "flake8", "mypy")
+MODULES = "numpy pandas matplotlib h5py geopandas scipy pytest xdist tqdm tables shapely osmium networkx jinja2 flask"
+RENAMED = {"xdist": "pytest-xdist", "osmium": "pyosmium"}  # where Debian has another name
+PACKAGES = {name: f"python3-{RENAMED.get(name, name)}" for name in MODULES.split()}
+BROWSER = {"chromium": "chromium", "chromedriver": "chromium-driver"}  # large: the last, with selenium
 LEAFLET = Path("/usr/share/javascript/leaflet/leaflet.min.js"), "libjs-leaflet"
 
 
-@dataclass
-class Counts:
-    passed: int = 0
-    failed: int = 0
-    skipped: int = 0
-
-    def add(self, passed: int, failed: int, skipped: int) -> None:
-        self.passed, self.failed, self.skipped = self.passed + passed, self.failed + failed, self.skipped + skipped
-
-
-def lacking() -> list[str]:
+def lacking_tools() -> list[str]:
     """The Debian packages of what isn't there, but for the browser's."""
-    script = "import importlib.util, sys; print(*[it for it in sys.argv[1:] if importlib.util.find_spec(it) is None])"
-    found = subprocess.run([PYTHON, "-c", script, *PACKAGES], capture_output=True, text=True)
-    modules = [PACKAGES[name] for name in found.stdout.split()] if found.returncode == 0 else list(PACKAGES.values())
-    commands = [package for command, package in COMMANDS.items() if shutil.which(command) is None]
+    commands = [command for command in COMMANDS if shutil.which(command) is None]
     file, package = LEAFLET
-    return modules + commands + ([] if file.is_file() else [package])
+    return lacking(PACKAGES) + commands + ([] if file.is_file() else [package])
 
 
 def lacking_browser() -> list[str]:
     """The Debian packages of the browser that aren't there."""
-    found = {name: there(name) if name == "selenium" else shutil.which(name) for name in BROWSER}
-    return [package for name, package in BROWSER.items() if not found[name]]
+    commands = [package for command, package in BROWSER.items() if shutil.which(command) is None]
+    return lacking({"selenium": "python3-selenium"}) + commands
 
 
 def run(command: list[str], folder: Path) -> tuple[int, str]:
     """Runs a command, prints what it says, and gives its status and what it said."""
     path = ":".join(str(ROOT / item) for item in [*CHECKED, OF_PROGRAM])
     environment = {**os.environ, "PYTHONDONTWRITEBYTECODE": "1", "MYPYPATH": path}
-    ran = subprocess.run(
-        command, cwd=folder, env=environment, stdout=subprocess.PIPE, stderr=subprocess.STDOUT, text=True
-    )
+    ran = subprocess.run(command, cwd=folder, env=environment, **PIPED)
     print(ran.stdout, end="", flush=True)
     return ran.returncode, ran.stdout
 
@@ -97,8 +67,9 @@ def python_files(folders: list[str]) -> list[str]:
     return found
 
 
-def lint(counts: Counts) -> None:
+def lint() -> Count:
     """Each linter over the folders."""
+    count = Count()
     files, settings = python_files(CHECKED), "tools/pyproject.toml"
     mypy = ["mypy", "--strict", "--no-error-summary", "--cache-dir", os.devnull, "--config-file", settings]
     linters = [
@@ -109,12 +80,13 @@ def lint(counts: Counts) -> None:
     ]
     for name, command in linters:
         if shutil.which(name) is None:
-            print(f"1 check is skipped: {name} isn't installed (Debian: apt-get install {COMMANDS[name]})")
-            counts.add(0, 0, 1)
+            print(f"1 check is skipped: {name} isn't installed (Debian: apt-get install {name})")
+            count += Count(skipped=1)
             continue
         status, _ = run(command, ROOT)
         print(f"{name}: {'passed' if status == 0 else 'FAILED'}", flush=True)
-        counts.add(status == 0, status != 0, 0)
+        count += Count(status == 0, status != 0)
+    return count
 
 
 def packages() -> list[str]:
@@ -129,58 +101,54 @@ def there(*modules: str) -> bool:
     return subprocess.run([PYTHON, "-c", f"import {', '.join(modules)}"], stderr=subprocess.DEVNULL).returncode == 0
 
 
-def test(counts: Counts, program: str | None, without_browser: bool) -> None:
+def test(program: str | None, without_browser: bool) -> Count:
     """The tests that run this program; without one the others. Those of the gate take long, like a browser."""
     if not there("pytest", "numpy"):
         print("the tests of the tools are skipped: without python3-pytest and python3-numpy")
-        counts.add(0, 0, 1)
-        return
+        return Count(skipped=1)
     there("matplotlib.font_manager")  # lists the fonts, once for all processes: where that is slow, it is reported
     common = [PYTHON, "-m", "pytest", "-rfs", "-p", "no:cacheprovider"]
     at_once = ["-n", str(len(os.sched_getaffinity(0))), "--dist", "loadgroup"] if there("xdist") else []
     chosen = ["-m", "program", f"--program={Path(program).resolve()}"] if program else ["-m", "not program"]
-    add_tests(counts, [*common, *chosen], at_once, "tools")
+    count = tested([*common, *chosen], at_once, "tools")
     if program:
-        add_tests(counts, [*common, *chosen[2:]], at_once, OF_PROGRAM)
-    else:
-        add_tests(counts, common, [], "bench")
-        if not without_browser:
-            add_tests(counts, common, [], ".ci")
+        return count + tested([*common, *chosen[2:]], at_once, OF_PROGRAM)
+    for folder in ("bench",) if without_browser else ("bench", ".ci"):
+        count += tested(common, [], folder)
+    return count
 
 
-def add_tests(counts: Counts, command: list[str], at_once: list[str], folder: str) -> None:
+def tested(command: list[str], at_once: list[str], folder: str) -> Count:
     """Runs the tests of a folder, and counts what they say. Where few fail, these are run again by themselves."""
     status, said = run([*command, *at_once], ROOT / folder)
-    passed, failed, skipped = counted(status, said)
+    count = counted(status, said)
     tests = FAILED.findall(said)
-    if 1 <= failed == len(tests) <= MOST_AGAIN:
+    if 1 <= count.failed == len(tests) <= MOST_AGAIN:
         print(f"run again by themselves: {', '.join(tests)}", flush=True)
-        again, failed, _ = counted(*run([*command, *tests], ROOT / folder))
-        passed += again
-    counts.add(passed, failed, skipped)
+        again = counted(*run([*command, *tests], ROOT / folder))
+        return Count(count.passed + again.passed, again.failed, count.skipped)
+    return count
 
 
-def counted(status: int, said: str) -> tuple[int, int, int]:
+def counted(status: int, said: str) -> Count:
     """How many tests passed, failed and were skipped, by the last line of pytest."""
     last = said.splitlines()[-1] if said else ""
     found = {word: int(number) for number, word in re.findall(r"(\d+) (passed|failed|error|errors|skipped)\b", last)}
     failed = found.get("failed", 0) + found.get("error", 0) + found.get("errors", 0)
-    return found.get("passed", 0), max(failed, 1 if status else 0), found.get("skipped", 0)
+    return Count(found.get("passed", 0), max(failed, 1 if status else 0), found.get("skipped", 0))
 
 
 def main() -> int:
     argument = sys.argv[1] if len(sys.argv) > 1 else None
     without_browser = argument == "--no-browser"
     program = None if without_browser else argument
-    install(lacking(), [] if without_browser else lacking_browser())
-    missing, counts = lacking() + lacking_browser(), Counts()
+    install(lacking_tools(), [] if without_browser else lacking_browser())
+    missing = lacking_tools() + lacking_browser()
     if missing:
         print(f"what needs {', '.join(missing)} is skipped: it isn't installed")
-    if not program:
-        lint(counts)
-    test(counts, program, without_browser)
-    print(f"{counts.passed} passed, {counts.failed} failed, {counts.skipped} skipped")
-    return 1 if counts.failed else 0
+    count = (Count() if program else lint()) + test(program, without_browser)
+    print(f"{count.passed} passed, {count.failed} failed, {count.skipped} skipped")
+    return 1 if count.failed else 0
 
 
 if __name__ == "__main__":

@@ -17,9 +17,7 @@ import repository
 
 
 class Rooms:
-    """A folder for each crate, with a copy of it and of the crates below, whose libraries are built once and linked
-    into the other copies.
-    """
+    """A folder for each crate, with copies of it and of the crates below, whose libraries are built once and linked."""
 
     def __init__(self, root: Path, top: Path) -> None:
         self.root, self.top = root, top
@@ -73,9 +71,8 @@ def run_tasks(tasks: dict[str, Task], at_once: int) -> Iterator[edits.Outcome]:
     done: set[str] = set()
     with ThreadPoolExecutor(at_once) as pool:
         while waiting or running:
-            ready = sorted(
-                (name for name in waiting if waiting[name].after <= done), key=lambda name: waiting[name].rank
-            )
+            ready = [name for name in waiting if waiting[name].after <= done]
+            ready.sort(key=lambda name: waiting[name].rank)
             for name in ready[: at_once - len(running)]:
                 running[pool.submit(waiting.pop(name).call)] = name
             for ended in wait(running, return_when=FIRST_COMPLETED).done:
@@ -93,18 +90,15 @@ def try_all(root: Path, room: Path, paths: dict[str, list[Path]], jobs: int) -> 
     """
     rooms = Rooms(root, room)
     each = max(1, jobs // max(1, len(paths)))
+    below = {name: repository.below(rooms.crates, name) for name in rooms.crates}
     tasks: dict[str, Task] = {}
+    for rank, name in enumerate(paths):
+        for crate in below[name]:
+            needed = {f"library of {lower}" for lower in below[crate]}
+            tasks.setdefault(f"library of {crate}", Task(needed, (rank, 0), functools.partial(rooms.build, crate)))
     for rank, (name, own_paths) in enumerate(paths.items()):
-        lower = repository.below(rooms.crates, name)
-        own = {f"library of {crate_name}" for crate_name in lower}
-        for crate_name in lower:
-            needed = {f"library of {more}" for more in repository.below(rooms.crates, crate_name)}
-            tasks.setdefault(
-                f"library of {crate_name}", Task(needed, (rank, 0), functools.partial(rooms.build, crate_name))
-            )
-        tasks[f"edits of {name}"] = Task(own, (rank, 1), functools.partial(rooms.try_edits, name, own_paths, each))
-    for name in paths:
-        # a crate's room is laid out and worked in by one task at a time
-        if f"library of {name}" in tasks:
-            tasks[f"edits of {name}"].after.add(f"library of {name}")
+        # its own library, too: a crate's room is laid out and worked in by one task at a time
+        needed = {library for library in (f"library of {crate}" for crate in [name, *below[name]]) if library in tasks}
+        try_edits = functools.partial(rooms.try_edits, name, own_paths, each)
+        tasks[f"edits of {name}"] = Task(needed, (rank, 1), try_edits)
     yield from run_tasks(tasks, max(1, jobs))

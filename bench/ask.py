@@ -18,6 +18,7 @@ measured unless --parts names some:
 Times are the least of the rounds, each program in turns. It needs a program with --ask, and numpy and pandas.
 """
 import contextlib
+import itertools
 import random
 import subprocess
 import sys
@@ -27,8 +28,8 @@ from dataclasses import dataclass, replace
 from pathlib import Path
 from typing import Callable, Iterator, Sequence
 
-from goals import CELLS, DURATIONS, FROM_ON, Figure, printed
-from shared import DATE, Study, built, first_origins, parser_of, print_head, print_row, there, write_origins
+from goals import CELLS, DURATIONS, FROM_ON, Figure, print_figures, printed
+from shared import DATE, Study, built, first_origins, kilobytes, parser_of, parts_among, there, write_origins
 
 sys.path.insert(0, str(Path(__file__).resolve().parent.parent / "tools" / "src"))
 from ttm_tools import Network  # noqa: E402
@@ -49,8 +50,9 @@ class Setting:
     """What the command line asks for, and a folder for what is made meanwhile."""
 
     folders: dict[str, str]  # of the feeds, by their sizes
-    program: str
-    measure: str
+    program: str | None
+    measure: str | None
+    parts: list[str]
     rounds: int
     origins: int
     questions: int
@@ -65,17 +67,11 @@ class Setting:
         return [paths[stop] for stop in stops]
 
     def arguments(self, size: str, origins: str) -> list[str]:
-        """The words of a run."""
-        return [self.program, *Study().arguments(self.folders[size], origins, 1)]
+        return [self.program or built("ttm"), *Study().arguments(self.folders[size], origins, 1)]
 
-    @contextlib.contextmanager
-    def conversation(self, size: str, origins: str) -> Iterator[Conversation]:
+    def conversation(self, size: str, origins: str) -> contextlib.AbstractContextManager[Conversation]:
         """A conversation, whose own origins are those of a file."""
-        conversation = Conversation([*self.arguments(size, origins), "--ask"])
-        try:
-            yield conversation
-        finally:
-            conversation.close()
+        return contextlib.closing(Conversation([*self.arguments(size, origins), "--ask"]))
 
 
 def ask(conversation: Conversation, path: str, *more: str) -> Answer:
@@ -103,20 +99,12 @@ def answers(setting: Setting, size: str) -> Iterator[Figure]:
     with setting.conversation(size, paths[0]) as conversation:
         ask(conversation, paths[0])
         for _ in range(setting.rounds):
-            figures = printed([setting.measure, "rows", folder, DATE, *FROM_ON, *walks, listed])
+            figures = printed([setting.measure or built("measure"), "rows", folder, DATE, *FROM_ON, *walks, listed])
             row = min(row, (figures[DURATIONS] + figures[CELLS]) / 1000 / len(paths))
             millis = [timed(lambda: ask(conversation, path)) for path in paths]
             least = [min(pair) for pair in zip(least, millis)]
     what = f"an answer, ms, where durations and cells take {row:.1f}"
     yield Figure(what, size, sum(least) / len(least), OF_ROW * row + SIZES[size], False)
-
-
-def first_answer(setting: Setting, size: str, path: str) -> float:
-    """Milliseconds from the start of a process to its first answer."""
-    begun = time.monotonic()
-    with setting.conversation(size, path) as conversation:
-        ask(conversation, path)
-        return 1000 * (time.monotonic() - begun)
 
 
 def first(setting: Setting, size: str) -> Iterator[Figure]:
@@ -125,14 +113,15 @@ def first(setting: Setting, size: str) -> Iterator[Figure]:
     arguments, runs, spans = setting.arguments(size, path), list[float](), list[float]()
     for _ in range(setting.rounds):
         runs.append(timed(lambda: subprocess.run(arguments, stdout=subprocess.PIPE, check=True)))
-        spans.append(first_answer(setting, size, path))
+        begun = time.monotonic()
+        with setting.conversation(size, path) as conversation:
+            ask(conversation, path)
+            spans.append(1000 * (time.monotonic() - begun))
     yield Figure(f"the first answer, over a run of {min(runs):.0f} ms", size, min(spans) / min(runs), 1.0, False)
 
 
 def many(setting: Setting, size: str) -> Iterator[Figure]:
     """Answers a second of one departure."""
-    if size != "city":
-        return
     paths = setting.drawn(size, ANSWERS)
     with setting.conversation(size, paths[0]) as conversation:
         ask(conversation, paths[0], *ONE)
@@ -140,16 +129,8 @@ def many(setting: Setting, size: str) -> Iterator[Figure]:
     yield Figure("answers a second of one departure", size, 1000 * ANSWERS / min(whole), EACH_SECOND)
 
 
-def resident(process: int) -> int:
-    """Kilobytes that a process holds."""
-    lines = Path(f"/proc/{process}/status").read_text().splitlines()
-    return next(int(line.split()[1]) for line in lines if line.startswith("VmRSS:"))
-
-
 def memory(setting: Setting, size: str) -> Iterator[Figure]:
     """How the memory held grows; each tenth question is a fault."""
-    if size != "city":
-        return
     paths, held = setting.drawn(size, ANSWERS), 0
     with setting.conversation(size, paths[0]) as conversation:
         for number in range(setting.questions):
@@ -158,8 +139,8 @@ def memory(setting: Setting, size: str) -> Iterator[Figure]:
             else:
                 ask(conversation, paths[number % ANSWERS], *ONE)
             if number + 1 == FIRST:
-                held = resident(conversation.process.pid)
-        grown = resident(conversation.process.pid) / held
+                held = kilobytes(conversation.process.pid, "VmRSS")
+        grown = kilobytes(conversation.process.pid, "VmRSS") / held
     what = f"memory after {setting.questions:,} questions, over {held // 1000} MB after {FIRST}"
     yield Figure(what, size, grown, GROWTH, False)
 
@@ -176,6 +157,7 @@ def network(setting: Setting, size: str) -> Iterator[Figure]:
     yield Figure(what, size, max(millis[1:]) / 1000, SECONDS, False)
 
 
+OF_CITY = ("many", "memory")  # parts of the city alone
 PARTS: dict[str, Callable[[Setting, str], Iterator[Figure]]] = {
     "answers": answers,
     "first": first,
@@ -185,34 +167,25 @@ PARTS: dict[str, Callable[[Setting, str], Iterator[Figure]]] = {
 }
 
 
-def setting_of(arguments: Sequence[str] | None = None) -> tuple[Setting, list[str]]:
-    """What the arguments ask for, and the parts."""
-    parser = parser_of(__doc__)
+def setting_of(arguments: Sequence[str] | None = None) -> Setting:
+    parser = parser_of(__doc__, rounds=5, origins=20, questions=100_000)
     for size in SIZES:
         parser.add_argument(f"--{size}", metavar="FOLDER", help="an unpacked feed")
     parser.add_argument("--program", metavar="PATH", help="the built ttm (default: that of the clone)")
     parser.add_argument("--measure", metavar="PATH", help="the built measure (default: that of the clone)")
-    parser.add_argument("--parts", default=",".join(PARTS), help="which parts, divided by commas (default: all)")
-    for name, usual in (("rounds", 5), ("origins", 20), ("questions", 100_000)):
-        parser.add_argument(f"--{name}", metavar="N", type=int, default=usual, help=f"(default: {usual})")
-    given = parser.parse_args(arguments)
-    parts = given.parts.split(",")
-    if unknown := [name for name in parts if name not in PARTS]:
-        parser.error(f"no such part: {', '.join(unknown)}")
-    folders = {size: getattr(given, size) for size in SIZES if getattr(given, size)}
-    measure = given.measure or (built("measure") if "answers" in parts else "")
-    program = given.program or built("ttm")
-    return Setting(folders, program, measure, given.rounds, given.origins, given.questions), parts
+    which = "which parts, divided by commas (default: all)"
+    parser.add_argument("--parts", type=parts_among(PARTS), default=list(PARTS), help=which)
+    given = vars(parser.parse_args(arguments))
+    folders = {size: given.pop(size) for size in SIZES}
+    return Setting({size: folder for size, folder in folders.items() if folder}, **given)
 
 
 def main() -> None:
-    setting, parts = setting_of()
-    print_head(["figure", "feed", "measured", "goal", "met"])
     with tempfile.TemporaryDirectory() as place:
-        for part in parts:
-            for size in setting.folders:
-                for figure in PARTS[part](replace(setting, place=place), size):
-                    print_row(figure.cells())
+        setting = replace(setting_of(), place=place)
+        pairs = itertools.product(setting.parts, setting.folders)
+        chosen = ((part, size) for part, size in pairs if size == "city" or part not in OF_CITY)
+        print_figures(figure for part, size in chosen for figure in PARTS[part](setting, size))
 
 
 if __name__ == "__main__":

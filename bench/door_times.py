@@ -7,46 +7,30 @@ FOLDER gets what isn't there yet: the feed of `feedgen.py` (metro by default), t
 600,000 nodes, and 20,000 points, each about 300 metres from a stop. Printed are the time by the clock, that of the
 processor, and the peak memory of `ttm-tools points` and `ttm-tools walks`. It wants numpy, scipy and pyosmium.
 """
-import csv
 import shutil
 import subprocess
 import tempfile
-import time
 from pathlib import Path
 
 import numpy as np
 
-from shared import HERE, PYTHON, TOOLS, parser_of, wait_for
+from shared import HERE, PYTHON, parser_of, records_of, timed, write_lines
 
 
-def write_points(feed: Path, path: Path, count: int) -> None:
+def write_points(feed: Path, folder: Path, count: int) -> None:
     """Draws points around stops."""
-    with open(feed / "stops.txt", newline="", encoding="utf-8-sig") as file:
-        places = [(float(row["stop_lat"]), float(row["stop_lon"])) for row in csv.DictReader(file) if row["stop_lat"]]
+    stops = [row for row in records_of(feed / "stops.txt") if row["stop_lat"]]
+    places = np.array([(float(row["stop_lat"]), float(row["stop_lon"])) for row in stops])
     draw = np.random.default_rng(1)
-    chosen = np.array(places)[draw.integers(0, len(places), count)] + draw.normal(0, 0.0027, (count, 2))
-    with open(path, "w", newline="", encoding="utf-8") as file:
-        writer = csv.writer(file, lineterminator="\n")
-        writer.writerow(["id", "lat", "lon", "people"])
-        writer.writerows([f"p{n:05}", f"{a:.6f}", f"{b:.6f}", n % 90] for n, (a, b) in enumerate(chosen.tolist()))
-
-
-def timed(command: list[str]) -> str:
-    """Runs a command of the tools, and says what it took and reported."""
-    began = time.monotonic()
-    with subprocess.Popen([PYTHON, TOOLS, *command], stderr=subprocess.PIPE, text=True) as run:
-        assert run.stderr is not None
-        errors = run.stderr.read().strip().replace("\n", "; ")
-        ran = wait_for(run, began)
-    return f"{command[0]}: {ran}, status {ran.status}: {errors}"
+    chosen = places[draw.integers(0, len(places), count)] + draw.normal(0, 0.0027, (count, 2))
+    rows = (f"p{n:05},{a:.6f},{b:.6f},{n % 90}" for n, (a, b) in enumerate(chosen.tolist()))
+    write_lines(str(folder), "points.csv", "id,lat,lon,people", rows)
 
 
 def main() -> None:
-    parser = parser_of(__doc__)
+    parser = parser_of(__doc__, nodes=600_000, points=20_000)
     parser.add_argument("folder", type=Path)
     parser.add_argument("--size", default="metro")
-    parser.add_argument("--nodes", type=int, default=600_000)
-    parser.add_argument("--points", type=int, default=20_000)
     args = parser.parse_args()
     feed, streets, points = (args.folder / name for name in (args.size, "streets.osm.pbf", "points.csv"))
     args.folder.mkdir(parents=True, exist_ok=True)
@@ -58,13 +42,12 @@ def main() -> None:
         if not product.exists():
             subprocess.run([PYTHON, str(Path(HERE) / command[0]), *command[1:]], check=True)
     if not points.exists():
-        write_points(feed, points, args.points)
+        write_points(feed, args.folder, args.points)
     with tempfile.TemporaryDirectory(prefix="ttm-doors-", dir=args.folder) as room:
-        ways: list[list[str]] = [[], ["--streets", str(streets)]]
-        for more in ways:
-            out = Path(room) / "doors"
-            print(timed(["points", str(feed), str(points), "--out", str(out), *more]), flush=True)
-            print(timed(["walks", str(feed), "--out", str(Path(room) / "walks.csv"), *more]), flush=True)
+        out, walks = Path(room) / "doors", str(Path(room) / "walks.csv")
+        for more in (list[str](), ["--streets", str(streets)]):
+            print("points:", timed("points", str(feed), str(points), "--out", str(out), *more), flush=True)
+            print("walks:", timed("walks", str(feed), "--out", walks, *more), flush=True)
             shutil.rmtree(out, ignore_errors=True)
 
 

@@ -8,12 +8,13 @@ TOWN is the folder that `feedgen.py town TOWN` writes. The pictures are explore_
 explore_after.png; without --out they go to docs/images. Needs selenium, Chromium, Pillow, flask and jinja2.
 """
 
-import argparse
+import contextlib
 import io
 from pathlib import Path
 from typing import Iterator
 
-from explore_times import DATE, ROOT, served  # sets the path of the next one
+from shared import parser_of
+from explore_times import ROOT, served  # sets the path of the next one
 from browser import Browser
 
 START, ROUTE, EVERY = "B00170S", "0013 (L0013)", "6"  # minutes
@@ -59,26 +60,19 @@ def fewer_colours(picture: bytes) -> bytes:
 
 def make(town: Path, out: Path, program: str | None) -> None:
     """Writes the pictures into a folder."""
-    named = ["--program", program] if program else []
-    tables = ["--footpaths", str(town / "footpaths.csv"), "--opportunities", str(town / "opportunities.csv")]
-    with served([str(town), "--date", DATE, *tables, *named, "--no-browser"]) as (_, address):
-        browser = Browser()
-        try:
-            browser.size(*SIZE)
-            browser.visit(address)
-            for name, picture in zip(NAMES, pictures(browser)):
-                (out / name).write_bytes(fewer_colours(picture))
-        finally:
-            browser.close()
+    with served(town, program) as (_, address), contextlib.closing(Browser()) as browser:
+        browser.size(*SIZE)
+        browser.visit(address)
+        for name, picture in zip(NAMES, pictures(browser)):
+            (out / name).write_bytes(fewer_colours(picture))
 
 
 def main() -> None:
-    parser = argparse.ArgumentParser(description=__doc__, formatter_class=argparse.RawDescriptionHelpFormatter)
+    parser = parser_of(__doc__)
     parser.add_argument("town", type=Path)
     parser.add_argument("--out", type=Path, default=ROOT / "docs" / "images")
     parser.add_argument("--program")
-    args = parser.parse_args()
-    make(args.town, args.out, args.program)
+    make(**vars(parser.parse_args()))
 
 
 if __name__ == "__main__":

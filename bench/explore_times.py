@@ -9,15 +9,15 @@ The folders hold the feeds of `feedgen.py`. A click asks for 120 departures, 07:
 at most 4 trips and walks of 600 seconds; the metropolis has one service day. A time ends when the browser has painted
 the picture: two frames behind the drawing. Needs selenium, Chromium, flask and jinja2.
 """
-import argparse
 import contextlib
 import statistics
 import subprocess
 import sys
 import threading
-from dataclasses import dataclass
 from pathlib import Path
 from typing import Iterator
+
+from shared import DATE, TOOLS, first_origins, kilobytes, parser_of, print_head, print_row, run, write_origins
 
 ROOT = Path(__file__).resolve().parent.parent
 sys.path[:0] = [str(ROOT / "tools" / "tests"), str(ROOT / "tools" / "src")]
@@ -31,7 +31,6 @@ CHANGES = {
     "taken out": "{ do: 'remove_route', route: 2 }",
     "faster": "{ do: 'speed', route: 3, factor: '0.80' }",
 }
-DATE = "20260504"
 JOURNEY = (  # to another place, from the question to the list of its legs
     "const begin = performance.now(); journey.end = numbers.columns[Math.floor(head.columns / 2)]; await show();"
     "while (journey.key === '' || journey.found === null) await new Promise((it) => setTimeout(it, 5));"
@@ -42,21 +41,12 @@ PAINTED = "await new Promise((it) => requestAnimationFrame(() => requestAnimatio
 TIMED = f"const begin = performance.now(); await %s; {PAINTED} return performance.now() - begin;"
 
 
-def command_of(size: str, folder: Path, program: str | None) -> list[str]:
-    """The arguments of the server."""
-    days = ["--back", "0", "--ahead", "0"] if size == "metropolis" else []
-    window = ["--from", "07:00", "--to", "08:59", "--footpaths", str(folder / "footpaths.csv")]
-    counted = ["--opportunities", str(folder / "opportunities.csv")]
-    named = ["--program", program] if program else []
-    return [str(folder), "--date", DATE, *window, *counted, *days, *named, "--no-browser"]
-
-
 @contextlib.contextmanager
-def served(command: list[str]) -> Iterator["tuple[subprocess.Popen[str], str]"]:
-    """A server while the block runs, and its address."""
-    process = subprocess.Popen(
-        [sys.executable, str(ROOT / "tools" / "ttm-tools"), "explore", *command], stdout=-1, text=True
-    )
+def served(feed: Path, program: str | None, *more: str) -> Iterator["tuple[subprocess.Popen[str], str]"]:
+    """A server of a feed while the block runs, and its address."""
+    tables = ["--footpaths", str(feed / "footpaths.csv"), "--opportunities", str(feed / "opportunities.csv")]
+    words = [str(feed), "--date", DATE, *tables, *(["--program", program] if program else []), "--no-browser", *more]
+    process = subprocess.Popen([sys.executable, TOOLS, "explore", *words], stdout=subprocess.PIPE, text=True)
     try:
         assert process.stdout is not None
         yield process, process.stdout.readline().strip()
@@ -65,11 +55,10 @@ def served(command: list[str]) -> Iterator["tuple[subprocess.Popen[str], str]"]:
         process.wait(30)
 
 
-def resident(process: int) -> int:
-    """MB of a process and of those that it began, at most until now."""
-    lines = Path(f"/proc/{process}/status").read_text().splitlines()
-    own = next((int(line.split()[1]) for line in lines if line.startswith("VmHWM:")), 0) // 1000
-    return own + sum(map(resident, children(process)))
+def megabytes(process: int, what: str = "VmHWM", file: str = "status") -> int:
+    """MB of a process and of those that it began: at most until now, or what else a file of /proc says."""
+    own = kilobytes(process, what, file) // 1000
+    return own + sum(megabytes(child, what, file) for child in children(process))
 
 
 def children(process: int) -> list[int]:
@@ -84,17 +73,14 @@ def run_like(server: int, feed: Path) -> int:
     kept = next([item for item in some if item not in ("--report", "--ask")] for some in commands if "--ask" in some)
     for name, value in {"--from": "07:00", "--to": "08:59", "--share": "10,25,50,75,90"}.items():
         kept[kept.index(name) + 1] = value
-    ran = subprocess.run(
-        ["/usr/bin/time", "-f", "%M", *kept, "--origins", str(one_origin(feed))], capture_output=True, text=True
-    )
-    return int(ran.stderr.split()[-1]) // 1000
+    path = str(feed / "one_origin.csv")
+    write_origins(path, first_origins(str(feed), 1))
+    return run([*kept, "--origins", path], stdout=subprocess.DEVNULL, stderr=subprocess.DEVNULL).kilobytes // 1000
 
 
-def one_origin(feed: Path) -> Path:
-    """A file with the feed's first stop."""
-    path = feed / "one_origin.csv"
-    path.write_text("\n".join((feed / "origins.csv").read_text().splitlines()[:2]) + "\n")
-    return path
+def above_run(server: int, feed: Path) -> int:
+    """MB that a server and the processes that it began took at most, above those of a run."""
+    return megabytes(server) - run_like(server, feed)
 
 
 def clicks(browser: Browser, count: int) -> list[float]:
@@ -128,107 +114,83 @@ def slides(browser: Browser) -> list[float]:
     return [float(browser.awaited(TIMED % change)) for change in changes]
 
 
-def measure(size: str, folder: Path, count: int, program: str | None) -> Iterator[str]:
+def measure(size: str, folder: Path, count: int, program: str | None) -> Iterator[list[str]]:
     """The rows of a feed."""
-    command, goal = command_of(size, folder, program), CHANGE if size == "city" else None
-    with served(command) as (process, address):
-        browser = Browser()
+    days = ["--back", "0", "--ahead", "0"] if size == "metropolis" else []
+    server = served(folder, program, "--from", "07:00", "--to", "08:59", *days)
+    with server as (process, address), contextlib.closing(Browser()) as browser:
         browser.driver.set_script_timeout(LONGEST)
-        try:
-            browser.visit(address)
-            clicks(browser, 3)
-            found = clicks(browser, count + 4)
-            yield row(size, "click to picture, median, ms", statistics.median(found), GOALS[size])
-            yield row(size, "click to picture, the longest, ms", max(found), None)
-            yield row(size, "slider without a search, median, ms", statistics.median(slides(browser)), SLIDE)
-            millis, questions = rushed(browser)
-            yield row(size, "a hundred clicks a second: the last one to its picture, ms", millis, 2 * GOALS[size])
-            yield row(size, "questions that they asked", questions, None)
-            browser.awaited("await routes.read_;")
-            yield row(size, "memory above a run, MB", resident(process.pid) - run_like(process.pid, folder), MEMORY)
-            for name, action in CHANGES.items():
-                yield row(size, f"a route {name}, ms", browser.awaited(TIMED % f"routes.add({action})"), goal)
-            yield row(size, "slider in a difference, median, ms", statistics.median(slides(browser)), SLIDE)
-            above = resident(process.pid) - run_like(process.pid, folder)
-            yield row(size, "memory above a run with the changes, MB", above, MEMORY)
-            yield from further(size, browser, process.pid, folder)
-        finally:
-            browser.close()
+        browser.visit(address)
+        clicks(browser, 3)
+        found = clicks(browser, count + 4)
+        yield row(size, "click to picture, median, ms", statistics.median(found), GOALS[size])
+        yield row(size, "click to picture, the longest, ms", max(found))
+        yield row(size, "slider without a search, median, ms", statistics.median(slides(browser)), SLIDE)
+        millis, questions = rushed(browser)
+        yield row(size, "a hundred clicks a second: the last one to its picture, ms", millis, 2 * GOALS[size])
+        yield row(size, "questions that they asked", questions)
+        browser.awaited("await routes.read_;")
+        yield row(size, "memory above a run, MB", above_run(process.pid, folder), MEMORY)
+        for name, action in CHANGES.items():
+            millis = browser.awaited(TIMED % f"routes.add({action})")
+            yield row(size, f"a route {name}, ms", millis, CHANGE if size == "city" else None)
+        yield row(size, "slider in a difference, median, ms", statistics.median(slides(browser)), SLIDE)
+        yield row(size, "memory above a run with the changes, MB", above_run(process.pid, folder), MEMORY)
+        yield from further(size, browser, process.pid, folder)
 
 
-def further(size: str, browser: Browser, server: int, folder: Path) -> Iterator[str]:
+def further(size: str, browser: Browser, server: int, folder: Path) -> Iterator[list[str]]:
     """The rows of what isn't asked at each click: two networks at once, and journeys."""
-    with watched(server) as most:
+    with watched(server) as seen:
         browser.awaited("await routes.undo();")
-    run = run_like(server, folder)
-    yield row(size, "memory above a run while a network begins, MB", most.whole - run, None)
-    yield row(size, "of it the server itself, MB", most.server, MEMORY)
-    yield row(size, "of it both conversations above a run, MB", most.whole - most.server - run, None)
+    (whole, own), least = max(seen), run_like(server, folder)
+    yield row(size, "memory above a run while a network begins, MB", whole - least)
+    yield row(size, "of it the server itself, MB", own, MEMORY)
+    yield row(size, "of it both conversations above a run, MB", whole - own - least)
     for name, change in (("with changes", ""), ("as it is", "await routes.change({ actions: [], walk: live.walk });")):
         script = f"{change} await set({{ place: numbers.columns[5] }}); {JOURNEY}"
-        yield row(size, f"a journey of the feed {name}, ms", browser.awaited(script), None)
-        above = resident(server) - run_like(server, folder)
-        yield row(size, f"memory above a run with journeys of the feed {name}, MB", above, MEMORY)
-
-
-@dataclass
-class Most:
-    """The most memory that was seen, in MB: of a process with those that it began, and of it alone at that moment."""
-
-    whole: int = 0
-    server: int = 0
+        yield row(size, f"a journey of the feed {name}, ms", browser.awaited(script))
+        what = f"memory above a run with journeys of the feed {name}, MB"
+        yield row(size, what, above_run(server, folder), MEMORY)
 
 
 @contextlib.contextmanager
-def watched(server: int) -> Iterator[Most]:
-    """While the block runs: memory of a process and of those that it began, at most, each page of memory once."""
-    most, is_over = Most(), threading.Event()
+def watched(server: int) -> Iterator[list[tuple[int, int]]]:
+    """MB of a process with those that it began, each page of memory once, and of it alone, again and again while the
+    block runs.
+    """
+    seen, is_over = [(0, 0)], threading.Event()
 
     def watch() -> None:
         while not is_over.wait(0.05):
             with contextlib.suppress(OSError):  # of a process that ends
-                whole = shared_out(server)
-                if whole > most.whole:
-                    most.whole, most.server = whole, own_share(server)
+                own = kilobytes(server, "Pss", "smaps_rollup") // 1000
+                seen.append((megabytes(server, "Pss", "smaps_rollup"), own))
 
     watcher = threading.Thread(target=watch)
     watcher.start()
     try:
-        yield most
+        yield seen
     finally:
         is_over.set()
         watcher.join()
 
 
-def shared_out(process: int) -> int:
-    """MB of a process and of those that it began now."""
-    return own_share(process) + sum(map(shared_out, children(process)))
-
-
-def own_share(process: int) -> int:
-    """MB of a process now; what several have in common is shared out among them."""
-    lines = Path(f"/proc/{process}/smaps_rollup").read_text().splitlines()
-    return next((int(line.split()[1]) for line in lines if line.startswith("Pss:")), 0) // 1000
-
-
-def row(size: str, what: str, value: float, goal: float | None) -> str:
-    goal_stated = "" if goal is None else f"at most {goal:,.0f}"
-    return f"| {size} | {what} | {value:,.0f} | {goal_stated} |"
+def row(size: str, what: str, value: float, goal: float | None = None) -> list[str]:
+    return [size, what, f"{value:,.0f}", "" if goal is None else f"at most {goal:,.0f}"]
 
 
 def main() -> None:
-    parser = argparse.ArgumentParser(description=__doc__, formatter_class=argparse.RawDescriptionHelpFormatter)
+    parser = parser_of(__doc__, clicks=20)
     for size in GOALS:
         parser.add_argument(f"--{size}", type=Path)
-    parser.add_argument("--clicks", type=int, default=20)
     parser.add_argument("--program")
     args = parser.parse_args()
-    print("| Feed | What | Figure | Goal |\n|---|---|---:|---|", flush=True)
+    print_head(["Feed", "What", "Figure", "Goal"])
     for size in GOALS:
-        folder = getattr(args, size)
-        if folder is not None:
-            for line in measure(size, folder, args.clicks, args.program):
-                print(line, flush=True)
+        if folder := getattr(args, size):
+            for cells in measure(size, folder, args.clicks, args.program):
+                print_row(cells)
 
 
 if __name__ == "__main__":

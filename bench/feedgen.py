@@ -30,7 +30,7 @@ from typing import Iterator, Sequence
 
 from made_lines import Line, Size, draw_lines
 from made_region import draw_region
-from made_streets import Cell, Stop, Stops, Streets, draw_streets, stops_of
+from made_streets import Cell, Stop, Stops, Streets, draw_streets, station_at, stops_of
 from made_trips import courses_of, routes_of, write_stop_times
 from shared import parser_of, write_lines
 
@@ -67,7 +67,7 @@ def footpaths(stops: Sequence[Stop]) -> Iterator[str]:
 
 def write_places(folder: str, stops: Stops, change: int) -> None:
     """Writes stops.txt, where stations come first, and transfers.txt, with a change time of each stop that isn't 0."""
-    stations = [stops.stations[node].name for node in sorted(stops.stations)]
+    stations = [station_at(node) for node in sorted(stops.stations)]
     rows = [f'{name},"Station, {name}",,,1,' for name in stations]
     for stop in stops.stops:
         latitude, longitude = 51.5 + stop.north / 111320, -0.1 + stop.east / 69300
@@ -80,11 +80,9 @@ def write_places(folder: str, stops: Stops, change: int) -> None:
 
 def weekdays_between(first: str, last: str) -> Iterator[str]:
     """The Mondays to Fridays from one date to another."""
-    day = datetime.strptime(first, "%Y%m%d")
-    while day <= datetime.strptime(last, "%Y%m%d"):
-        if day.weekday() < 5:
-            yield day.strftime("%Y%m%d")
-        day += timedelta(days=1)
+    day, end = (datetime.strptime(text, "%Y%m%d") for text in (first, last))
+    days = (day + timedelta(number) for number in range((end - day).days + 1))
+    return (day.strftime("%Y%m%d") for day in days if day.weekday() < 5)
 
 
 def write_routes_and_days(folder: str, lines: Sequence[Line]) -> None:
@@ -135,18 +133,16 @@ def write_feed(name: str, seed: int, folder: str, change: int = 0) -> str:
     streets, lines = draw_place(name, rnd)
     stops = stops_of(streets, (node for line in lines if line.is_rail for node in line.nodes))
     with open(os.path.join(folder, "stop_times.txt"), "w", newline="") as file:
-        trips = write_stop_times(file, courses_of(streets, stops, lines), rnd)
+        trips, events = write_stop_times(file, courses_of(streets, stops, lines), rnd)
     write_places(folder, stops, change)
     write_routes_and_days(folder, lines)
-    write_lines(folder, "trips.txt", "route_id,service_id,trip_id,direction_id", trips.records)
+    write_lines(folder, "trips.txt", "route_id,service_id,trip_id,direction_id", trips)
     walks = list(footpaths(stops.stops))
     write_lines(folder, "footpaths.csv", "from_stop_id,to_stop_id,seconds", walks)
     write_own_files(folder, stops.stops, REGION_ORIGINS if name == REGION else SIZES[name].origins, rnd)
-    write_scenarios(folder, routes_of(lines), trips.records, rnd)
-    counts = {"stops": len(stops.stops), "stations": len(stops.stations), "routes": len(lines)}
-    counts.update({"trips": len(trips.records), "stop_times": trips.events, "direct footpaths": len(walks)})
-    counts_stated = ", ".join(f"{what} {count}" for what, count in counts.items())
-    return f"size {name} seed {seed}: {counts_stated}\n"
+    write_scenarios(folder, routes_of(lines), trips, rnd)
+    counts = f"stops {len(stops.stops)}, stations {len(stops.stations)}, routes {len(lines)}, trips {len(trips)}"
+    return f"size {name} seed {seed}: {counts}, stop_times {events}, direct footpaths {len(walks)}\n"
 
 
 def main() -> None:

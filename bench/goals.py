@@ -24,15 +24,17 @@ says how many origins a feed has at most: else the first 200 of the city's origi
 origins1000.csv, 100 of the town's origins100.csv and of the region's origins300.csv.
 Standard library only; Linux.
 """
+import itertools
 import os
 import re
 import subprocess
 import tempfile
 from dataclasses import dataclass, replace
-from typing import Any, Callable, Iterator, Sequence
+from typing import Any, Callable, Iterable, Iterator, Sequence
 
 import ratios
-from shared import DATE, Study, built, parser_of, print_head, print_row, run_into, there, write_origins
+from growth import in_turns
+from shared import DATE, Study, built, parser_of, parts_among, print_head, print_row, there
 from variants import every_third_trip, with_changes, with_drawn_order
 
 FILES = {
@@ -41,7 +43,15 @@ FILES = {
     "metropolis": ("origins1000.csv", 60),
     "region": ("origins300.csv", 100),
 }
-NEEDED = ("town", "city", "metropolis")
+Goals = dict[
+    str, tuple[float, float | None]
+]  # of times as fast as another program, by its name: the least, and the aim
+OF_PEERS: dict[str, Goals] = {
+    "town": {"b": (2.4, 3.0), "beside": (1.0, None)},
+    "city": {"a": (8.5, 10.0), "b": (2.4, 3.0), "beside": (1.0, None)},
+    "metropolis": {"a": (7.0, 10.0), "b": (3.2, None), "beside": (1.0, None)},
+}
+OF_SPARSE: Goals = {"b": (1.8, 2.5), "beside": (1.0, None)}
 WHOLE_DAY = 1440  # departures
 CHANGE = 90  # seconds
 FROM_ON = ["07:00:00", "120", "4", "600"]
@@ -60,11 +70,17 @@ class Figure:
     aim: float | None = None
 
     def cells(self) -> list[str]:
-        """The cells of its row."""
         met = self.value >= self.goal if self.at_least else self.value <= self.goal
         goal = f"{'at least' if self.at_least else 'at most'} {self.goal:g}"
         aim = f", aim {self.aim:g}" if self.aim else ""
         return [self.what, self.feed, f"{self.value:.2f}", goal + aim, "yes" if met else "no"]
+
+
+def print_figures(figures: Iterable[Figure]) -> None:
+    """Prints figures as soon as they are measured."""
+    print_head(["figure", "feed", "measured", "goal", "met"])
+    for figure in figures:
+        print_row(figure.cells())
 
 
 @dataclass(frozen=True)
@@ -74,7 +90,7 @@ class GoalOptions:
     folders: dict[str, str]  # of the feeds, by their sizes
     peers: str | None
     beside: str | None
-    parts: Sequence[str]
+    parts: list[str]
     origins: int | None
     times: int
     place: str = ""
@@ -87,7 +103,6 @@ class GoalOptions:
         return replace(plain, **more)
 
     def origins_of(self, size: str) -> list[str]:
-        """A feed's origins."""
         return self.of(size).origins_of(self.folders[size])
 
     def means(self, size: str, folder: str, **more: Any) -> dict[str, float]:
@@ -97,9 +112,7 @@ class GoalOptions:
             return ratios.means_of(folder, options, ratios.programs_of(options, place), place)
 
 
-def beside_peers(
-    options: GoalOptions, size: str, feed: str, folder: str, goals: dict[str, tuple[float, float | None]]
-) -> Iterator[Figure]:
+def beside_peers(options: GoalOptions, size: str, feed: str, folder: str, goals: Goals) -> Iterator[Figure]:
     """Durations of a feed beside each peer, or other program, that there is a goal for."""
     if not options.peers and not options.beside:
         return
@@ -111,24 +124,20 @@ def beside_peers(
 
 def peers(options: GoalOptions) -> Iterator[Figure]:
     """Durations of the feeds as made, beside the peers and beside another program."""
-    yield from beside_peers(options, "town", "town", options.folders["town"], {"b": (2.4, 3.0), "beside": (1.0, None)})
-    goals = {"a": (8.5, 10.0), "b": (2.4, 3.0), "beside": (1.0, None)}
-    yield from beside_peers(options, "city", "city", options.folders["city"], goals)
-    goals = {"a": (7.0, 10.0), "b": (3.2, None), "beside": (1.0, None)}
-    yield from beside_peers(options, "metropolis", "metropolis", options.folders["metropolis"], goals)
+    for size, goals in OF_PEERS.items():
+        yield from beside_peers(options, size, size, options.folders[size], goals)
 
 
 def sparse(options: GoalOptions) -> Iterator[Figure]:
     """Durations of feeds with long headways, beside the same."""
-    goals: dict[str, tuple[float, float | None]] = {"b": (1.8, 2.5), "beside": (1.0, None)}
     for size in ("town", "city") if options.peers or options.beside else ():
         thinned = every_third_trip(options.folders[size], options.place)
-        yield from beside_peers(options, size, size + ", every third trip", thinned, goals)
+        yield from beside_peers(options, size, size + ", every third trip", thinned, OF_SPARSE)
     if options.folders["region"]:
-        yield from beside_peers(options, "region", "region", options.folders["region"], goals)
+        yield from beside_peers(options, "region", "region", options.folders["region"], OF_SPARSE)
 
 
-def in_turns(options: GoalOptions, size: str, folders: Sequence[str]) -> list[float]:
+def means_in_turns(options: GoalOptions, size: str, folders: Sequence[str]) -> list[float]:
     """The mean milliseconds of variants of a feed, each the least of its runs, in turns."""
     runs = [[options.means(size, folder, times=1)["ttm"] for folder in folders] for _ in range(options.times)]
     return [min(item) for item in zip(*runs)]
@@ -138,7 +147,7 @@ def order(options: GoalOptions) -> Iterator[Figure]:
     """A drawn order of stops, over the order as made."""
     for size in ("city", "metropolis"):
         folder = options.folders[size]
-        given, drawn = in_turns(options, size, [folder, with_drawn_order(folder, options.place)])
+        given, drawn = means_in_turns(options, size, [folder, with_drawn_order(folder, options.place)])
         yield Figure("stops in a drawn order, over the order as made", size, drawn / given, 1.05, False)
 
 
@@ -155,33 +164,9 @@ def windows(options: GoalOptions) -> Iterator[Figure]:
 def changes(options: GoalOptions) -> Iterator[Figure]:
     """Change times at each stop, over none."""
     folder = options.folders["city"]
-    none, some = in_turns(options, "city", [with_changes(folder, options.place, seconds) for seconds in (0, CHANGE)])
+    folders = [with_changes(folder, options.place, seconds) for seconds in (0, CHANGE)]
+    none, some = means_in_turns(options, "city", folders)
     yield Figure(f"change times of {CHANGE} s at each stop, over none", "city", some / none, 1.3, False)
-
-
-@dataclass
-class Rows:
-    """The least seconds and the most memory of runs of `ttm` over a feed."""
-
-    seconds: float  # of the rows alone
-    peak: int  # in MB
-
-
-def rows_of(options: GoalOptions, size: str, studies: Sequence[tuple[Study, int]]) -> list[Rows]:
-    """Each study, by so many workers, in turns: its rows' part is the run less that of the same without origins."""
-    origins, none, matrix = (os.path.join(options.place, name) for name in ("origins.csv", "none.csv", "matrix.csv"))
-    write_origins(origins, options.origins_of(size))
-    write_origins(none, [])
-    whole = [float("inf")] * len(studies)
-    rest = list(whole)
-    peak = [0] * len(studies)
-    for _ in range(options.times):
-        for i, (study, workers) in enumerate(studies):
-            ran = run_into([built("ttm"), *study.arguments(options.folders[size], origins, workers)], matrix)
-            without = run_into([built("ttm"), *study.arguments(options.folders[size], none, workers)], matrix)
-            whole[i], rest[i] = min(whole[i], ran.seconds), min(rest[i], without.seconds)
-            peak[i] = max(peak[i], ran.peak)
-    return [Rows(a - b, most) for a, b, most in zip(whole, rest, peak)]
 
 
 def printed(arguments: Sequence[str]) -> dict[str, int]:
@@ -207,8 +192,9 @@ def days(options: GoalOptions) -> Iterator[Figure]:
 
 def workers(options: GoalOptions) -> Iterator[Figure]:
     """Four workers, and what each of the three more holds."""
-    one, four = rows_of(options, "metropolis", [(Study(), 1), (Study(), 4)])
-    yield Figure("rows by four workers, times as fast as by one", "metropolis", one.seconds / four.seconds, 3.5)
+    studies, origins = [(Study(), 1), (Study(), 4)], options.origins_of("metropolis")
+    one, four = in_turns(options.folders["metropolis"], origins, studies, options.times, options.place)
+    yield Figure("rows by four workers, times as fast as by one", "metropolis", one.rows / four.rows, 3.5)
     yield Figure("MB of each worker more", "metropolis", (four.peak - one.peak) / 3, 60, False)
 
 
@@ -240,30 +226,22 @@ PARTS: dict[str, Callable[[GoalOptions], Iterator[Figure]]] = {
 
 
 def options_of(arguments: Sequence[str] | None = None) -> GoalOptions:
-    """What the arguments ask for."""
-    parser = parser_of(__doc__)
+    parser = parser_of(__doc__, times=3)
     for size in FILES:
-        parser.add_argument("--" + size, metavar="FOLDER", required=size in NEEDED, help="an unpacked feed")
+        parser.add_argument("--" + size, metavar="FOLDER", required=size != "region", help="an unpacked feed")
     parser.add_argument("--peers", metavar="FOLDER", help="a folder of Rust peers, as of ratios.py")
     parser.add_argument("--beside", metavar="PROGRAM", help="the program of crates/measure as another commit builds it")
-    parser.add_argument("--parts", default=",".join(PARTS), help="which parts, divided by commas (default: all)")
+    which = "which parts, divided by commas (default: all)"
+    parser.add_argument("--parts", type=parts_among(PARTS), default=list(PARTS), help=which)
     parser.add_argument("--origins", metavar="N", type=int, help="at most so many origins of each feed")
-    parser.add_argument("--times", metavar="N", type=int, default=3, help="runs of each program (default: 3)")
-    given = parser.parse_args(arguments)
-    parts = given.parts.split(",")
-    if unknown := [name for name in parts if name not in PARTS]:
-        parser.error(f"no such part: {', '.join(unknown)}")
-    folders = {size: getattr(given, size) for size in FILES}
-    return GoalOptions(folders, given.peers, given.beside, parts, given.origins, given.times)
+    given = vars(parser.parse_args(arguments))
+    return GoalOptions({size: given.pop(size) for size in FILES}, **given)
 
 
 def main() -> None:
-    options = options_of()
-    print_head(["figure", "feed", "measured", "goal", "met"])
     with tempfile.TemporaryDirectory() as place:
-        for part in options.parts:
-            for figure in PARTS[part](replace(options, place=place)):
-                print_row(figure.cells())
+        options = replace(options_of(), place=place)
+        print_figures(itertools.chain.from_iterable(PARTS[part](options) for part in options.parts))
 
 
 if __name__ == "__main__":

@@ -134,19 +134,29 @@ class Trial:
         finally:
             os.chdir(here)
 
+    def wanted(self, arguments: Sequence[str]) -> str:
+        """What is printed where nothing is refused."""
+        matrix = self.matrix(arguments)
+        assert matrix is not None
+        return matrix
+
     def refuse_each(self, arguments: Sequence[str], what: str, slow: bool = False) -> int:
         """Refuses the first call of a kind, the second, and so on, until a run has fewer; gives how many there were."""
-        wanted, (status, line) = self.matrix(arguments), TOLD[what]
-        assert wanted is not None
+        wanted = self.wanted(arguments)
         for number in itertools.count(1):
             answer, came = self.run_refused(arguments, what, number, slow=slow)
+            right = answer == (0, wanted, "") or (came and self.is_right(what, answer, wanted))
+            self.judge(f"{what} {number}{'' if came else ', none'} refused", right, answer)
             if not came:
-                self.judge(f"{what} {number}, none refused", answer == (0, wanted, ""), answer)
                 break
-            short = answer[0] == status and re.fullmatch(line, answer[2]) and wanted.startswith(answer[1])
-            right = answer == (0, wanted, "") or bool(short and (what == "write" or not answer[1]))
-            self.judge(f"{what} {number} refused", right, answer)
         return number - 1
+
+    def is_right(self, what: str, answer: Answer, wanted: str) -> bool:
+        """Whether a run may end like this where a call was refused."""
+        status, line = TOLD[what]
+        ended, out, err = answer
+        is_told = ended == status and re.fullmatch(line, err) is not None
+        return is_told and wanted.startswith(out) and (what == "write" or not out)
 
     def refuse_call(self, program: str, name: str) -> tuple[int, int]:
         """Refuses a trial of growth_trials its first growth, its second, and so on, until a run has fewer; gives how
@@ -208,25 +218,16 @@ class Talk(Trial):
         assert text is not None
         return f"answer 0 {len(text)}\n{text}".encode()
 
-    def refuse_each(self, arguments: Sequence[str], what: str, slow: bool = False) -> int:
-        """Refuses the first call of a kind, the second, and so on, until a conversation has fewer."""
-        wanted = (0, b"".join(self.answers).decode(), "")
-        for number in itertools.count(1):
-            answer, came = self.run_refused(arguments, what, number, slow=slow)
-            right = answer == wanted or (came and self.is_right(what, answer))
-            self.judge(f"conversation: {what} {number}{'' if came else ', none'} refused", right, answer)
-            if not came:
-                break
-        return number - 1
+    def wanted(self, arguments: Sequence[str]) -> str:
+        return b"".join(self.answers).decode()
 
-    def is_right(self, what: str, answer: Answer) -> bool:
+    def is_right(self, what: str, answer: Answer, wanted: str) -> bool:
         """Whether a conversation may end like this where a call was refused."""
         status, line = TOLD[what]
         ended, out, err = answer
         if ended == 0:
             return err == "" and self.tells_once(out.encode(), status, line)
-        whole = b"".join(self.answers).decode()
-        if what == "write" and whole.startswith(out):
+        if what == "write" and wanted.startswith(out):
             return (ended, err) == (status, "ttm: write fault\n")
         before = ["", *(b"".join(self.answers[:count]).decode() for count in range(1, len(self.answers) + 1))]
         if what == "read" and out in before and err == NO_QUESTION:

@@ -8,6 +8,9 @@ from typing import Sequence
 from made_streets import Cell, Streets
 
 
+PEAKS = ((7, 9.5), (16, 18.5))  # hours
+
+
 @dataclass(frozen=True)
 class Size:
     """How large a feed is."""
@@ -30,7 +33,7 @@ class Headways:
     def at(self, time: float) -> int:
         """The seconds to the next departure after a time, in seconds after midnight."""
         hour = time / 3600
-        if 7 <= hour < 9.5 or 16 <= hour < 18.5:
+        if any(first <= hour < last for first, last in PEAKS):
             return self.peak * 60
         return (self.day if 6.5 <= hour < 20 else self.evening) * 60
 

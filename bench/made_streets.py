@@ -31,29 +31,12 @@ class Stop:
     station: str = ""
 
 
-@dataclass(frozen=True)
-class Station:
-    """A station's identifier, and its platforms' positions in the list of stops."""
-
-    name: str
-    platforms: tuple[int, int]
-
-
 @dataclass
 class Stops:
     """Two for each node, 2 * node towards the north or east and 2 * node + 1; then the platforms, line by line."""
 
-    stops: list[Stop]
-    stations: dict[int, Station] = field(default_factory=dict)  # by their nodes
-
-    def add_station(self, node: int, place: tuple[float, float]) -> None:
-        if node in self.stations:
-            return
-        east, north = place
-        name = f"ST{node:04}"
-        self.stations[node] = Station(name, (len(self.stops), len(self.stops) + 1))
-        self.stops.append(Stop(name + "P1", f"Station {node}", east + 40, north + 30, name))
-        self.stops.append(Stop(name + "P2", f"Station {node}", east + 45, north + 25, name))
+    stops: list[Stop] = field(default_factory=list)
+    stations: dict[int, int] = field(default_factory=dict)  # by their nodes, where the first of two platforms stands
 
 
 def draw_streets(count: int, rnd: random.Random) -> Streets:
@@ -68,12 +51,20 @@ def draw_streets(count: int, rnd: random.Random) -> Streets:
     return Streets(cells, places, radius, {cell: node for node, cell in enumerate(cells)})
 
 
+def station_at(node: int) -> str:
+    """The identifier of a node's station."""
+    return f"ST{node:04}"
+
+
 def stops_of(streets: Streets, rail_nodes: Iterable[int]) -> Stops:
     """The stops of all nodes, and the stations at the nodes of rail lines."""
-    stops = Stops([])
+    found = Stops()
     for node, (east, north) in enumerate(streets.places):
-        stops.stops.append(Stop(f"B{node:05}N", f"Street {node}", east + 12, north + 9))
-        stops.stops.append(Stop(f"B{node:05}S", f"Street {node}", east - 12, north - 9))
-    for node in rail_nodes:
-        stops.add_station(node, streets.places[node])
-    return stops
+        found.stops.append(Stop(f"B{node:05}N", f"Street {node}", east + 12, north + 9))
+        found.stops.append(Stop(f"B{node:05}S", f"Street {node}", east - 12, north - 9))
+    for node in dict.fromkeys(rail_nodes):
+        (east, north), name = streets.places[node], station_at(node)
+        found.stations[node] = len(found.stops)
+        found.stops.append(Stop(f"{name}P1", f"Station {node}", east + 40, north + 30, name))
+        found.stops.append(Stop(f"{name}P2", f"Station {node}", east + 45, north + 25, name))
+    return found

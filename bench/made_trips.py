@@ -2,10 +2,10 @@
 
 import math
 import random
-from dataclasses import dataclass, field
+from dataclasses import dataclass
 from typing import Iterable, Iterator, Sequence, TextIO
 
-from made_lines import Line
+from made_lines import PEAKS, Line
 from made_streets import SPACING, Stops, Streets
 from shared import clock
 
@@ -18,15 +18,8 @@ CLOCK = [clock(second) for second in range(32 * 3600)]
 def slowness(time: float) -> float:
     """1 off the peaks, 1.25 in them, with slopes of an hour."""
     hour = time / 3600
-
-    def bump(first: float, last: float) -> float:
-        if hour < first - 1 or hour > last + 1:
-            return 0
-        if hour < first:
-            return hour - (first - 1)
-        return (last + 1) - hour if hour > last else 1
-
-    return 1 + 0.25 * max(bump(7, 9.5), bump(16, 18.5))
+    slopes = (min(hour - (first - 1), (last + 1) - hour, 1) for first, last in PEAKS)
+    return 1 + 0.25 * max(0, *slopes)
 
 
 @dataclass
@@ -68,8 +61,6 @@ class Course:
 
 @dataclass(frozen=True)
 class Trip:
-    """A trip of a course."""
-
     course: Course
     name: str  # its identifier
     service: str
@@ -122,28 +113,20 @@ def courses_of(streets: Streets, stops: Stops, lines: Sequence[Line]) -> Iterato
     for line, route in zip(lines, routes_of(lines)):
         for direction, nodes in enumerate((line.nodes, line.nodes[::-1])):
             if line.is_rail:
-                calls = [stops.stops[stops.stations[node].platforms[direction]].name for node in nodes]
+                calls = [stops.stops[stops.stations[node] + direction].name for node in nodes]
             else:
                 calls = [stop_towards(streets, stops, nodes, at) for at in range(len(nodes))]
             legs = [leg(streets, line, start, end) for start, end in zip(nodes, nodes[1:])]
             yield Course(line, route, direction, calls, legs)
 
 
-@dataclass
-class Trips:
-    """What is kept of the trips once their stop times are written."""
-
-    records: list[str] = field(default_factory=list)  # of trips.txt
-    events: int = 0
-
-
-def write_stop_times(file: TextIO, courses: Iterable[Course], rnd: random.Random) -> Trips:
-    """Draws all trips, and writes their stop times as they come."""
+def write_stop_times(file: TextIO, courses: Iterable[Course], rnd: random.Random) -> tuple[list[str], int]:
+    """Draws all trips and writes their stop times as they come; gives their records, and the number of events."""
     file.write("trip_id,arrival_time,departure_time,stop_id,stop_sequence,pickup_type,drop_off_type\n")
-    trips = Trips()
+    records, events = list[str](), 0
     for course in courses:
         for trip in course.trips(rnd):
             file.write("".join(trip.stop_times()))
-            trips.records.append(trip.record())
-            trips.events += len(trip.calls)
-    return trips
+            records.append(trip.record())
+            events += len(trip.calls)
+    return records, events

@@ -8,14 +8,14 @@ its share of the trips. As published: 500,000 stops and 1,000,000 trips have 40,
 Nothing is drawn: the same numbers make the same bytes. It wants numpy.
 """
 
-import argparse
 import math
 import os
-from pathlib import Path
 from typing import Any
 
 import numpy as np
 import numpy.typing as npt
+
+from shared import clock, parser_of, write_lines
 
 CALLS = 40  # of each trip
 WEEK = "monday,tuesday,wednesday,thursday,friday,saturday,sunday"
@@ -25,30 +25,19 @@ def texts(form: str, count: int) -> npt.NDArray[np.bytes_]:
     return np.array([(form % number).encode() for number in range(count)])
 
 
-def clocks() -> npt.NDArray[np.bytes_]:
-    """Each second of two days as a time."""
-    return np.array([b"%02d:%02d:%02d" % (n // 3600, n // 60 % 60, n % 60) for n in range(0, 48 * 3600)])
-
-
-def write_stops(folder: Path, stops: int) -> None:
+def write_stops(folder: str, stops: int) -> None:
     side = math.isqrt(stops - 1) + 1
-    with open(folder / "stops.txt", "w", encoding="utf-8") as file:
-        file.write("stop_id,stop_name,stop_lat,stop_lon\n")
-        for stop in range(stops):
-            latitude, longitude = 47 + 8 * (stop // side) / side, 6 + 9 * (stop % side) / side
-            file.write(f"de:{stop:07},Stop {stop},{latitude:.6f},{longitude:.6f}\n")
+    places = ((47 + 8 * (stop // side) / side, 6 + 9 * (stop % side) / side) for stop in range(stops))
+    rows = (f"de:{stop:07},Stop {stop},{north:.6f},{east:.6f}" for stop, (north, east) in enumerate(places))
+    write_lines(folder, "stops.txt", "stop_id,stop_name,stop_lat,stop_lon", rows)
 
 
-def write_trips(folder: Path, lines: int, trips: int) -> None:
-    with open(folder / "routes.txt", "w", encoding="utf-8") as file:
-        file.write("route_id,route_type\n")
-        file.writelines(f"L{line:06},3\n" for line in range(lines))
-    with open(folder / "calendar.txt", "w", encoding="utf-8") as file:
-        file.write(f"service_id,{WEEK},start_date,end_date\nWD,1,1,1,1,1,0,0,20260101,20261231\n")
-        file.write("WE,0,0,0,0,0,1,1,20260101,20261231\n")
-    with open(folder / "trips.txt", "w", encoding="utf-8") as file:
-        file.write("route_id,service_id,trip_id\n")
-        file.writelines(f"L{trip % lines:06},{'WE' if trip % 4 == 0 else 'WD'},t{trip:07}\n" for trip in range(trips))
+def write_trips(folder: str, lines: int, trips: int) -> None:
+    write_lines(folder, "routes.txt", "route_id,route_type", (f"L{line:06},3" for line in range(lines)))
+    services = ["WD,1,1,1,1,1,0,0,20260101,20261231", "WE,0,0,0,0,0,1,1,20260101,20261231"]
+    write_lines(folder, "calendar.txt", f"service_id,{WEEK},start_date,end_date", services)
+    rows = (f"L{trip % lines:06},{'WE' if trip % 4 == 0 else 'WD'},t{trip:07}" for trip in range(trips))
+    write_lines(folder, "trips.txt", "route_id,service_id,trip_id", rows)
 
 
 def block(pieces: list[Any], count: int) -> bytes:
@@ -61,10 +50,11 @@ def block(pieces: list[Any], count: int) -> bytes:
     return records.tobytes()
 
 
-def write_calls(folder: Path, stops: int, lines: int, trips: int) -> None:
+def write_calls(folder: str, stops: int, lines: int, trips: int) -> None:
     """Trip after trip: trip n runs on line n mod the number of lines, from stop to stop in a minute and a half."""
-    stop_texts, times, numbers = texts("de:%07d", stops), clocks(), texts("%02d", CALLS)
-    with open(folder / "stop_times.txt", "wb") as file:
+    stop_texts, numbers = texts("de:%07d", stops), texts("%02d", CALLS)
+    times = np.array([clock(second).encode() for second in range(48 * 3600)])
+    with open(f"{folder}/stop_times.txt", "wb") as file:
         file.write(
             b"trip_id,arrival_time,departure_time,stop_id,stop_sequence,pickup_type,drop_off_type,timepoint,dist\n"
         )
@@ -81,17 +71,13 @@ def write_calls(folder: Path, stops: int, lines: int, trips: int) -> None:
 
 
 def main() -> None:
-    parser = argparse.ArgumentParser(description=__doc__, formatter_class=argparse.RawDescriptionHelpFormatter)
-    parser.add_argument("folder", type=Path)
-    parser.add_argument("--stops", type=int, default=500_000)
-    parser.add_argument("--trips", type=int, default=1_000_000)
-    args = parser.parse_args()
-    args.folder.mkdir(parents=True, exist_ok=True)
+    args = parser_of(__doc__, "folder", stops=500_000, trips=1_000_000).parse_args()
+    os.makedirs(args.folder, exist_ok=True)
     lines = max(args.stops // CALLS, 1)
     write_stops(args.folder, args.stops)
     write_trips(args.folder, lines, args.trips)
     write_calls(args.folder, args.stops, lines, args.trips)
-    size = os.path.getsize(args.folder / "stop_times.txt")
+    size = os.path.getsize(f"{args.folder}/stop_times.txt")
     print(f"{args.stops} stops, {args.trips} trips, {args.trips * CALLS} stop times in {size} bytes")
 
 

@@ -11,7 +11,6 @@ network that is kept, and then runs `ttm`; the least time of each is printed, wi
 
 import datetime
 import os
-import subprocess
 import sys
 import tempfile
 import time
@@ -21,7 +20,7 @@ from typing import Any
 import numpy as np
 import pandas
 
-from shared import parser_of
+from shared import parser_of, run_into
 
 sys.path.insert(0, str(Path(__file__).resolve().parent.parent / "tools" / "src"))
 from ttm_tools import r5py  # noqa: E402
@@ -34,46 +33,25 @@ HOUR = datetime.timedelta(minutes=60)
 WINDOW = ["--date", "20260504", "--from", "08:00", "--to", "08:59"]
 
 
-def frame(name: str, east: Any, north: Any) -> Any:
-    """Points as a frame of geopandas."""
+def draw(feed: str, count: int, name: str, random: np.random.Generator) -> Any:
+    """A frame of points some 300 metres from a stop, or nearer."""
     import geopandas
 
-    ids = [f"{name}{number}" for number in range(len(east))]
-    return geopandas.GeoDataFrame({"id": ids}, geometry=geopandas.points_from_xy(east, north), crs="EPSG:4326")
-
-
-def draw(feed: str, count: int, name: str, random: np.random.Generator) -> Any:
-    """Points some 300 metres from a stop, or nearer."""
     stops = read_stops(feed)
     chosen = random.choice(np.flatnonzero(stops.placed & (stops.kinds == 0)), count)
     east, north = (item[chosen] + random.uniform(-0.003, 0.003, count) for item in (stops.longitudes, stops.latitudes))
-    return frame(name, east, north)
+    ids = [f"{name}{number}" for number in range(count)]
+    return geopandas.GeoDataFrame({"id": ids}, geometry=geopandas.points_from_xy(east, north), crs="EPSG:4326")
 
 
 def timed_run(program: str, doors: Path, workers: int, walk: int) -> tuple[float, pandas.DataFrame]:
     """The seconds of a run of `ttm` from the same folder, and its matrix."""
-    files = [
-        word for name in ("origins", "destinations", "footpaths") for word in (f"--{name}", str(doors / f"{name}.csv"))
-    ]
-    command = [
-        program,
-        "--feed",
-        str(doors / "feed"),
-        *WINDOW,
-        *files,
-        "--trips",
-        "8",
-        "--walk",
-        str(walk if reached_directly(doors) is None else LONGEST),
-        "--share",
-        "25,75",
-    ]
-    begun = time.monotonic()
-    with open(doors / "matrix.csv", "wb") as out:
-        subprocess.run(
-            [*command, "--within", "1800", "--workers", str(workers), "--tries", "1"], stdout=out, check=True
-        )
-    return time.monotonic() - begun, pandas.read_csv(doors / "matrix.csv")
+    limit = walk if reached_directly(doors) is None else LONGEST
+    names = ("origins", "destinations", "footpaths")
+    files = [word for name in names for word in (f"--{name}", f"{doors}/{name}.csv")]
+    numbers = f"--trips 8 --walk {limit} --share 25,75 --within 1800 --workers {workers} --tries 1"
+    ran = run_into([program, "--feed", f"{doors}/feed", *WINDOW, *files, *numbers.split()], f"{doors}/matrix.csv")
+    return ran.seconds, pandas.read_csv(doors / "matrix.csv")
 
 
 def same(mine: Any, theirs: pandas.DataFrame, doors: Path) -> bool:
@@ -89,18 +67,8 @@ def same(mine: Any, theirs: pandas.DataFrame, doors: Path) -> bool:
 
 
 def main() -> None:
-    parser = parser_of(__doc__)
-    for name in ("program", "feed", "streets"):
-        parser.add_argument(name)
-    for name, usual in (
-        ("walk", 15),
-        ("cells", 3000),
-        ("clinics", 12),
-        ("workers", len(os.sched_getaffinity(0))),
-        ("rounds", 3),
-    ):
-        parser.add_argument(f"--{name}", type=int, default=usual)
-    parser.add_argument("--seed", type=int, default=1)
+    numbers = {"walk": 15, "cells": 3000, "clinics": 12, "workers": len(os.sched_getaffinity(0)), "rounds": 3}
+    parser = parser_of(__doc__, "program", "feed", "streets", **numbers, seed=1)
     args = parser.parse_args()
     random, walk = np.random.default_rng(args.seed), datetime.timedelta(minutes=args.walk)
     cells, clinics = draw(args.feed, args.cells, "cell", random), draw(args.feed, args.clinics, "clinic", random)

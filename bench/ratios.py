@@ -26,6 +26,7 @@ from typing import Sequence
 
 from shared import DATE, HERE, built, first_origins, name_of, parser_of, print_head, print_row, stops_of, there
 from shared import write_lines, write_origins
+from variants import copy_but
 
 OWN = "durations"  # what `measure` calls its part
 BESIDE = "beside"
@@ -120,10 +121,7 @@ def least(runs: Sequence[Millis]) -> dict[str, float]:
 
 def linked(folder: str, origins: Sequence[str], place: str, for_peers: bool) -> str:
     """A folder with the feed's files and these origins; for peers, which read all from one folder, no transfers."""
-    feed = tempfile.mkdtemp(dir=place)
-    own = ["origins.csv", "transfers.txt"] if for_peers else ["origins.csv"]
-    for path in there(folder, *(name for name in os.listdir(folder) if name not in own)):
-        os.symlink(os.path.abspath(path), os.path.join(feed, os.path.basename(path)))
+    feed = copy_but(folder, place, "origins.csv", *["transfers.txt"] * for_peers)
     write_origins(os.path.join(feed, "origins.csv"), origins)
     if for_peers:
         write_lines(feed, "transfers.txt", "from_stop_id,to_stop_id,transfer_type,min_transfer_time", [])
@@ -154,24 +152,11 @@ def names_of(programs: Sequence[Program]) -> list[str]:
     return [name for program in programs for name in program.names.values()]
 
 
-def row_of(folder: str, options: RatioOptions, programs: Sequence[Program], place: str) -> list[str]:
-    """The cells of a feed."""
-    names = names_of(programs)
-    mean = means_of(folder, options, programs, place)
-    ratios = [f"{mean[name] / mean['ttm']:.2f}" for name in names[:-1]]
-    return [name_of(folder), str(len(options.origins_of(folder)))] + [f"{mean[name]:.1f}" for name in names] + ratios
-
-
 def options_of(arguments: Sequence[str] | None = None) -> RatioOptions:
-    """What the arguments ask for."""
-    parser = parser_of(__doc__)
+    parser = parser_of(__doc__, times=3, minutes=120, trips=4, walk=600)
     which = "how many origins, of the folder's origins.csv or else of its stops; or a file of origins, in each folder"
-    parser.add_argument("--times", type=int, default=3, help="runs of each program (default: 3)")
     parser.add_argument("--origins", metavar="N|FILE", default=str(COUNT), help=which + " or by its path (default: 10)")
     parser.add_argument("--first", metavar="N", type=int, help="how many of the file's origins (default: 10)")
-    parser.add_argument("--minutes", type=int, default=120, help="departures, from 07:00 on (default: 120)")
-    parser.add_argument("--trips", type=int, default=4, help="most rides of a journey, 1 to 8 (default: 4)")
-    parser.add_argument("--walk", type=int, default=600, help="longest walk, in seconds (default: 600)")
     parser.add_argument("--date", default=DATE, help=f"YYYYMMDD (default: {DATE})")
     parser.add_argument("--peers", metavar="FOLDER", help="a folder of Rust peers with src/net.rs and src/scalar.rs")
     parser.add_argument("--beside", metavar="PROGRAM", help="the program of crates/measure as another commit builds it")
@@ -187,7 +172,11 @@ def main() -> None:
         names = names_of(programs)
         print_head(["feed", "origins"] + [name + ", ms" for name in names] + ["over " + name for name in names[:-1]])
         for folder in options.folder:
-            print_row(row_of(folder, options, programs, place))
+            mean = means_of(folder, options, programs, place)
+            figures = [f"{mean[name]:.1f}" for name in names] + [
+                f"{mean[name] / mean['ttm']:.2f}" for name in names[:-1]
+            ]
+            print_row([name_of(folder), str(len(options.origins_of(folder))), *figures])
 
 
 if __name__ == "__main__":

@@ -2,21 +2,19 @@
 """Times `ttm-tools scenarios` with a plan of ten scenarios over a feed of `feedgen.py`, with its processor time and
 peak memory, and says what was written.
 
-    scenario_times.py FEED OUT [ROUTES]
+    scenario_times.py FEED OUT [--routes N]
 
-Each scenario has three actions: a new line along twenty stops of a route; ROUTES routes (20 by default) every five
+Each scenario has three actions: a new line along twenty stops of a route; N routes (20 by default) every five
 minutes all day; and one that differs (a bus lane on so many routes, stops, routes and trips taken out or shifted, a
 route cut or extended).
 OUT has the plan then, what was reported, and in OUT/feed what was written.
 """
 
 import csv
-import subprocess
-import sys
-import time
+import json
 from pathlib import Path
 
-from shared import PYTHON, TOOLS, wait_for
+from shared import PYTHON, TOOLS, parser_of, records_of, run
 
 SCENARIOS = 10
 LINE = """do = "add_line"
@@ -39,14 +37,9 @@ OTHERS = [
 ]
 
 
-def read(folder: Path, name: str) -> list[dict[str, str]]:
-    with open(folder / name, newline="") as file:
-        return list(csv.DictReader(file))
-
-
 def longest_ways(folder: Path) -> dict[str, list[str]]:
     """The stops of the first whole trip of each route, in one direction."""
-    trips = {row["trip_id"]: row["route_id"] for row in read(folder, "trips.txt") if row["direction_id"] == "0"}
+    trips = {row["trip_id"]: row["route_id"] for row in records_of(folder / "trips.txt") if row["direction_id"] == "0"}
     found: dict[str, dict[str, list[str]]] = {}
     with open(folder / "stop_times.txt", newline="") as file:
         for row in csv.DictReader(file):
@@ -56,42 +49,38 @@ def longest_ways(folder: Path) -> dict[str, list[str]]:
     return {route: max(ways.values(), key=len) for route, ways in found.items()}
 
 
-def quoted(names: list[str]) -> str:
-    return "[" + ", ".join(f'"{name}"' for name in names) + "]"
-
-
 def part(names: list[str], first: int, count: int) -> list[str]:
     """Some names from one on, from the beginning again behind the last."""
     return [names[(first + place) % len(names)] for place in range(min(count, len(names) // 4))]
 
 
 def plan_of(folder: Path, count: int) -> str:
-    """The plan."""
     ways, lines = longest_ways(folder), list[str]()
     routes = list(ways)
     for number in range(SCENARIOS):
         way = next(way for way in list(ways.values())[number * 13 :] if len(way) >= 20)
         some, other = part(routes, number * count, count), part(routes, 200 + number * count, count)
         first = other[0]
-        fields = {"stops": quoted(ways[first][2:12]), "routes": quoted(other), "first": first}
+        fields = {"stops": json.dumps(ways[first][2:12]), "routes": json.dumps(other), "first": first}
         fields |= {"middle": ways[first][len(ways[first]) // 2], "last": ways[first][-1]}
-        actions = [LINE.format(number=number, stops=quoted(way[:20])), HEADWAY.format(routes=quoted(some))]
+        actions = [LINE.format(number=number, stops=json.dumps(way[:20])), HEADWAY.format(routes=json.dumps(some))]
         actions.append(OTHERS[number % len(OTHERS)].format(**fields))
         lines += [f'[[scenario]]\nname = "s{number}"\n', *(f"[[scenario.action]]\n{action}" for action in actions)]
     return "\n".join(lines)
 
 
 def main() -> None:
-    (feed, out), more = map(Path, sys.argv[1:3]), sys.argv[3:]
+    args = parser_of(__doc__, "feed", "out", routes=20).parse_args()
+    out = Path(args.out)
+    plan, feed = out / "plan.toml", out / "feed"
     out.mkdir(exist_ok=True)
-    (out / "plan.toml").write_text(plan_of(feed, int(more[0]) if more else 20))
-    begin = time.monotonic()
-    command = [PYTHON, TOOLS, "scenarios", str(feed), str(out / "plan.toml"), "--out", str(out / "feed")]
-    with open(out / "told.txt", "w") as log, subprocess.Popen(command, stdout=log, stderr=log) as run:
-        ran = wait_for(run, begin)
+    plan.write_text(plan_of(Path(args.feed), args.routes))
+    with open(out / "told.txt", "w") as log:
+        command = [PYTHON, TOOLS, "scenarios", args.feed, str(plan), "--out", str(feed)]
+        ran = run(command, stdout=log, stderr=log)
     print(f"status {ran.status}, {ran}")
-    for path in sorted((out / "feed").rglob("*.*")) if ran.status == 0 else []:
-        print(f"{path.relative_to(out / 'feed')}: {path.stat().st_size:,} bytes")
+    for path in sorted(feed.rglob("*.*")) if ran.status == 0 else []:
+        print(f"{path.relative_to(feed)}: {path.stat().st_size:,} bytes")
 
 
 if __name__ == "__main__":

@@ -7,7 +7,8 @@ import subprocess
 import sys
 import time
 from dataclasses import dataclass
-from typing import Any, Iterable, Sequence
+from pathlib import Path
+from typing import Any, Callable, Collection, Iterable, Sequence
 
 HERE = os.path.dirname(os.path.abspath(__file__))
 TOOLS = os.path.join(os.path.dirname(HERE), "tools", "ttm-tools")
@@ -16,9 +17,32 @@ PROGRAM = os.environ.get("TTM_PROGRAM", os.path.join(os.path.dirname(HERE), "cra
 DATE = "20260504"  # a Monday on which all trips of the made feeds run
 
 
-def parser_of(text: str | None) -> argparse.ArgumentParser:
-    """A parser whose help shows a script's own text as it stands."""
-    return argparse.ArgumentParser(description=text, formatter_class=argparse.RawDescriptionHelpFormatter)
+def parser_of(text: str | None, *names: str, **numbers: int) -> argparse.ArgumentParser:
+    """A parser whose help shows a script's own text as it stands, of words with these names, and of options that are
+    numbers, with their usual values.
+    """
+    parser = argparse.ArgumentParser(description=text, formatter_class=argparse.RawDescriptionHelpFormatter)
+    for name in names:
+        parser.add_argument(name)
+    for name, usual in numbers.items():
+        parser.add_argument(f"--{name}", type=int, default=usual, help=f"(default: {usual})")
+    return parser
+
+
+def numbers(text: str) -> list[int]:
+    """The numbers of an option, divided by commas."""
+    return [int(number) for number in text.split(",")]
+
+
+def parts_among(known: Collection[str]) -> Callable[[str], list[str]]:
+    """How --parts is read, whose parts are divided by commas."""
+
+    def parts(text: str) -> list[str]:
+        if unknown := [name for name in text.split(",") if name not in known]:
+            raise argparse.ArgumentTypeError(f"no such part: {', '.join(unknown)}")
+        return text.split(",")
+
+    return parts
 
 
 def built(crate: str) -> str:
@@ -44,12 +68,17 @@ def write_lines(folder: str, name: str, header: str, rows: Iterable[str]) -> Non
         file.writelines(row + "\n" for row in rows)
 
 
-def stops_of(path: str) -> list[str]:
-    """The stops that a file of origins or of a feed lists, without stations; none where there is no such file."""
+def records_of(path: str | Path) -> list[dict[str, str]]:
+    """The records of a file by its columns; none where there is no such file."""
     if not os.path.exists(path):
         return []
     with open(path, newline="", encoding="utf-8-sig") as file:
-        return [row["stop_id"] for row in csv.DictReader(file) if (row.get("location_type") or "").strip() in ("", "0")]
+        return list(csv.DictReader(file))
+
+
+def stops_of(path: str) -> list[str]:
+    """The stops that a file of origins or of a feed lists, without stations; none where there is no such file."""
+    return [row["stop_id"] for row in records_of(path) if (row.get("location_type") or "").strip() in ("", "0")]
 
 
 def first_origins(folder: str, count: int, all_of_them: bool = False) -> list[str]:
@@ -60,7 +89,6 @@ def first_origins(folder: str, count: int, all_of_them: bool = False) -> list[st
 
 
 def write_origins(path: str, stops: Sequence[str]) -> None:
-    """Writes a file of origins."""
     with open(path, "w", newline="", encoding="utf-8") as file:
         csv.writer(file, lineterminator="\n").writerows([["stop_id"]] + [[stop] for stop in stops])
 
@@ -80,25 +108,24 @@ def name_of(folder: str) -> str:
 
 @dataclass(frozen=True)
 class Study:
-    """What is asked of `ttm`: departures each minute from 07:00. Origins, workers and scenarios come beside it."""
+    """What is asked of `ttm`: departures each minute from 07:00. Origins and workers come beside it."""
 
-    date: str = DATE
     minutes: int = 120
     trips: int = 4
     walk: int = 600  # seconds
-    days_around: int = 0  # before the date, and as many after it
     shares: Sequence[int] = (50,)
     limits: Sequence[int] = (3600,)  # seconds
+    more: Sequence[str] = ()  # further arguments
 
     def arguments(self, folder: str, origins: str, workers: int) -> list[str]:
         """The arguments; the folder's `footpaths.csv` is taken where it has one."""
         hours, minutes = divmod(7 * 60 + self.minutes - 1, 60)
-        arguments = ["--feed", folder, "--date", self.date, "--from", "07:00", "--to", f"{hours:02}:{minutes:02}"]
+        arguments = ["--feed", folder, "--date", DATE, "--from", "07:00", "--to", f"{hours:02}:{minutes:02}"]
         arguments += ["--trips", str(self.trips), "--walk", str(self.walk)]
         arguments += ["--share", ",".join(map(str, self.shares)), "--within", ",".join(map(str, self.limits))]
-        arguments += ["--back", str(self.days_around), "--ahead", str(self.days_around)]
-        arguments += ["--origins", origins, "--workers", str(workers), "--tries", "1"]
-        return arguments + [word for path in there(folder, "footpaths.csv") for word in ("--footpaths", path)]
+        arguments += ["--back", "0", "--ahead", "0", "--origins", origins, "--workers", str(workers), "--tries", "1"]
+        footpaths = [word for path in there(folder, "footpaths.csv") for word in ("--footpaths", path)]
+        return [*arguments, *footpaths, *self.more]
 
 
 @dataclass(frozen=True)
@@ -110,32 +137,33 @@ class Ran:
     busy: float  # seconds of processors
     kilobytes: int  # most memory held
 
-    @property
-    def peak(self) -> int:
-        """The most memory held, in MB."""
-        return self.kilobytes // 1024
-
     def __str__(self) -> str:
         memory = f"{self.kilobytes // 1000} MB"
         return f"{self.seconds:.1f} s, {self.busy:.1f} s of processor time, {memory}"
 
 
-def wait_for(program: subprocess.Popen[Any], began: float) -> Ran:
-    """Waits for a program that began at a time of `time.monotonic`."""
+def run(arguments: Sequence[str], **how: Any) -> Ran:
+    """Runs a program to its end, with further arguments of `Popen`."""
+    began = time.monotonic()
+    program = subprocess.Popen(arguments, **how)
     _, status, usage = os.wait4(program.pid, 0)
-    seconds = time.monotonic() - began
     program.returncode = os.waitstatus_to_exitcode(status)
-    return Ran(program.returncode, seconds, usage.ru_utime + usage.ru_stime, usage.ru_maxrss)
+    return Ran(program.returncode, time.monotonic() - began, usage.ru_utime + usage.ru_stime, usage.ru_maxrss)
 
 
 def run_into(arguments: Sequence[str], path: str) -> Ran:
     """Runs a program whose standard output goes into a file; ends the script where it isn't a success."""
     with open(path, "wb") as out:
-        began = time.monotonic()
-        ran = wait_for(subprocess.Popen(arguments, stdout=out), began)
+        ran = run(arguments, stdout=out)
     if ran.status != 0:
         sys.exit(f"status {ran.status}: {' '.join(arguments[1:])}")
     return ran
+
+
+def timed(*words: str, **how: Any) -> str:
+    """Runs a command of the tools, ten minutes at most, and says what it took."""
+    ran = run(["timeout", "-s", "KILL", "600", PYTHON, TOOLS, *words], **how)
+    return str(ran) if ran.status == 0 else f"{ran}, status {ran.status}"
 
 
 def sum_of(path: str) -> str:
@@ -144,29 +172,20 @@ def sum_of(path: str) -> str:
         return hashlib.file_digest(file, "sha256").hexdigest()
 
 
-def peak_so_far(process: int) -> int | None:
-    """The most memory that a process held until now, in MB; none once it has ended."""
-    try:
-        with open(f"/proc/{process}/status") as file:
-            found = [line.split()[1] for line in file if line.startswith("VmHWM:")]
-    except OSError:
-        return None
-    return int(found[0]) // 1024 if found else None
+def kilobytes(process: int | str, what: str, file: str = "status") -> int:
+    """The memory that a file of /proc says of a process, by the word before it; 0 where it says nothing."""
+    lines = Path(f"/proc/{process}/{file}").read_text().splitlines()
+    return next((int(line.split()[1]) for line in lines if line.startswith(f"{what}:")), 0)
 
 
 # Markdown tables.
 
 
-def row(cells: Iterable[str]) -> str:
-    """A line of a table."""
-    return "| " + " | ".join(cells) + " |"
+def print_row(cells: Iterable[str]) -> None:
+    """Prints a line of a table as soon as it is known."""
+    print(f"| {' | '.join(cells)} |", flush=True)
 
 
 def print_head(names: Sequence[str]) -> None:
-    """Prints the head of a table."""
-    print(row(names) + "\n|" + "---|" * len(names), flush=True)
-
-
-def print_row(cells: Iterable[str]) -> None:
-    """Prints a line of a table as soon as it is known."""
-    print(row(cells), flush=True)
+    print_row(names)
+    print("|" + "---|" * len(names), flush=True)

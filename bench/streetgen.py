@@ -7,7 +7,6 @@ A grid of crossings, each a little off its place, over the ground of the feed's 
 missing, some streets are motorways, some are one-way for vehicles, and a river in the middle is crossed by a bridge
 every twentieth column. The same numbers make the same streets. It wants numpy and pyosmium.
 """
-import csv
 import math
 from dataclasses import dataclass
 from pathlib import Path
@@ -16,7 +15,7 @@ from typing import Any, Iterator
 import numpy as np
 import numpy.typing as npt
 
-from shared import parser_of
+from shared import parser_of, records_of
 
 MARGIN = 0.005  # degrees around the stops
 MISSING = 1 / 7  # of the pieces
@@ -35,11 +34,10 @@ class Grid:
     degrees: npt.NDArray[np.float64]  # of each crossing its longitude and latitude
 
 
-def ground_of(feed: Path) -> tuple[float, float, float, float]:
+def ground_of(feed: str) -> tuple[float, float, float, float]:
     """West, south, east and north of a feed's stops."""
-    with open(feed / "stops.txt", newline="", encoding="utf-8-sig") as file:
-        places = [(float(row["stop_lon"]), float(row["stop_lat"])) for row in csv.DictReader(file) if row["stop_lat"]]
-    table = np.array(places)
+    stops = [row for row in records_of(f"{feed}/stops.txt") if row["stop_lat"]]
+    table = np.array([(float(row["stop_lon"]), float(row["stop_lat"])) for row in stops])
     (west, south), (east, north) = table.min(axis=0) - MARGIN, table.max(axis=0) + MARGIN
     return float(west), float(south), float(east), float(north)
 
@@ -100,15 +98,10 @@ def write(path: Path, grid: Grid, draw: np.random.Generator) -> int:
 
 
 def main() -> None:
-    parser = parser_of(__doc__)
-    parser.add_argument("feed", type=Path)
-    parser.add_argument("file", type=Path)
-    parser.add_argument("--nodes", type=int, default=600_000)
-    parser.add_argument("--seed", type=int, default=1)
-    args = parser.parse_args()
+    args = parser_of(__doc__, "feed", "file", nodes=600_000, seed=1).parse_args()
     draw = np.random.default_rng(args.seed)
     grid = grid_of(ground_of(args.feed), args.nodes, draw)
-    ways = write(args.file, grid, draw)
+    ways = write(Path(args.file), grid, draw)
     print(f"{args.file}: {grid.rows * grid.columns} nodes, {ways} ways")
 
 

@@ -10,12 +10,10 @@ together (by /proc, each page once), the most disk, and the time of --verify. Wh
 FOLDER/pieces.json, anew every few seconds: where this script is itself ended, the same command goes on. It wants the
 built program (TTM_PROGRAM, or that of this clone), numpy, pandas, h5py and matplotlib.
 """
-import argparse
-import hashlib
+import contextlib
 import json
 import os
 import re
-import resource
 import signal
 import subprocess
 import sys
@@ -24,7 +22,7 @@ from dataclasses import asdict, dataclass
 from itertools import count
 from pathlib import Path
 
-from shared import HERE, PROGRAM, PYTHON, TOOLS
+from shared import HERE, PROGRAM, PYTHON, TOOLS, kilobytes, parser_of, sum_of
 
 FEED = "calendar calendar_dates routes stop_times stops transfers trips".split()
 STUDY = """\
@@ -79,9 +77,7 @@ class Pieces:
         self.all = [Piece(**entry) for entry in json.loads(text_of(path) or "[]")]
 
     def begin(self) -> Piece:
-        with open(PROGRAM, "rb") as file:
-            program = hashlib.file_digest(file, "sha256").hexdigest()[:12]
-        self.all.append(Piece(time.strftime("%Y-%m-%d %H:%M:%S"), program))
+        self.all.append(Piece(time.strftime("%Y-%m-%d %H:%M:%S"), sum_of(PROGRAM)[:12]))
         return self.all[-1]
 
     def keep(self) -> None:
@@ -93,30 +89,16 @@ class Pieces:
         return [item for item in self.all if item.ended in ends]
 
 
-def members_of(group: int) -> list[Path]:
-    """The folders of /proc of the processes of a group."""
-    members = []
-    for path in Path("/proc").glob("[0-9]*"):
-        try:
-            if os.getpgid(int(path.name)) == group:
-                members.append(path)
-        except OSError:
-            continue
-    return members
-
-
 def taken_by(group: int) -> tuple[int, float]:
     """The memory that the processes of a group take together, pages that they share once; and the seconds of processors
     that they, and those of theirs that have ended, took.
     """
     memory, ticks = 0, 0
-    for path in members_of(group):
-        try:
-            found = re.search(r"^Pss: +([0-9]+) kB", (path / "smaps_rollup").read_text(), re.MULTILINE)
-            memory += int(found[1]) * 1024 if found else 0
-            ticks += sum(map(int, (path / "stat").read_text().rpartition(")")[2].split()[11:15]))
-        except OSError:
-            continue
+    for path in Path("/proc").glob("[0-9]*"):
+        with contextlib.suppress(OSError):  # of a process that ends
+            if os.getpgid(int(path.name)) == group:
+                memory += kilobytes(path.name, "Pss", "smaps_rollup") * 1024
+                ticks += sum(map(int, (path / "stat").read_text().rpartition(")")[2].split()[11:15]))
     return memory, ticks / TICKS
 
 
@@ -124,10 +106,8 @@ def disk_of(folder: Path) -> int:
     """What a folder takes on the disk."""
     total = 0
     for path in folder.rglob("*"):
-        try:
+        with contextlib.suppress(OSError):
             total += path.stat().st_blocks * 512
-        except OSError:
-            continue
     return total
 
 
@@ -144,7 +124,7 @@ def text_of(path: Path) -> str:
 
 def run(command: list[str], folder: Path, until: float, pieces: Pieces, end: str = DONE) -> None:
     """Runs a command until it ends, or until so many of the parts are done."""
-    piece, begin, used = pieces.begin(), time.monotonic(), processors_of_ended()
+    piece, begin, used = pieces.begin(), time.monotonic(), sum(os.times()[2:4])  # of processes that have ended
     die_with_this = ["setpriv", "--pdeathsig", "KILL", "--"]
     process = subprocess.Popen([*die_with_this, PYTHON, TOOLS, "study", *command], start_new_session=True)
     for look in count():
@@ -153,7 +133,9 @@ def run(command: list[str], folder: Path, until: float, pieces: Pieces, end: str
             break
         is_enough = piece.parts >= until
         if look % LOOKS_A_SUM == 0 or is_enough:
-            note(piece, process.pid, folder)
+            memory, processors = taken_by(process.pid)
+            piece.memory, piece.processors = max(piece.memory, memory), max(piece.processors, processors)
+            piece.disk = max(piece.disk, disk_of(folder))
             pieces.keep()
         if is_enough:
             os.killpg(process.pid, signal.SIGKILL)
@@ -162,44 +144,24 @@ def run(command: list[str], folder: Path, until: float, pieces: Pieces, end: str
         time.sleep(SECONDS_BETWEEN_LOOKS)
     if process.returncode not in (0, -signal.SIGKILL):
         sys.exit(f"the study ended with status {process.returncode}")
-    piece.processors = max(piece.processors, processors_of_ended() - used)
+    piece.processors = max(piece.processors, sum(os.times()[2:4]) - used)
     piece.ended = end if process.returncode == 0 else KILLED
     pieces.keep()
 
 
-def note(piece: Piece, group: int, folder: Path) -> None:
-    """Notes what a group of processes takes now."""
-    memory, processors = taken_by(group)
-    piece.memory, piece.processors = max(piece.memory, memory), max(piece.processors, processors)
-    piece.disk = max(piece.disk, disk_of(folder))
-
-
-def processors_of_ended() -> float:
-    """Seconds of processors of all processes that were begun here and have ended, and of theirs."""
-    used = resource.getrusage(resource.RUSAGE_CHILDREN)
-    return used.ru_utime + used.ru_stime
-
-
-def tell_stages(folder: Path) -> None:
-    """Reports what the folder notes of its parts and stages; the matrix as the last of the commands made it."""
+def tell(what: str, pieces: Pieces, folder: Path) -> None:
+    """Reports what all took, and what the folder notes of its parts and stages."""
+    piece, again = pieces.that(GOES_ON, KILLED, DONE), pieces.that(VERIFIED)[-1]
+    print(f"{what}, killed {len(pieces.that(KILLED))} times, this script {len(pieces.that(GOES_ON))} times")
+    for item in piece:
+        took = f"{item.seconds:,.0f} s, processors {item.processors:,.0f} s"
+        print(f"{item.began}, {item.ended}, ttm {item.program}: {took}, {100 * item.parts:.0f} of 100 parts there")
+    seconds, processors = sum(item.seconds for item in piece), sum(item.processors for item in piece)
+    print(f"in all {seconds:,.0f} s; processors {processors:,.0f} s")
     notes = json.loads(text_of(folder / "study.json"))
     times = notes["times"]
     print(f"parts: {notes['parts']}, in all {times['seconds_of_parts']:,.0f} s by their clocks")
     print("stages: " + ", ".join(f"{name} {seconds:,.0f}" for name, seconds in times["seconds"].items()) + " s")
-
-
-def tell(what: str, pieces: Pieces, folder: Path) -> None:
-    """Reports what all took."""
-    piece, again = pieces.that(GOES_ON, KILLED, DONE), pieces.that(VERIFIED)[-1]
-    print(f"{what}, killed {len(pieces.that(KILLED))} times, this script {len(pieces.that(GOES_ON))} times")
-    for item in piece:
-        sentence = (
-            f"{item.seconds:,.0f} s, processors {item.processors:,.0f} s, {100 * item.parts:.0f} of 100 parts there"
-        )
-        print(f"{item.began}, {item.ended}, ttm {item.program}: {sentence}")
-    seconds, processors = sum(item.seconds for item in piece), sum(item.processors for item in piece)
-    print(f"in all {seconds:,.0f} s; processors {processors:,.0f} s")
-    tell_stages(folder)
     memory, disk = max(item.memory for item in pieces.all), max(item.disk for item in pieces.all)
     print(f"at most {memory / GB:.2f} GB of memory and {disk / GB:.2f} GB of disk; left {disk_of(folder) / GB:.2f}")
     print(f"verification, ttm {again.program}: {again.seconds:,.0f} s; processors {again.processors:,.0f} s")
@@ -215,23 +177,19 @@ def make_feed(size: str, folder: Path) -> None:
 
 
 def main() -> None:
-    parser = argparse.ArgumentParser(description=__doc__, formatter_class=argparse.RawDescriptionHelpFormatter)
-    parser.add_argument("size", choices=("town", "city", "metro"))
-    parser.add_argument("folder", type=Path)
-    parser.add_argument("--workers", default=str(len(os.sched_getaffinity(0))), help="parts at once")
-    parser.add_argument("--memory", type=int, default=6400, help="MB that all of them may take")
-    args = parser.parse_args()
-    args.folder.mkdir(parents=True, exist_ok=True)
-    make_feed(args.size, args.folder)
-    path, out = args.folder / "study.toml", args.folder / "study"
+    args = parser_of(__doc__, "size", "folder", workers=len(os.sched_getaffinity(0)), memory=6400).parse_args()
+    folder, workers = Path(args.folder), ["--workers", str(args.workers)]
+    folder.mkdir(parents=True, exist_ok=True)
+    make_feed(args.size, folder)
+    path, out = folder / "study.toml", folder / "study"
     path.write_text(STUDY.format(size=args.size, memory=args.memory), encoding="utf-8")
-    pieces = Pieces(args.folder / "pieces.json")
-    named = [str(path), "--workers", args.workers]
+    pieces = Pieces(folder / "pieces.json")
+    named = [str(path), *workers]
     while not pieces.that(DONE):
         killed = len(pieces.that(KILLED))
         run(named, out, KILLED_AT[killed] if killed < len(KILLED_AT) else 2.0, pieces)
     if not pieces.that(VERIFIED):
-        run(["--verify", str(out), "--workers", args.workers], out, 2.0, pieces, VERIFIED)
+        run(["--verify", str(out), *workers], out, 2.0, pieces, VERIFIED)
     tell(f"{args.size}, {args.workers} processes", pieces, out)
 
 

@@ -96,9 +96,13 @@ def test_nothing_is_measured_beside_what_is_not_given() -> None:
     assert not list(goals.peers(goals_of())) and not list(goals.windows(goals_of()))
 
 
-def test_a_feed_gets_a_change_time_at_each_stop(tmp_path: Path) -> None:
-    feed = tmp_path / "feed"
-    feed.mkdir()
+@pytest.fixture
+def feed(tmp_path: Path) -> Path:
+    (tmp_path / "feed").mkdir()
+    return tmp_path / "feed"
+
+
+def test_a_feed_gets_a_change_time_at_each_stop(tmp_path: Path, feed: Path) -> None:
     write_stops(feed, "stops.txt", "G,1", "A,0", "B,")
     write_stops(feed, "transfers.txt")
     folder = Path(variants.with_changes(str(feed), str(tmp_path), 90))
@@ -107,9 +111,7 @@ def test_a_feed_gets_a_change_time_at_each_stop(tmp_path: Path) -> None:
     assert (folder / "stops.txt").read_bytes() == (feed / "stops.txt").read_bytes()
 
 
-def test_every_third_trip_keeps_its_stop_times(tmp_path: Path) -> None:
-    feed = tmp_path / "feed"
-    feed.mkdir()
+def test_every_third_trip_keeps_its_stop_times(tmp_path: Path, feed: Path) -> None:
     shared.write_lines(str(feed), "trips.txt", "route_id,service_id,trip_id", [f"R,S,T{number}" for number in range(5)])
     times = [f"T{trip},08:00:00" for trip in range(5) for _ in range(2)]
     shared.write_lines(str(feed), "stop_times.txt", "trip_id,arrival_time", times)
@@ -118,9 +120,7 @@ def test_every_third_trip_keeps_its_stop_times(tmp_path: Path) -> None:
     assert [line[:2] for line in (folder / "stop_times.txt").read_text().splitlines()[1:]] == ["T0", "T0", "T3", "T3"]
 
 
-def test_a_drawn_order_has_the_same_stops(tmp_path: Path) -> None:
-    feed = tmp_path / "feed"
-    feed.mkdir()
+def test_a_drawn_order_has_the_same_stops(tmp_path: Path, feed: Path) -> None:
     write_stops(feed, "stops.txt", *(f"S{number},0" for number in range(20)))
     drawn = [Path(variants.with_drawn_order(str(feed), str(tmp_path))) / "stops.txt" for _ in range(2)]
     header, *stops = drawn[0].read_text().splitlines()
@@ -194,10 +194,9 @@ def test_what_a_group_of_processes_takes_is_seen() -> None:
 def test_questions_are_of_origins_that_a_seed_draws(tmp_path: Path) -> None:
     write_stops(tmp_path, "stops.txt", "G,1", "A,0", "B,", "C,0")
     arguments = ["--city", str(tmp_path), "--program", "ttm", "--parts", "first,many"]
-    setting, parts = ask.setting_of(arguments)
-    setting = replace(setting, place=str(tmp_path))
+    setting = replace(ask.setting_of(arguments), place=str(tmp_path))
     drawn = setting.drawn("city", 40)
-    assert parts == ["first", "many"] and setting.drawn("city", 40) == drawn
+    assert setting.parts == ["first", "many"] and setting.drawn("city", 40) == drawn
     assert {Path(item).read_text() for item in drawn} == {"stop_id\nA\n", "stop_id\nB\n", "stop_id\nC\n"}
     with pytest.raises(SystemExit):
         ask.setting_of([*arguments[:-1], "nothing"])

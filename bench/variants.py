@@ -3,7 +3,7 @@
 import os
 import random
 import tempfile
-from typing import Callable, Iterable, Sequence
+from pathlib import Path
 
 from shared import stops_of, there, write_lines
 
@@ -19,42 +19,29 @@ def copy_but(folder: str, place: str, *names: str) -> str:
     return copy
 
 
-def rewrite(folder: str, copy: str, name: str, change: Callable[[list[str]], Iterable[str]]) -> None:
-    """Writes a file of a feed with other records: its header stays."""
-    with open(os.path.join(folder, name), newline="") as file:
-        header, *records = file.read().splitlines()
-    write_lines(copy, name, header, change(records))
+def lines_of(folder: str, name: str) -> tuple[str, list[str]]:
+    """The header and the records of a file of a feed."""
+    header, *records = Path(folder, name).read_text().splitlines()
+    return header, records
 
 
 def every_third_trip(folder: str, place: str) -> str:
     """The feed with one of three trips of `trips.txt`, in their order: three times the headways."""
     copy = copy_but(folder, place, "trips.txt", "stop_times.txt", "late.csv")
-    kept: set[str] = set()
-
-    def trips(records: list[str]) -> Sequence[str]:
-        chosen = records[::KEPT_OF_TRIPS]
-        kept.update(record.split(",")[2] for record in chosen)
-        return chosen
-
-    rewrite(folder, copy, "trips.txt", trips)
-    rewrite(
-        folder,
-        copy,
-        "stop_times.txt",
-        lambda records: (record for record in records if record[: record.index(",")] in kept),
-    )
+    header, trips = lines_of(folder, "trips.txt")
+    write_lines(copy, "trips.txt", header, trips[::KEPT_OF_TRIPS])
+    kept = {record.split(",")[2] for record in trips[::KEPT_OF_TRIPS]}
+    header, times = lines_of(folder, "stop_times.txt")
+    write_lines(copy, "stop_times.txt", header, (record for record in times if record.split(",", 1)[0] in kept))
     return copy
 
 
 def with_drawn_order(folder: str, place: str) -> str:
     """The feed with the records of `stops.txt` in a drawn order, always the same."""
-
-    def drawn(records: list[str]) -> list[str]:
-        random.Random(SEED).shuffle(records)
-        return records
-
     copy = copy_but(folder, place, "stops.txt")
-    rewrite(folder, copy, "stops.txt", drawn)
+    header, stops = lines_of(folder, "stops.txt")
+    random.Random(SEED).shuffle(stops)
+    write_lines(copy, "stops.txt", header, stops)
     return copy
 
 

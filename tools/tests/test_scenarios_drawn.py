@@ -1,4 +1,4 @@
-"""Drawn plans over drawn feeds, beside the built program; `bench/scenario_trials.py` tries more of them."""
+"""Drawn plans over drawn feeds, beside the built program; `bench/drawn_trials.py` tries more of them."""
 
 from pathlib import Path
 

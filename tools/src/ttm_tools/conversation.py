@@ -4,6 +4,7 @@ A question is a block of words, one on each line, ended by an empty line. An ans
 and as many bytes: the matrix where the status is 0, else the line that a run would print.
 """
 
+import contextlib
 import os
 import re
 import signal
@@ -120,10 +121,8 @@ class Conversation:
 def close(pipe: IO[bytes] | None) -> None:
     """Closes a pipe, also one whose other end is closed already."""
     if pipe is not None:
-        try:
+        with contextlib.suppress(OSError):
             pipe.close()
-        except OSError:
-            pass
 
 
 def listen(errors: IO[bytes], lines: "deque[bytes]") -> None:

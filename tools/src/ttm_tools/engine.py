@@ -202,65 +202,37 @@ def result_of(matrix: Matrix, rounded: int) -> Result:
     return Result(matrix.scenarios, shares, limits, origins, matrix.stops, seconds, sums, rounded)
 
 
-def written(folder: Path, name: str, header: Sequence[str], rows: Iterable[Sequence[object]]) -> Path:
-    """Writes a table of a run."""
-    with open(folder / name, "wb") as file:
+COLUMNS = {  # of the files that are written of what is given, by their options
+    "origins": ["stop_id"],
+    "destinations": ["stop_id"],
+    "opportunities": ["stop_id", "opportunities"],
+    "footpaths": ["from_stop_id", "to_stop_id", "seconds"],
+}
+
+
+def file_of(folder: Path, option: str, given: Any, rounded: Rounded) -> Pathlike:
+    """A file as it is, or one of stops, of a number for each stop, rounded to the nearest whole one, or of walks, whose
+    seconds are rounded up.
+    """
+    if isinstance(given, (str, os.PathLike)):
+        return given
+    header, path = COLUMNS[option], folder / f"{option}.csv"
+    if len(header) == 1:
+        rows = [[stop] for stop in given]
+    else:
+        lines = enumerate(given.items() if option == "opportunities" else given, 2)
+        rows = [
+            [*ends, rounded.whole(str(number), option, record, header[-1], up=option == "footpaths")]
+            for record, (*ends, number) in lines
+        ]
+    with open(path, "wb") as file:
         write_rows(file, header, rows)
-    return folder / name
+    return path
 
 
-def stops_file(folder: Path, name: str, stops: Pathlike | Sequence[str]) -> Pathlike:
-    """A file of stops as it is, or one of this name with these stops."""
-    if isinstance(stops, (str, os.PathLike)):
-        return stops
-    return written(folder, name, ["stop_id"], [[stop] for stop in stops])
-
-
-def opportunities_file(folder: Path, given: Pathlike | Mapping[str, float], rounded: Rounded) -> Pathlike:
-    """A file of opportunities as it is, or one of these numbers, each rounded to the nearest whole one."""
-    if isinstance(given, (str, os.PathLike)):
-        return given
-    header = ["stop_id", "opportunities"]
-    rows = [
-        [stop, rounded.whole(str(count), "opportunities", number, header[1], up=False)]
-        for number, (stop, count) in enumerate(given.items(), 2)
-    ]
-    return written(folder, "opportunities.csv", header, rows)
-
-
-def origins_file(folder: Path, origins: Pathlike | Sequence[str]) -> Pathlike:
-    """A file of origins as it is, or one of these stops."""
-    return stops_file(folder, "origins.csv", origins)
-
-
-def question_files(
-    folder: Path,
-    origins: Pathlike | Sequence[str] | None,
-    opportunities: Pathlike | Mapping[str, float] | None,
-    destinations: Pathlike | Sequence[str] | None,
-    rounded: Rounded,
-) -> dict[str, Pathlike]:
-    """The files of a question by the names of their options."""
-    files = dict[str, Pathlike]()
-    if origins is not None:
-        files["origins"] = origins_file(folder, origins)
-    if opportunities is not None:
-        files["opportunities"] = opportunities_file(folder, opportunities, rounded)
-    if destinations is not None:
-        files["destinations"] = stops_file(folder, "destinations.csv", destinations)
-    return files
-
-
-def footpaths_file(folder: Path, given: Pathlike | Iterable[tuple[str, str, float]], rounded: Rounded) -> Pathlike:
-    """A file of footpaths as it is, or one of these walks, whose seconds are rounded up."""
-    if isinstance(given, (str, os.PathLike)):
-        return given
-    header = ["from_stop_id", "to_stop_id", "seconds"]
-    rows = [
-        [a, b, rounded.whole(str(seconds), "footpaths", number, header[2], up=True)]
-        for number, (a, b, seconds) in enumerate(given, 2)
-    ]
-    return written(folder, "footpaths.csv", header, rows)
+def files_of(folder: Path, rounded: Rounded, **given: Any) -> dict[str, Pathlike]:
+    """The files of what is given, by the names of their options."""
+    return {option: file_of(folder, option, value, rounded) for option, value in given.items() if value is not None}
 
 
 def matrix(
@@ -292,9 +264,8 @@ def matrix(
     """
     rounded = Rounded()
     with scratch("matrix") as folder:
-        files = question_files(folder, origins, opportunities, destinations, rounded)
-        if footpaths is not None:
-            files["footpaths"] = footpaths_file(folder, footpaths, rounded)
+        named = {"origins": origins, "opportunities": opportunities, "destinations": destinations}
+        files = files_of(folder, rounded, **named, footpaths=footpaths)
         task = Run(feed, date, window, trips, walk, shares, limits, scenarios, workers, tries, back, ahead, files)
         run(task, folder / "matrix.csv", program)
         return result_of(open_matrix(str(folder / "matrix.csv")), rounded.count)

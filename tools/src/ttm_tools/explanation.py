@@ -2,41 +2,27 @@
 
 import contextlib
 import datetime
+import functools
 import math
+import os
 import subprocess
 import tempfile
-from dataclasses import dataclass, replace
+from dataclasses import replace
 from pathlib import Path
 from typing import IO, Iterator, Sequence
 
-from .engine import EngineFault, Pathlike, Run, nearer_by_plan, origins_file, program_at, refusal_of, stops_file
+from .engine import EngineFault, Pathlike, Run, files_of, nearer_by_plan, program_at, refusal_of
 from .faults import BadInput, say
 from .gtfs.stops import Stops, read_stops
 from .files import scratch
 from .matrices import BASE, TODAY, Matrix, open_matrix
 from .measures.journeys import Search, cell, durations, journey
 from .measures.search_network import Schedule
-from .records import shown
+from .records import Rounded, shown
 from .gtfs.fields import Whole
 from .gtfs.footpaths import Footpaths, read_walks
-from .gtfs.timetable import DAY, Runs, Timetable, read_edits, read_timetable, runs_of
+from .gtfs.timetable import DAY, Timetable, read_edits, read_timetable, runs_of
 from .views.journeys import ExplainOptions, Found
-
-
-def found_of(
-    task: Run,
-    date: datetime.date,
-    origin: str,
-    destination: str,
-    *,
-    program: Pathlike | None = None,
-    matrix: str | None = None,
-) -> tuple[ExplainOptions, list[Found]]:
-    """What is found for the base and each scenario. The travel times for comparison are those of a matrix, or of a run
-    of the program.
-    """
-    (found,) = all_found(task, date, [(origin, destination)], program=program, matrix=matrix)
-    return found
 
 
 def all_found(
@@ -44,10 +30,12 @@ def all_found(
     date: datetime.date,
     pairs: Sequence[tuple[str, str]],
     *,
-    program: Pathlike | None = None,
-    matrix: str | None = None,
+    program: Pathlike | None,
+    matrix: str | None,
 ) -> Iterator[tuple[ExplainOptions, list[Found]]]:
-    """The same of several pairs of an origin and a destination, one after the other, by one run of the program."""
+    """What is found for the base and each scenario, of some pairs of an origin and a destination, one after the other.
+    The travel times for comparison are those of a matrix, or of one run of the program.
+    """
     stops = read_stops(str(task.feed))
     for name in dict.fromkeys(name for pair in pairs for name in pair):
         if name not in stops.places or stops.kinds[stops.places[name]] != 0:
@@ -55,41 +43,31 @@ def all_found(
     files = scenarios_of(task.scenarios)
     timetable, cells = read_both(task, stops, list(files), pairs, matrix, program)
     say(*nearer_by_plan(task))
-    footpaths = task.files.get("footpaths")
     first, last = (int(text[:2]) * 60 + int(text[3:]) for text in task.window)
     departures = [DAY * task.back + 60 * minute for minute in range(first, last + 1)]
     ends = [(timetable.stops.index(one), timetable.stops.index(other)) for one, other in pairs]
-    walks = Walked(timetable, None if footpaths is None else str(footpaths), task.walk)
+    footpaths = os.fspath(task.files["footpaths"]) if "footpaths" in task.files else None
+
+    @functools.lru_cache(maxsize=1)
+    def walks_of(begin: int) -> tuple[Footpaths, Whole]:
+        return read_walks(timetable, footpaths, task.walk, begin)
+
     for pair, (begin, end) in zip(pairs, ends):
         what = ExplainOptions(timetable, begin, end, departures, task.back, task.shares[0], told_of(task, date))
         found = []
         for name, seconds in cells[pair].items():
-            around, path = walks.of(begin), files[name]
-            runs = runs_of(timetable, date, (task.back, task.ahead), read_edits(None if path is None else str(path)))
-            found.append(found_in(what, name, runs, task.trips, *around))
+            walks, changes = walks_of(begin)
+            runs = runs_of(timetable, date, (task.back, task.ahead), read_edits(files[name]))
+            schedule = Schedule(timetable.events, runs, walks, changes, departures[0])
+            found.append(found_by(what, name, task.trips, schedule))
             tell_difference(found[-1], seconds, *pair)
         yield what, found
 
 
-@dataclass
-class Walked:
-    """The walks of a feed, of one origin at a time: those of the last one are kept."""
-
-    timetable: Timetable
-    footpaths: str | None
-    limit: int
-    kept: tuple[int, tuple[Footpaths, Whole]] | None = None
-
-    def of(self, origin: int) -> tuple[Footpaths, Whole]:
-        if self.kept is None or self.kept[0] != origin:
-            self.kept = origin, read_walks(self.timetable, self.footpaths, self.limit, origin)
-        return self.kept[1]
-
-
-def scenarios_of(files: Sequence[Pathlike]) -> dict[str, Pathlike | None]:
+def scenarios_of(files: Sequence[Pathlike]) -> dict[str, str | None]:
     """The file of each scenario, none for the base; which is left out where scenarios are those of a plan."""
-    paths: dict[str, Pathlike | None] = {BASE: None}
-    paths |= {Path(path).name.removesuffix(".csv"): path for path in files}
+    paths: dict[str, str | None] = {BASE: None}
+    paths |= {Path(path).name.removesuffix(".csv"): str(path) for path in files}
     return {name: path for name, path in paths.items() if name != BASE or TODAY not in paths}
 
 
@@ -101,8 +79,6 @@ def told_of(task: Run, date: datetime.date) -> str:
 
 
 TimesByScenario = dict[str, int | None]  # a travel time for each scenario, seconds; None where there is none
-
-
 Pairs = Sequence[tuple[str, str]]  # origins and destinations
 
 
@@ -116,7 +92,7 @@ def read_both(
     origins, destinations = (list(dict.fromkeys(pair[place] for pair in pairs)) for place in (0, 1))
     with scratch("explain") as folder:
         path = folder / "matrix.csv"
-        own = {"origins": origins_file(folder, origins), "destinations": stops_file(folder, "ends.csv", destinations)}
+        own = files_of(folder, Rounded(), origins=origins, destinations=destinations)
         with running(replace(task, files={**task.files, **own}), path, program):
             timetable = read_timetable(stops)
         return timetable, cells_of(open_matrix(str(path)), names, task.shares[0], pairs)
@@ -160,11 +136,6 @@ def cells_of(matrix: Matrix, names: Sequence[str], share: int, pairs: Pairs) -> 
         found = {name: float(matrix.seconds(matrix.scenario(name), chosen, origin)[place]) for name in names}
         cells[origin, destination] = {name: None if math.isnan(cell) else int(cell) for name, cell in found.items()}
     return cells
-
-
-def found_in(what: ExplainOptions, name: str, runs: Runs, trips: int, walks: Footpaths, changes: Whole) -> Found:
-    """What this search finds in a scenario."""
-    return found_by(what, name, trips, Schedule(what.timetable.events, runs, walks, changes, what.departures[0]))
 
 
 def found_by(what: ExplainOptions, name: str, trips: int, schedule: Schedule) -> Found:

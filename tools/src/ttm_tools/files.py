@@ -254,8 +254,5 @@ def write_picture(path: str | None, figure: Any) -> None:
 
 def sum_of(path: str | Path) -> str:
     """The SHA-256 of a file's bytes."""
-    digest = hashlib.sha256()
     with open(path, "rb") as file:
-        while block := file.read(1 << 20):
-            digest.update(block)
-    return digest.hexdigest()
+        return hashlib.file_digest(file, "sha256").hexdigest()

@@ -3,7 +3,7 @@
 import hashlib
 import itertools
 import re
-from typing import Iterable, Sequence
+from typing import Sequence
 
 from .records import shown
 
@@ -24,11 +24,11 @@ def sum_of_name(name: str) -> str:
     return hashlib.sha256(name.encode("utf-8", "surrogateescape")).hexdigest()[:SIGNS_OF_SUM]
 
 
-def file_names(names: Sequence[str], ends: Sequence[str] = ("",), taken: Iterable[str] = ()) -> dict[str, str]:
+def file_names(names: Sequence[str], ends: Sequence[str] = ("",)) -> dict[str, str]:
     """The names of files, such that no file of one name, with any of the ends, is called as one of another name is,
     however a disk takes capitals.
     """
-    used, called = {name.casefold() for name in taken}, dict[str, str]()
+    used, called = set[str](), dict[str, str]()
     for name in names:
         plain = file_name(name)
         tries = itertools.chain(

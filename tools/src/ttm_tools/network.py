@@ -8,21 +8,10 @@ import tempfile
 import threading
 import weakref
 from pathlib import Path
-from types import TracebackType
 from typing import Iterable, Iterator, Mapping, Sequence
 
 from .conversation import Answer, Conversation
-from .engine import (
-    EngineFault,
-    Pathlike,
-    Result,
-    Run,
-    footpaths_file,
-    program_at,
-    question_files,
-    refusal_of,
-    result_of,
-)
+from .engine import EngineFault, Pathlike, Result, Run, files_of, program_at, refusal_of, result_of
 from .faults import WrongWords
 from .files import remove
 from .matrices import open_matrix
@@ -50,7 +39,6 @@ class Processes:
         self.free.put(self.begun())
 
     def begun(self) -> Conversation:
-        """A new process."""
         with self.lock:
             if self.closed:
                 raise WrongWords("the network is closed")
@@ -117,11 +105,13 @@ class Network:
         named, self.rounded = program_at(program), Rounded()
         self.folder = Path(tempfile.mkdtemp(prefix=f"ttm-tools-network.{os.getpid()}."))
         try:
-            files = {}
-            if footpaths is not None:
-                files["footpaths"] = absolute(footpaths_file(self.folder, footpaths, self.rounded))
-            paths = [absolute(path) for path in scenarios]
-            kept = Run(absolute(feed), date, MIDNIGHT, 4, walk, scenarios=paths, back=back, ahead=ahead, files=files)
+            named_files = files_of(self.folder, self.rounded, footpaths=footpaths)
+            # paths that mean the same from every folder, since the process stays where it began
+            files = {name: os.path.abspath(path) for name, path in named_files.items()}
+            paths = [os.path.abspath(path) for path in scenarios]
+            kept = Run(
+                os.path.abspath(feed), date, MIDNIGHT, 4, walk, scenarios=paths, back=back, ahead=ahead, files=files
+            )
             self.processes = Processes(command_of(named, kept.arguments()), workers)
         except BaseException:
             remove(self.folder)
@@ -148,8 +138,9 @@ class Network:
         named: dict[str, object] = {"from": window[0], "to": window[1], **numbers}
         named |= {"share": ",".join(map(str, shares)), "within": ",".join(map(str, limits))}
         with self.room() as folder:
-            files = question_files(folder, origins, opportunities, destinations, rounded)
-            named |= {name: absolute(path) for name, path in files.items()}
+            given = {"origins": origins, "opportunities": opportunities, "destinations": destinations}
+            files = files_of(folder, rounded, **given)
+            named |= {name: os.path.abspath(path) for name, path in files.items()}
             answer = self.processes.ask([word for name, value in named.items() for word in (f"--{name}", str(value))])
             if answer.status != 0:
                 raise EngineFault("\n".join(refusal_of(answer.body, answer.status)), answer.status)
@@ -180,9 +171,7 @@ class Network:
     def __enter__(self) -> "Network":
         return self
 
-    def __exit__(
-        self, kind: type[BaseException] | None, fault: BaseException | None, trace: TracebackType | None
-    ) -> None:
+    def __exit__(self, *_: object) -> None:
         self.close()
 
 
@@ -191,8 +180,3 @@ def end(processes: Processes, folder: Path, owner: int) -> None:
     if os.getpid() == owner:
         processes.close()
         remove(folder)
-
-
-def absolute(path: Pathlike) -> str:
-    """A path that means the same from every folder, since the process stays where it began."""
-    return os.path.abspath(path)

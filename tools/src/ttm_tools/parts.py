@@ -2,14 +2,16 @@
 over all origins.
 """
 
+import itertools
+import operator
 from dataclasses import dataclass, field
 from pathlib import Path
-from typing import BinaryIO, Sequence, TypeVar
+from typing import BinaryIO, Iterator, Sequence, TypeVar
 
 from .faults import BadInput, some
 from .gtfs.stops import in_folder, kind_of
 from .files import many_written_aside
-from .matrices.layout import layout_of
+from .matrices.layout import MatrixLayout, layout_of
 from .matrices.lines import content, count_of_fields, fields_of, head_of, read_record, records_of, refuse_wide
 from .opening.paths import as_one_line, regular
 from .records import rows, shown, write_rows
@@ -29,7 +31,6 @@ def origins_in(path: str) -> list[str]:
 
 
 def write_stops(file: BinaryIO, stops: Sequence[str]) -> None:
-    """Writes such a file."""
     write_rows(file, ["stop_id"], [[stop] for stop in stops])
 
 
@@ -49,16 +50,12 @@ def parts_of(origins: Sequence[Item], parts: int) -> list[Sequence[Item]]:
 
 def write_parts(origins: Sequence[str], parts: int, folder: str) -> int:
     """Writes part_0001.csv .. and origins.csv with the origins of all, and gives the number of parts."""
-    cut = parts_of(origins, parts)
-    own = {f"part_{number:04}.csv" for number in range(1, len(cut) + 1)}
+    cut = {f"part_{number:04}.csv": part for number, part in enumerate(parts_of(origins, parts), 1)}
     for other in sorted(Path(folder).glob("part_[0-9]*.csv")):
-        if other.name not in own:
+        if other.name not in cut:
             raise BadInput(other, "belongs to another split: name another folder, or remove it")
     with many_written_aside(folder) as aside:
-        for name, stops in [
-            ("origins.csv", origins),
-            *((f"part_{number:04}.csv", part) for number, part in enumerate(cut, 1)),
-        ]:
+        for name, stops in {"origins.csv": origins, **cut}.items():
             with open(aside / name, "wb") as file:
                 write_stops(file, stops)
     return len(cut)
@@ -91,37 +88,30 @@ class PartMatrix:
         layout = layout_of(fields_of(self.header))
         if layout is None or not self.header.endswith(b"\n"):
             raise BadInput(self.path, "not a matrix" if layout is None else "truncated")
-        begin, last, shares = file.tell(), ("", ""), list[str]()
+        end = file.tell()
+        for (name, origin), lines in itertools.groupby(self.lines(file, layout), key=operator.itemgetter(0, 1)):
+            if name in self.scenarios and name != next(reversed(self.scenarios)):
+                raise BadInput(self.path, f"the rows of {shown(name)} aren't consecutive")
+            scenario = self.scenarios.setdefault(name, Scenario(end, end))
+            scenario.origins.append(origin)
+            shares = list[str]()
+            for *_, share, length in lines:
+                shares += share
+                end += length
+            scenario.end = end
+            self.shares = shares if self.shares is None else self.shares
+            if shares != self.shares:
+                what = f"{shown(origin)} has other percentiles in {shown(name)} than the first origin"
+                raise BadInput(self.path, what)
+
+    def lines(self, file: BinaryIO, layout: MatrixLayout) -> Iterator[tuple[str, str, list[str], int]]:
+        """The scenario, the origin, the share if there is one, and the length of each line."""
         for record in records_of(file):
             line = content(record)
             heads, first = head_of(line, layout.first_cell)
-            count = len(heads) + count_of_fields(line, first)
-            if count != layout.width or len(line) == len(record):
+            if len(heads) + count_of_fields(line, first) != layout.width or len(line) == len(record):
                 raise BadInput(self.path, "truncated")
-            place = (heads[0], heads[1])
-            if place != last or not self.scenarios:
-                self.take_shares(last, shares)
-                self.begin_origin(*place, begin)
-                shares = []
-            begin += len(record)
-            self.scenarios[heads[0]].end = begin
-            shares += heads[2:3] if layout.names_share else []
-            last = place
-        self.take_shares(last, shares)
-
-    def begin_origin(self, scenario: str, origin: str, begin: int) -> None:
-        """Takes the first row of an origin, which begins at a place in the file."""
-        if scenario in self.scenarios and scenario != next(reversed(self.scenarios)):
-            raise BadInput(self.path, f"the rows of {shown(scenario)} aren't consecutive")
-        self.scenarios.setdefault(scenario, Scenario(begin, begin)).origins.append(origin)
-
-    def take_shares(self, place: tuple[str, str], shares: list[str]) -> None:
-        """Takes the shares of a scenario's origin, which are those of the first."""
-        if self.scenarios:
-            self.shares = shares if self.shares is None else self.shares
-            if shares != self.shares:
-                scenario, origin = map(shown, place)
-                raise BadInput(self.path, f"{origin} has other percentiles in {scenario} than the first origin")
+            yield heads[0], heads[1], heads[2:3] if layout.names_share else [], len(record)
 
     @property
     def first(self) -> list[str]:

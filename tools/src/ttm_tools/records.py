@@ -6,7 +6,6 @@ in a text as Python's surrogate escapes and written back as they were. What peop
 """
 
 import csv
-import io
 import math
 from dataclasses import dataclass
 from pathlib import Path
@@ -107,9 +106,9 @@ def field(text: object) -> bytes:
     return quoted.encode("utf-8", "surrogateescape")
 
 
-def fields_as_texts(values: Iterable[object], before: bytes = b"", after: bytes = b"") -> Texts:
-    """Fields as an array of bytes, each once, with what stands before and behind each of them."""
-    return texts_of([before + field(value) + after for value in values])
+def fields_as_texts(values: Iterable[object], after: bytes = b"") -> Texts:
+    """Fields as an array of bytes, each once, with what stands behind each of them."""
+    return texts_of([field(value) + after for value in values])
 
 
 def joined(pieces: Sequence[bytes | Texts], count: int) -> bytes:
@@ -133,18 +132,16 @@ class Numerals:
         """The texts of some whole numbers; that of the gap for NaN."""
         gaps = np.isnan(numbers)
         whole = np.where(gaps, 0, numbers).astype(np.int64)
-        texts = self.of_whole(whole)
+        most = int(whole.max(initial=0))
+        if most >= self.KEPT:
+            found, places = np.unique(whole, return_inverse=True)
+            texts = texts_of([self.form(number) for number in found.tolist()])[places]
+        else:
+            if most >= len(self.texts):
+                self.texts = texts_of([self.form(number) for number in range(max(most + 1, 2 * len(self.texts)))])
+            texts = self.texts[whole]
         texts[gaps] = self.gap
         return texts
-
-    def of_whole(self, numbers: npt.NDArray[np.int64]) -> Texts:
-        most = int(numbers.max(initial=0))
-        if most >= self.KEPT:
-            found, places = np.unique(numbers, return_inverse=True)
-            return texts_of([self.form(number) for number in found.tolist()])[places]
-        if most >= len(self.texts):
-            self.texts = texts_of([self.form(number) for number in range(max(most + 1, 2 * len(self.texts)))])
-        return self.texts[numbers]
 
 
 def texts_of(encoded: Sequence[bytes]) -> Texts:
@@ -167,11 +164,6 @@ def write_rows(file: BinaryIO, header: Sequence[str], lines: Iterable[Sequence[o
     file.write(b",".join(map(field, header)) + b"\n")
     for line in lines:
         file.write(b",".join(map(field, line)) + b"\n")
-
-
-def read_text(text: str) -> list[list[str]]:
-    """The records of a text, such as the header of a matrix."""
-    return [fields for fields in csv.reader(io.StringIO(text, newline="")) if fields]
 
 
 @dataclass

@@ -17,38 +17,20 @@ from typing import Sequence
 from .. import __version__
 from ..faults import BadInput, Lacking, WrongWords, one_line
 from ..files import Interrupted, inputs_noted, is_full, unwind_on_signals
+from .options import Parser
 
 COMMANDS = (
-    "prepare",
-    "scenarios",
-    "walks",
-    "points",
-    "split",
-    "join",
-    "compare",
-    "access",
-    "equity",
-    "bands",
-    "service",
-    "explain",
-    "map",
-    "page",
-    "long",
-    "omx",
-    "gis",
-    "isochrones",
-    "study",
-    "explore",
-    "docs",
-)
+    "prepare scenarios walks points split join compare access equity bands service explain map page long omx gis "
+    "isochrones study explore docs"
+).split()
 NO_MEMORY, OF_ITS_OWN = 3, 70
 NEGATIVE = re.compile(r"-[0-9.][-+0-9.,e]*")
 
 
-def parser_of() -> argparse.ArgumentParser:
+def parser_of() -> Parser:
     """All commands with their options."""
     about = "Tools for analysts, before and after a run of ttm. `ttm-tools COMMAND --help` lists a command's options."
-    parser = argparse.ArgumentParser(prog="ttm-tools", description=about)
+    parser = Parser(prog="ttm-tools", description=about)
     commands = parser.add_subparsers(dest="command", metavar="COMMAND", required=True)
     for name in COMMANDS:
         module = importlib.import_module(f".{name}", __package__)
@@ -65,7 +47,7 @@ def status_of(args: argparse.Namespace) -> int:
     begin = f"ttm-tools {args.command}: "
     try:
         with contextlib.nullcontext() if args.command == "study" else inputs_noted():  # it locks its own folder
-            status = int(args.run(args))
+            status = args.run(args) or 0
         sys.stdout.flush()
         return status
     except (BadInput, Lacking, WrongWords) as fault:

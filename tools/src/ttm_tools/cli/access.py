@@ -1,24 +1,11 @@
-"""ttm-tools access."""
-
 import argparse
 from dataclasses import replace
 from typing import TYPE_CHECKING, Callable
 
+from ..faults import WrongWords, needs
+from ..files import output
 from ..measures.measure_list import COMPETITIONS, DECAYS
-from .options import (
-    Range,
-    add_cutoffs,
-    add_matrix,
-    add_number,
-    add_numbers,
-    add_out,
-    add_points,
-    add_several,
-    add_share,
-    add_text,
-    opened,
-    scenarios_of,
-)
+from .options import Parser, column_of, decimals, opened, scenarios_of
 
 if TYPE_CHECKING:
     from ..gtfs.fields import Floats
@@ -45,51 +32,41 @@ and a column for each opportunity and cutoff. A travel time equal to the cutoff 
 is its --within 1800. Memory: some 300 MB, and 8 bytes for each number."""
 
 
-def describe(parser: argparse.ArgumentParser) -> None:
-    what = "a file with what each stop has; may be given more than once (needed)"
-    parser.add_argument("--opportunities", metavar="FILE", action="append", required=True, help=what)
-    add_several(parser, "--column", "NAME", "a column to count", without="all")
+def describe(parser: Parser) -> None:
+    parser.add_several("--opportunities", "FILE", "a file with what each stop has")
+    parser.add_several("--column", "NAME", "a column to count", without="all")
     what = (
         "how weights fall with travel time: at the cutoff, in a line around it, with it as half-life, or in a sigmoid"
     )
-    parser.add_argument("--decay", choices=[*DECAYS], default="step", help=f"{what} (default step)")
-    what = "the limits, between commas; decimals are rounded to whole seconds"
-    add_cutoffs(parser, what, (0, 10000), "30")
+    parser.add_choice("--decay", DECAYS, what, "step")
+    parser.add_cutoffs("the limits, between commas; decimals are rounded to whole seconds", 0, 10000, "30")
     what = "the width of the linear fall, or the standard deviation of the logistic one"
-    add_number(
-        parser, "--decay-value", what, Range("minutes", 0, 10000, whole=False), without="none; these two need it"
-    )
+    parser.add_number("--decay-value", what, decimals("minutes", 0, 10000), without="none; these two need it")
     what = "instead of access, the time within which this many are reached, between commas"
-    add_numbers(parser, "--nearest", what, Range("", 0, 1e15, whole=False), without="access is measured")
+    parser.add_numbers("--nearest", what, decimals("", 0, 1e15), without="access is measured")
     what = "the mean over all cutoffs of whole minutes from one number to the other, such as 15,45"
-    add_numbers(
-        parser, "--interval", what, Range("minutes", 0, 1000, whole=False), without="one number for each of --cutoffs"
-    )
+    parser.add_numbers("--interval", what, decimals("minutes", 0, 1000), without="one number for each of --cutoffs")
     what = "access where people compete: a floating catchment, a balanced one, or spatial availability; needs --demand"
-    parser.add_argument("--competition", choices=[*COMPETITIONS], help=f"{what} (without it, nobody competes)")
-    add_text(parser, "--demand", "FILE", "how many people are at each origin, for --competition", without="none")
-    add_text(parser, "--demand-column", "NAME", "its column of people", without="the only one")
-    add_text(parser, "--scenario", "NAME", "the scenario to measure", without="all")
-    add_points(parser, "all origins and stops")
-    add_share(parser, without="all")
-    what = "a line for each number, or a column (default long)"
-    parser.add_argument("--form", choices=("long", "wide"), default="long", help=what)
-    add_out(parser, "the file of the table")
-    add_matrix(parser)
+    parser.add_choice("--competition", COMPETITIONS, what, without="nobody competes")
+    parser.add_text("--demand", "FILE", "how many people are at each origin, for --competition", without="none")
+    parser.add_text("--demand-column", "NAME", "its column of people", without="the only one")
+    parser.add_text("--scenario", "NAME", "the scenario to measure", without="all")
+    parser.add_points("all origins and stops")
+    parser.add_share(without="all")
+    parser.add_choice("--form", ("long", "wide"), "a line for each number, or a column", "long")
+    parser.add_out("the file of the table")
+    parser.add_matrix()
 
 
-def run(args: argparse.Namespace) -> int:
-    from ..faults import needs
-
+def run(args: argparse.Namespace) -> None:
     refuse_together(args)
     needs("numpy")
-    from ..files import output
     from ..measures.opportunities import read_counts
     from ..points.shown import shown_of
     from ..views.access import ACCESS, NEAREST, Form, measured, write_access
 
     matrix, _ = shown_of(opened(args), None, args.points)
-    scenarios = scenarios_of(matrix, [args.scenario] if args.scenario else None)
+    scenarios = scenarios_of(matrix, [args.scenario] if args.scenario else [])
     shares = matrix.shares if args.share is None else [matrix.share(args.share)]
     counts = read_counts(args.opportunities, matrix.stops, "stop of the matrix", args.column)
     measure = measure_of(args, matrix, counts)
@@ -102,13 +79,9 @@ def run(args: argparse.Namespace) -> int:
         limits = [f"{low:g}-{high:g}"]
     with output(args.out) as file:
         write_access(file, found, counts.names, limits, Form(heads, args.form, args.scenario is None))
-    return 0
 
 
 def refuse_together(args: argparse.Namespace) -> None:
-    """Refuses options that don't go together."""
-    from ..faults import WrongWords
-
     if args.decay == "exponential" and min(args.cutoffs) < 0.01:
         raise WrongWords("--decay exponential needs --cutoffs above 0: they are half-lives")
     if args.nearest and min(args.nearest) <= 0:
@@ -133,22 +106,12 @@ def measure_of(args: argparse.Namespace, matrix: "Matrix", counts: "Counts") -> 
     if args.nearest:
         return lambda scenario, share: nearest(matrix, scenario, share, counts.numbers, args.nearest)
     if args.competition:
-        demand = demand_of(args, matrix)
+        known = matrix.stops_and_origins()
+        _, people = column_of(args.demand, known, args.demand_column, "choose one with --demand-column")
+        demand = dict(zip(known, people.tolist()))
         market = Market(args.competition, counts.numbers, demand, decay, args.cutoffs)
         return lambda scenario, share: competition(matrix, scenario, share, market)
     if args.interval:
         interval = Interval(*map(int, args.interval))
         return lambda scenario, share: access(matrix, scenario, share, counts.numbers, interval, [0])
     return lambda scenario, share: access(matrix, scenario, share, counts.numbers, decay, args.cutoffs)
-
-
-def demand_of(args: argparse.Namespace, matrix: "Matrix") -> dict[str, float]:
-    """The people by origin who compete."""
-    from ..faults import BadInput, some
-    from ..measures.opportunities import read_counts
-
-    known, columns = matrix.stops_and_origins(), [args.demand_column] if args.demand_column else []
-    found = read_counts([args.demand], known, "stop of the matrix", columns)
-    if len(found.names) > 1:
-        raise BadInput(args.demand, f"it has the columns {some(found.names)}: choose one with --demand-column")
-    return dict(zip(known, found.numbers[:, 0].tolist()))

@@ -1,8 +1,8 @@
-"""ttm-tools bands."""
-
 import argparse
 
-from .options import Range, add_number, add_numbers, add_out, add_people, add_text
+from ..faults import WrongWords, needs
+from ..files import output, write_picture
+from .options import Parser, Range, decimals
 
 SUMMARY = "the number of people in bands of access, or of the time to the nearest opportunities"
 HELP = """\
@@ -16,29 +16,24 @@ group and scenario as PNG, for one opportunity, percentile and cutoff; it needs 
 bytes for each line of the table."""
 
 
-def describe(parser: argparse.ArgumentParser) -> None:
+def describe(parser: Parser) -> None:
     parser.add_argument("access", metavar="ACCESS", help="a table of ttm-tools access in its long form")
-    add_people(parser)
+    parser.add_people()
     what = "where bands begin, ascending: opportunities, or minutes for a table of the nearest"
-    add_numbers(parser, "--bands", what, Range("", 0, 1e15, whole=False), without="an error")
-    add_text(parser, "--opportunity", "NAME", "the opportunity to count", without="all")
-    add_number(parser, "--percentile", "the percentile to count", Range("percent", 1, 100), without="all")
+    parser.add_numbers("--bands", what, decimals("", 0, 1e15), without="an error")
+    parser.add_text("--opportunity", "NAME", "the opportunity to count", without="all")
+    parser.add_number("--percentile", "the percentile to count", Range("percent", 1, 100), without="all")
     what = "the cutoff to count, or the number of nearest opportunities"
-    add_number(parser, "--cutoff", what, Range("", 0, 1e15, whole=False), without="all")
-    parser.add_argument(
-        "--form", choices=("csv", "markdown"), default="csv", help="the format of the table (default csv)"
-    )
-    add_text(parser, "--picture", "FILE", "the file of a picture", without="none is drawn")
-    add_out(parser, "the file of the table")
+    parser.add_number("--cutoff", what, decimals("", 0, 1e15), without="all")
+    parser.add_form()
+    parser.add_text("--picture", "FILE", "the file of a picture", without="none is drawn")
+    parser.add_out("the file of the table")
 
 
-def run(args: argparse.Namespace) -> int:
-    from ..faults import WrongWords, needs
-
+def run(args: argparse.Namespace) -> None:
     if args.bands is None:
         raise WrongWords("--bands is needed, such as 1000,10000")
     needs("numpy", *(["matplotlib"] if args.picture else []))
-    from ..files import output, write_picture
     from ..measures.access_table import read_access
     from ..measures.opportunities import read_counts
     from ..views.bands import bands_of, figure_of, write_bands
@@ -52,4 +47,3 @@ def run(args: argparse.Namespace) -> int:
         write_bands(file, table, bands_of(table, kinds, people, args.bands), args.form)
     if figure is not None:
         write_picture(args.picture, figure)
-    return 0

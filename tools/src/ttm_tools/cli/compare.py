@@ -1,20 +1,8 @@
-"""ttm-tools compare."""
-
 import argparse
 
-from .options import (
-    Range,
-    add_base,
-    add_feed,
-    add_matrix,
-    add_number,
-    add_out,
-    add_points,
-    add_share,
-    add_text,
-    add_within,
-    opened,
-)
+from ..faults import BadInput, WrongWords, needs, say
+from ..files import output
+from .options import Parser, Range, opened
 
 SUMMARY = "who loses and who gains between two scenarios"
 HELP = """\
@@ -39,39 +27,32 @@ unless --partial is given. A summary goes to standard error. Memory: by origin s
 each pair that differs."""
 
 
-def describe(parser: argparse.ArgumentParser) -> None:
-    what = "what a line of the table is (default pair)"
-    parser.add_argument("--by", choices=("pair", "origin"), default="pair", help=what)
+def describe(parser: Parser) -> None:
+    parser.add_choice("--by", ("pair", "origin"), "what a line of the table is", "pair")
     what = "travel times that differ by more than this count as slower or faster"
-    add_number(parser, "--limit", what, Range("seconds", 0, 604800), default=60)
+    parser.add_number("--limit", what, Range("seconds", 0, 604800), default=60)
     what = "access that differs by this or more counts as lost or gained"
-    add_number(parser, "--least", what, Range("opportunities", 1, 4294967295), default=1)
-    what = "why an origin is listed: a pair that differs, its access, or either (default both)"
-    parser.add_argument("--listed", choices=("both", "times", "access"), default="both", help=what)
-    what = "how lines are sorted: the greatest loss or gain first, or by percent (without it, losers, then winners)"
-    parser.add_argument("--sort", choices=("loss", "gain", "relative"), help=what)
-    add_number(
-        parser, "--top", "the maximum number of lines of the table", Range("lines", 1, 1000000000), without="all"
-    )
-    add_base(parser)
-    add_text(parser, "--scenario", "NAME", "the scenario that is compared with the base", without="the only other one")
-    add_share(parser)
-    add_within(parser)
-    add_feed(parser, "an unpacked feed, for the names of stops", "there are no names")
-    add_points(parser)
-    what = "if one scenario lacks origins, compare the others (without it, that is an error)"
-    parser.add_argument("--partial", action="store_true", help=what)
-    add_out(parser, "the file of the table")
-    add_matrix(parser)
+    parser.add_number("--least", what, Range("opportunities", 1, 4294967295), default=1)
+    what = "why an origin is listed: a pair that differs, its access, or either"
+    parser.add_choice("--listed", ("both", "times", "access"), what, "both")
+    what = "how lines are sorted: the greatest loss or gain first, or by percent"
+    parser.add_choice("--sort", ("loss", "gain", "relative"), what, without="losers, then winners")
+    parser.add_number("--top", "the maximum number of lines of the table", Range("lines", 1, 10**9), without="all")
+    parser.add_base()
+    parser.add_text("--scenario", "NAME", "the scenario that is compared with the base", without="the only other one")
+    parser.add_share()
+    parser.add_within()
+    parser.add_text("--feed", "FOLDER", "an unpacked feed, for the names of stops", without="there are no names")
+    parser.add_points()
+    parser.add_flag("--partial", "if one scenario lacks origins, compare the others", "that is an error")
+    parser.add_out("the file of the table")
+    parser.add_matrix()
 
 
-def run(args: argparse.Namespace) -> int:
-    from ..faults import BadInput, WrongWords, needs, say
-
+def run(args: argparse.Namespace) -> None:
     if args.by == "pair" and (args.least > 1 or args.listed != "both"):
         raise WrongWords("--least and --listed go with --by origin")
     needs("numpy")
-    from ..files import output
     from ..matrices import pair_of
     from ..measures.comparison import compare
     from ..points.shown import shown_of
@@ -91,4 +72,3 @@ def run(args: argparse.Namespace) -> int:
             write_origins(file, pair, place, comparison, stops, choice)
     sentences = summary(pair, comparison, args.limit, place, args.least)
     say(*([f"{pair.lacking}: left out"] if pair.lacking else []), *sentences)
-    return 0

@@ -1,10 +1,11 @@
-"""ttm-tools docs."""
-
 import argparse
 import sys
 import webbrowser
 from pathlib import Path
 from typing import Iterator
+
+from ..faults import Lacking
+from .options import Parser
 
 SUMMARY = "the documentation, in a browser"
 HELP = """\
@@ -13,9 +14,8 @@ Debian package, the tar file and the wheel contain it; in a clone, packaging/bui
 INDEX = "docs/README.html"
 
 
-def describe(parser: argparse.ArgumentParser) -> None:
-    what = "print where the documentation is, and open nothing (without it, a browser opens)"
-    parser.add_argument("--path", action="store_true", help=what)
+def describe(parser: Parser) -> None:
+    parser.add_flag("--path", "print where the documentation is, and open nothing", "a browser opens")
 
 
 def places() -> Iterator[Path]:
@@ -26,13 +26,10 @@ def places() -> Iterator[Path]:
     yield from (above / "packaging" / "out" / "html" for above in package.parents[2:3])
 
 
-def run(args: argparse.Namespace) -> int:
-    from ..faults import Lacking
-
+def run(args: argparse.Namespace) -> None:
     index = next((place / INDEX for place in places() if (place / INDEX).is_file()), None)
     if index is None:
         raise Lacking("the documentation isn't installed: packaging/build.sh writes it, with Sphinx and MyST")
     print(index)
     if not args.path:
         webbrowser.open(index.as_uri())
-    return 0

@@ -1,10 +1,10 @@
-"""ttm-tools equity."""
-
 import argparse
 from typing import TYPE_CHECKING, Sequence
 
+from ..faults import BadInput, WrongWords, needs, say, some
+from ..files import output, write_picture
 from ..measures.measure_list import FAIRNESS
-from .options import Range, add_base, add_number, add_out, add_people, add_text, is_file_of_base
+from .options import Parser, Range, column_of, decimals, is_file_of_base
 
 if TYPE_CHECKING:
     from ..measures.access_table import AccessTable, AccessKind
@@ -34,38 +34,33 @@ the mean change of each tenth of the people as PNG, for one opportunity, percent
 matplotlib. Memory: some 100 MB, and 300 bytes for each line of the table."""
 
 
-def describe(parser: argparse.ArgumentParser) -> None:
+def describe(parser: Parser) -> None:
     parser.add_argument("access", metavar="ACCESS", help="a table of ttm-tools access in its long form")
-    add_people(parser)
-    add_text(parser, "--opportunity", "NAME", "the opportunity to measure", without="all")
-    add_number(parser, "--percentile", "the percentile to measure", Range("percent", 1, 100), without="all")
-    add_number(parser, "--cutoff", "the cutoff to measure", Range("minutes", 0, 1e15, whole=False), without="all")
-    add_base(parser)
+    parser.add_people()
+    parser.add_text("--opportunity", "NAME", "the opportunity to measure", without="all")
+    parser.add_number("--percentile", "the percentile to measure", Range("percent", 1, 100), without="all")
+    parser.add_number("--cutoff", "the cutoff to measure", decimals("minutes", 0, 1e15), without="all")
+    parser.add_base()
     what = "the loss, in percent of the base's access, from which people count as losers"
-    add_number(parser, "--lose", what, Range("percent", 0, 100, whole=False), default=10)
+    parser.add_number("--lose", what, decimals("percent", 0, 100), default=10)
     what = "print Theil's T, the concentration index, or poverty of access instead"
-    parser.add_argument("--measure", choices=[*FAIRNESS], help=f"{what} (without it, none)")
+    parser.add_choice("--measure", FAIRNESS, what, without="none")
     what = "a file with a column such as income, which ranks the origins; concentration needs it"
-    add_text(parser, "--rank", "FILE", what, without="none")
+    parser.add_text("--rank", "FILE", what, without="none")
     what = "the access below which people are poor; poverty needs it"
-    add_number(parser, "--line", what, Range("", 1e-9, 1e15, whole=False), without="none")
-    parser.add_argument(
-        "--form", choices=("csv", "markdown"), default="csv", help="the format of the table (default csv)"
-    )
-    add_text(parser, "--picture", "FILE", "the file of a picture", without="none is drawn")
-    add_out(parser, "the file of the table")
+    parser.add_number("--line", what, decimals("", 1e-9, 1e15), without="none")
+    parser.add_form()
+    parser.add_text("--picture", "FILE", "the file of a picture", without="none is drawn")
+    parser.add_out("the file of the table")
 
 
-def run(args: argparse.Namespace) -> int:
-    from ..faults import WrongWords, needs, say
-
+def run(args: argparse.Namespace) -> None:
     needed = {"concentration": args.rank, "poverty": args.line}
     if any((args.measure == name) != (value is not None) for name, value in needed.items()):
         raise WrongWords("--measure concentration needs --rank, and poverty --line; no other measure takes them")
     if args.measure and args.picture:
         raise WrongWords("--picture does not go with --measure")
     needs("numpy", *(["matplotlib"] if args.picture else []))
-    from ..files import output, write_picture
     from ..matrices.beside import labels_of
     from ..measures.access_table import beside, read_access, sentences_on_lost
     from ..measures.opportunities import read_counts
@@ -80,42 +75,30 @@ def run(args: argparse.Namespace) -> int:
     elif args.base_scenario is not None:
         raise WrongWords("--base-scenario goes with a file as --base")
     people = read_counts(args.people, table.origins, f"origin of {args.access}", args.column)
-    options = EquityOptions(
-        args.base or table.base, args.lose, chosen_kinds(table, args.opportunity, args.percentile, args.cutoff)
-    )
+    kinds = chosen_kinds(table, args.opportunity, args.percentile, args.cutoff)
+    options = EquityOptions(args.base or table.base, args.lose, kinds)
     if args.measure:
-        return further(args, table, people, options.kinds)
+        return further(args, table, people, kinds)
     figure = figure_of(table, people, options) if args.picture else None
     with output(args.out) as file:
         write_equity(file, measured(table, people, options), args.form)
     if figure is not None:
         write_picture(args.picture, figure)
-    return 0
 
 
-def further(args: argparse.Namespace, table: "AccessTable", people: "Counts", kinds: "Sequence[AccessKind]") -> int:
+def further(args: argparse.Namespace, table: "AccessTable", people: "Counts", kinds: "Sequence[AccessKind]") -> None:
     """Writes one of the further measures."""
-    from ..faults import BadInput, some
-    from ..files import output
-    from ..measures.opportunities import identifier_of, read_counts
+    from ..measures.opportunities import identifier_of
     from ..records import rows, shown
     from ..views.fairness import FairnessOptions, lines_of, write_fairness
 
     rank = None
     if args.rank:
-        found = read_counts([args.rank], table.origins, f"origin of {args.access}")
-        if len(found.names) > 1:
-            raise BadInput(args.rank, f"it has the columns {some(found.names)}: a rank has one")
-        rank = found.numbers[:, 0]
+        _, rank = column_of(args.rank, table.origins, None, "a rank has one", f"origin of {args.access}")
         named = {name for _, (name,) in rows(args.rank, [identifier_of(args.rank)])}
         lost = [shown(name) for name in table.origins if name not in named]
         if lost:
             raise BadInput(args.rank, f"ranks are missing for {len(lost):,} origins of {args.access}: {some(lost)}")
     with output(args.out) as file:
-        write_fairness(
-            file,
-            lines_of(table, people, FairnessOptions(args.measure, kinds, rank, args.line)),
-            args.measure,
-            args.form,
-        )
-    return 0
+        lines = lines_of(table, people, FairnessOptions(args.measure, kinds, rank, args.line))
+        write_fairness(file, lines, args.measure, args.form)

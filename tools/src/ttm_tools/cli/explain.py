@@ -1,10 +1,9 @@
-"""ttm-tools explain."""
-
 import argparse
-import re
 from typing import TYPE_CHECKING
 
-from .options import Range, add_number, add_out, add_text, day
+from ..faults import BadInput, WrongWords, needs
+from ..files import output, write_picture
+from .options import Parser, Range
 
 if TYPE_CHECKING:
     from ..engine import Run
@@ -25,49 +24,33 @@ proved; ttm runs too (or --matrix has the travel time), and if the travel times 
 or stand with it at the end. Memory: some 200 MB, and 200 bytes for each stop time of the days that count."""
 
 
-def clock(text: str) -> str:
-    if not re.fullmatch(r"([01][0-9]|2[0-3]):[0-5][0-9]", text):
-        raise argparse.ArgumentTypeError(f"{text!r} is not 00:00 to 23:59")
-    return text
-
-
-def describe(parser: argparse.ArgumentParser) -> None:
+def describe(parser: Parser) -> None:
     parser.add_argument("feed", metavar="FEED", help="the folder of an unpacked feed")
     what = "scenario files, each compared with the feed as it is"
     parser.add_argument("scenarios", metavar="SCENARIO", nargs="*", help=what)
     for name, what in (("--origin", "where the journey begins"), ("--destination", "where it ends")):
         parser.add_argument(name, metavar="STOP", help=f"the stop {what} (without it, --pairs is needed)")
     what = "a file with the columns origin and destination: write a table of their journeys as CSV"
-    add_text(parser, "--pairs", "FILE", what, without="one journey is printed leg by leg")
-    what = "the day of the departures, YYYYMMDD or YYYY-MM-DD, of the years 1 to 9999 (needed)"
-    parser.add_argument("--date", metavar="DATE", type=day, required=True, help=what)
-    for name, what in (("--from", "first"), ("--to", "last")):
-        help = f"the {what} departure, one each minute, 00:00 to 23:59 (needed)"
-        parser.add_argument(name, dest=what, metavar="HH:MM", type=clock, required=True, help=help)
-    add_number(parser, "--trips", "the maximum number of vehicles of a journey", Range("", 1, 8), default=4)
-    add_number(parser, "--walk", "the longest walk", Range("seconds", 0, 7200), default=600)
-    add_number(parser, "--share", "the percentile of the departures", Range("percent", 1, 100), default=50)
-    add_number(parser, "--back", "service days before the date that count", Range("days", 0, 6), default=1)
-    add_number(parser, "--ahead", "service days after the date that count", Range("days", 0, 6), default=1)
-    add_text(parser, "--footpaths", "FILE", "walks in addition to those of the feed", without="there are none")
+    parser.add_text("--pairs", "FILE", what, without="one journey is printed leg by leg")
+    parser.add_day("the day of the departures")
+    parser.add_window()
+    parser.add_journeys()
+    parser.add_number("--share", "the percentile of the departures", Range("percent", 1, 100), default=50)
+    parser.add_days_that_count()
+    parser.add_text("--footpaths", "FILE", "walks in addition to those of the feed", without="there are none")
     what = "a matrix that has the travel time, instead of a run of ttm"
-    add_text(parser, "--matrix", "FILE", what, without="ttm runs")
-    what = "the program ttm"
-    add_text(
-        parser, "--program", "PATH", what, without="TTM_PROGRAM, else the one on the PATH, else the one built here"
-    )
+    parser.add_text("--matrix", "FILE", what, without="ttm runs")
+    parser.add_program()
     what = "a picture of the durations by departure, as PNG; needs matplotlib"
-    add_text(parser, "--picture", "FILE", what, without="none is drawn")
-    add_out(parser, "the file of the text")
+    parser.add_text("--picture", "FILE", what, without="none is drawn")
+    parser.add_out("the file of the text")
     for name in UNUSED:
-        what = "an option of ttm that changes no journey, and is ignored (without it, the same)"
-        parser.add_argument(f"--{name}", metavar="VALUE", help=what)
+        what = "an option of ttm that changes no journey, and is ignored"
+        parser.add_text(f"--{name}", "VALUE", what, without="the same")
 
 
 def run_of(args: argparse.Namespace) -> "Run":
-    """The run of `ttm` with these arguments."""
     from ..engine import Run
-    from ..faults import WrongWords
 
     if args.last < args.first:
         raise WrongWords("--to is before --from")
@@ -77,22 +60,19 @@ def run_of(args: argparse.Namespace) -> "Run":
     return Run(args.feed, args.date, window, shares=[args.share], scenarios=args.scenarios, files=files, **how)
 
 
-def run(args: argparse.Namespace) -> int:
-    from ..faults import WrongWords, needs
-
+def run(args: argparse.Namespace) -> None:
     one = [args.origin, args.destination, args.picture]
     if any(value is not None for value in one) if args.pairs else None in one[:2]:
         raise WrongWords("--origin and --destination are needed, or --pairs alone, without --picture")
     needs("numpy", "pandas", *(["matplotlib"] if args.picture else []))
-    from ..explanation import found_of
-    from ..files import output, write_picture
+    from ..explanation import all_found
     from ..views.departures import figure_of
     from ..views.journeys import text_of
 
     run, ends = run_of(args), (args.origin, args.destination)
     if args.pairs:
-        return table_of(args, run)
-    question, found = found_of(run, args.date, *ends, program=args.program, matrix=args.matrix)
+        return write_table(args, run)
+    ((question, found),) = all_found(run, args.date, [ends], program=args.program, matrix=args.matrix)
     lines = list(text_of(question, found))
     figure = figure_of(question, found) if args.picture else None
     with output(args.out) as file:
@@ -100,15 +80,12 @@ def run(args: argparse.Namespace) -> int:
             file.write(line.encode("utf-8", "backslashreplace") + b"\n")
     if figure is not None:
         write_picture(args.picture, figure)
-    return 0
 
 
-def table_of(args: argparse.Namespace, run: "Run") -> int:
+def write_table(args: argparse.Namespace, run: "Run") -> None:
     """Writes the table of the journeys of many pairs."""
     from ..column_list import JOURNEYS, names_of
     from ..explanation import all_found
-    from ..faults import BadInput
-    from ..files import output
     from ..records import rows, write_rows
     from ..views.itineraries import lines_of
 
@@ -118,4 +95,3 @@ def table_of(args: argparse.Namespace, run: "Run") -> int:
     found = all_found(run, args.date, pairs, program=args.program, matrix=args.matrix)
     with output(args.out) as file:
         write_rows(file, names_of(JOURNEYS), (line for question, of in found for line in lines_of(question, of)))
-    return 0

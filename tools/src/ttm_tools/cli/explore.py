@@ -1,10 +1,9 @@
-"""ttm-tools explore."""
-
 import argparse
 from typing import TYPE_CHECKING
 
-from .explain import clock
-from .options import Range, add_number, add_text, day
+from ..faults import WrongWords, needs, say
+from ..files import scratch
+from .options import Parser, Range, decimals
 
 if TYPE_CHECKING:
     from ..explore.options import ExploreOptions
@@ -28,51 +27,34 @@ Needs flask, jinja2, pandas and Leaflet from Debian's libjs-leaflet. Memory: tha
 for each stop time, journeys and changes included. While a changed network starts, `ttm` takes its memory twice."""
 
 
-def describe(parser: argparse.ArgumentParser) -> None:
+def describe(parser: Parser) -> None:
     meaning = "the folder of an unpacked feed that ttm accepts; or a study's file, for its feed, day, window and plan"
     parser.add_argument("feed", metavar="FEED", help=meaning)
-    meaning = (
-        "the day of the departures, YYYYMMDD or YYYY-MM-DD, of the years 1 to 9999 (without it, that of the study)"
-    )
-    parser.add_argument("--date", metavar="DATE", type=day, help=meaning)
-    for name, meaning, at in (("--from", "first", "07:30"), ("--to", "last", "08:29")):
-        help = f"the {meaning} departure at the start, one each minute, 00:00 to 23:59 (default {at})"
-        parser.add_argument(name, dest=meaning, metavar="HH:MM", type=clock, default=at, help=help)
-    add_number(
-        parser, "--trips", "the maximum number of vehicles of a journey at the start", Range("", 1, 8), default=4
-    )
-    add_number(parser, "--walk", "the longest walk at the start", Range("seconds", 0, 7200), default=600)
-    add_number(parser, "--back", "service days before the date that count", Range("days", 0, 6), default=1)
-    add_number(parser, "--ahead", "service days after the date that count", Range("days", 0, 6), default=1)
-    add_text(parser, "--footpaths", "FILE", "walks in addition to those of the feed", without="there are none")
+    parser.add_day("the day of the departures", without="that of the study")
+    parser.add_window(" at the start", "07:30", "08:29")
+    parser.add_journeys(" at the start")
+    parser.add_days_that_count()
+    parser.add_text("--footpaths", "FILE", "walks in addition to those of the feed", without="there are none")
     meaning = "make walks along the streets of a file of OpenStreetMap (.osm.pbf, .osm); needs pyosmium and scipy"
-    add_text(parser, "--streets", "FILE", meaning, without="--footpaths, or straight lines to cells")
+    parser.add_text("--streets", "FILE", meaning, without="--footpaths, or straight lines to cells")
     meaning = "square cells wherever a stop is within a walk, as places to click on; their side"
-    add_number(parser, "--grid", meaning, Range("metres", 10, 100000, whole=False), without="stops alone")
-    add_text(parser, "--plan", "FILE", "a plan whose scenarios are compared with today", without="there is none")
-    meaning = (
-        "a file with what each stop has, whose columns are counted; may be given more than once (without it, stops)"
-    )
-    parser.add_argument("--opportunities", metavar="FILE", action="append", default=[], help=meaning)
-    add_text(parser, "--title", "TEXT", "the title of the page", without="the feed's name")
-    add_text(parser, "--out", "FOLDER", "where studies are saved", default="explored")
-    add_number(parser, "--port", "the port of the page; 0 takes a free one", Range("", 0, 65535), default=0)
-    meaning = "print the address alone (without it, a browser opens it)"
-    parser.add_argument("--no-browser", action="store_true", help=meaning)
-    meaning = "the program ttm"
-    add_text(
-        parser, "--program", "PATH", meaning, without="TTM_PROGRAM, else the one on the PATH, else the one built here"
-    )
-    add_text(parser, "--leaflet", "FOLDER", "the folder of Leaflet", default="/usr/share/javascript/leaflet")
+    parser.add_number("--grid", meaning, decimals("metres", 10, 100000), without="stops alone")
+    parser.add_text("--plan", "FILE", "a plan whose scenarios are compared with today", without="there is none")
+    meaning = "a file with what each stop has, whose columns are counted"
+    parser.add_several("--opportunities", "FILE", meaning, without="stops")
+    parser.add_text("--title", "TEXT", "the title of the page", without="the feed's name")
+    parser.add_text("--out", "FOLDER", "where studies are saved", default="explored")
+    parser.add_number("--port", "the port of the page; 0 takes a free one", Range("", 0, 65535), default=0)
+    parser.add_flag("--no-browser", "print the address alone", "a browser opens it")
+    parser.add_program()
+    parser.add_text("--leaflet", "FOLDER", "the folder of Leaflet", default="/usr/share/javascript/leaflet")
 
 
 def options_of(args: argparse.Namespace) -> "ExploreOptions":
-    """The options of these arguments."""
     from datetime import date
 
     from ..explore.of_study import options_of_study
     from ..explore.options import OF_NO_OPTION, ExploreOptions
-    from ..faults import WrongWords
 
     if args.last < args.first:
         raise WrongWords("--to is before --from")
@@ -85,9 +67,7 @@ def options_of(args: argparse.Namespace) -> "ExploreOptions":
     return options_of_study(args.feed, options) if is_study else options
 
 
-def run(args: argparse.Namespace) -> int:
-    from ..faults import needs, say
-
+def run(args: argparse.Namespace) -> None:
     needs("numpy", "pandas", "jinja2", "flask")
     options = options_of(args)
     from ..explore.application import application
@@ -95,7 +75,6 @@ def run(args: argparse.Namespace) -> int:
     from ..explore.guard import Guard
     from ..explore.making import with_generated
     from ..explore.serving import bound, serve
-    from ..files import scratch
     from ..memory import give_back_at_once
     from ..views.page.document import leaflet_files
 
@@ -114,4 +93,3 @@ def run(args: argparse.Namespace) -> int:
             serve(application(exploration, guard), own, None if args.no_browser else guard.address)
         finally:
             exploration.close()
-    return 0

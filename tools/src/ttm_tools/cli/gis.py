@@ -1,19 +1,8 @@
-"""ttm-tools gis."""
-
 import argparse
 
-from .options import (
-    Range,
-    add_matrix,
-    add_numbers,
-    add_points,
-    add_several,
-    add_share,
-    add_text,
-    gis_kind,
-    opened,
-    scenarios_of,
-)
+from ..faults import WrongWords, needs, quantity, say
+from ..files import output
+from .options import Parser, decimals, gis_kind, opened, scenarios_of
 
 SUMMARY = "stops with access and travel times, for a geographic information system"
 HELP = """\
@@ -26,29 +15,24 @@ width, areas if it has areas; in a GeoPackage all polygons are of the kind Multi
 left out, and counted. Memory: some 100 MB."""
 
 
-def describe(parser: argparse.ArgumentParser) -> None:
-    parser.add_argument("--feed", metavar="FOLDER", required=True, help="the unpacked feed of the matrix (needed)")
-    add_points(parser)
-    add_text(parser, "--origin", "STOP", "the stop from which travel times are written", without="access alone")
-    add_several(parser, "--opportunities", "FILE", "a file with what each stop has, for --nearest", without="none")
+def describe(parser: Parser) -> None:
+    parser.add_feed_of_matrix()
+    parser.add_points()
+    parser.add_text("--origin", "STOP", "the stop from which travel times are written", without="access alone")
+    parser.add_several("--opportunities", "FILE", "a file with what each stop has, for --nearest", without="none")
     what = "the numbers of opportunities to reach, between commas; needs --opportunities"
-    add_numbers(parser, "--nearest", what, Range("", 1e-9, 1e15, whole=False), without="no such columns")
-    what = "a scenario to write; may be given more than once (without it, all)"
-    parser.add_argument("--scenario", metavar="NAME", action="append", help=what)
-    add_share(parser, without="all")
-    what = "the file of the points: .geojson, .json or .gpkg, which appears only when it is complete (needed)"
-    parser.add_argument("--out", metavar="FILE", required=True, help=what)
-    add_matrix(parser)
+    parser.add_numbers("--nearest", what, decimals("", 1e-9, 1e15), without="no such columns")
+    parser.add_several("--scenario", "NAME", "a scenario to write", without="all")
+    parser.add_share(without="all")
+    parser.add_out("the file of the points: .geojson, .json or .gpkg", without="")
+    parser.add_matrix()
 
 
-def run(args: argparse.Namespace) -> int:
-    from ..faults import WrongWords, needs, quantity, say
-
+def run(args: argparse.Namespace) -> None:
     kind = gis_kind(args.out)
     if bool(args.opportunities) != bool(args.nearest):
         raise WrongWords("--opportunities and --nearest go together")
     needs("numpy", *(["geopandas"] if kind == "gpkg" else []))
-    from ..files import output
     from ..points.shown import shown_of
     from ..measures.opportunities import read_counts
     from ..views.gis import features_of, with_nearest, write_geojson, write_geopackage
@@ -68,4 +52,3 @@ def run(args: argparse.Namespace) -> int:
             write_geojson(file, features)
     lost = len(matrix.stops_and_origins()) - len(features.stops.identifiers)
     say(f"{args.out}: {quantity(len(features.stops.identifiers), 'stop')}; {lost:,} without coordinates")
-    return 0

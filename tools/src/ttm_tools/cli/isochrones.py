@@ -1,21 +1,9 @@
-"""ttm-tools isochrones."""
-
 import argparse
 import os
 
-from .options import (
-    Range,
-    add_base_scenario,
-    add_matrix,
-    add_numbers,
-    add_points,
-    add_share,
-    add_text,
-    add_walking,
-    gis_kind,
-    opened,
-    scenarios_of,
-)
+from ..faults import WrongWords, needs, quantity, say
+from ..files import output
+from .options import Parser, decimals, gis_kind, ground_of, opened, scenarios_of
 
 SUMMARY = "the areas that can be reached from an origin within given minutes"
 HELP = """\
@@ -28,53 +16,38 @@ or points reached, and with --people the sums of a file's columns over them. Nee
 osmium."""
 
 
-def describe(parser: argparse.ArgumentParser) -> None:
-    parser.add_argument("--feed", metavar="FOLDER", required=True, help="the unpacked feed of the matrix (needed)")
-    add_points(parser)
-    parser.add_argument("--origin", metavar="STOP", required=True, help="where the journeys begin (needed)")
-    add_numbers(
-        parser,
-        "--bands",
-        "the greatest travel times, ascending",
-        Range("minutes", 1, 10000, whole=False),
-        default="15,30,45,60",
-    )
-    about = "a scenario to write; may be given more than once (without it, all)"
-    parser.add_argument("--scenario", metavar="NAME", action="append", help=about)
-    add_share(parser, without="all")
-    what = "another matrix, for whose base areas are written too"
-    add_text(parser, "--base", "FILE", what, without="none")
-    add_base_scenario(parser)
-    add_walking(parser)
+def describe(parser: Parser) -> None:
+    parser.add_feed_of_matrix()
+    parser.add_points()
+    parser.add_text("--origin", "STOP", "where the journeys begin")
+    what = "the greatest travel times, ascending"
+    parser.add_numbers("--bands", what, decimals("minutes", 1, 10000), default="15,30,45,60")
+    parser.add_several("--scenario", "NAME", "a scenario to write", without="all")
+    parser.add_share(without="all")
+    parser.add_text("--base", "FILE", "another matrix, for whose base areas are written too", without="none")
+    parser.add_base_scenario()
+    parser.add_walking()
     about = "numbers to sum within each band, such as people: a column stop_id or id, and columns of numbers"
-    add_text(parser, "--people", "FILE", about, without="nothing is summed")
-    about = "the file of the areas: .geojson, .json or .gpkg, which appears only when it is complete (needed)"
-    parser.add_argument("--out", metavar="FILE", required=True, help=about)
-    add_matrix(parser)
+    parser.add_text("--people", "FILE", about, without="nothing is summed")
+    parser.add_out("the file of the areas: .geojson, .json or .gpkg", without="")
+    parser.add_matrix()
 
 
-def run(args: argparse.Namespace) -> int:
-    from ..faults import WrongWords, needs, quantity, say
-
+def run(args: argparse.Namespace) -> None:
     kind = gis_kind(args.out)
     streets = ["osmium", "scipy"] if args.streets else []
     needs("numpy", "shapely", *(["geopandas"] if kind == "gpkg" else []), *streets)
-    from ..files import output
     from ..measures.opportunities import read_counts
-    from ..points.shown import points_in, shown_of
+    from ..points.shown import shown_of
     from ..views import isochrones as areas
 
     if args.base is not None and not os.path.isfile(args.base):
         raise WrongWords(f"--base {args.base} is not a file")
     matrix, stops = shown_of(opened(args), args.feed, args.points)
     assert stops is not None
-    there = stops.of(matrix.stops)
-    ground = areas.ground_of(there, areas.polygons_of(args.points or points_in(args.feed)))
+    ground, walking = ground_of(args, stops.of(matrix.stops))
     counts = read_counts([args.people], matrix.stops, "column") if args.people else None
     shares = matrix.shares if args.share is None else [matrix.share(args.share)]
-    walking = areas.Walking(args.speed, args.detour, args.walk)
-    if args.streets:
-        ground = areas.along_streets(ground, there, args.streets, walking, args.near)
     bands = areas.Bands(args.origin, scenarios_of(matrix, args.scenario), shares, args.bands, walking)
     found = areas.isochrones_of(matrix, ground, bands, counts)
     if kind == "gpkg":
@@ -84,4 +57,3 @@ def run(args: argparse.Namespace) -> int:
             areas.write_geojson(file, found, args.origin)
     lost = int((~ground.placed).sum())
     say(f"{args.out}: {quantity(len(found), 'area')}; {quantity(lost, 'stop')} without coordinates")
-    return 0

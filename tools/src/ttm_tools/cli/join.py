@@ -1,8 +1,8 @@
-"""ttm-tools join."""
-
 import argparse
 
-from .options import add_out
+from ..faults import needs
+from ..files import output
+from .options import Parser
 
 SUMMARY = "the whole matrix from the matrices of parts"
 HELP = """\
@@ -12,22 +12,18 @@ line for every percentile. Otherwise nothing is written, and the exit status is 
 is truncated or repeated, or the origins that are in no part. Memory: the names of the origins."""
 
 
-def describe(parser: argparse.ArgumentParser) -> None:
-    what = "the origins of the whole study in their order, a file with the column stop_id, as split writes it (needed)"
-    parser.add_argument("--origins", metavar="FILE", required=True, help=what)
-    add_out(parser, "the file of the whole matrix")
+def describe(parser: Parser) -> None:
+    what = "the origins of the whole study in their order, a file with the column stop_id, as split writes it"
+    parser.add_text("--origins", "FILE", what)
+    parser.add_out("the file of the whole matrix")
     parser.add_argument("matrix", metavar="MATRIX", nargs="+", help="the matrix of a part, as ttm prints it")
 
 
-def run(args: argparse.Namespace) -> int:
-    from ..faults import needs
-
+def run(args: argparse.Namespace) -> None:
     needs("numpy")
-    from ..files import output
     from ..parts import PartMatrix, in_order, origins_in, write_whole
 
     origins = origins_in(args.origins)
     parts = in_order([PartMatrix(path) for path in args.matrix], origins, args.origins)
     with output(args.out) as file:
         write_whole(parts, file)
-    return 0

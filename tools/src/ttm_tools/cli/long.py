@@ -1,11 +1,11 @@
-"""ttm-tools long."""
-
 import argparse
 import sys
 from dataclasses import replace
 from typing import TYPE_CHECKING
 
-from .options import add_feed, add_matrix, add_out, add_points, add_share, add_text, add_within, opened, scenarios_of
+from ..faults import BadInput, WrongWords, needs
+from ..files import output
+from .options import Parser, opened, scenarios_of
 
 if TYPE_CHECKING:
     from ..matrices import Matrix
@@ -28,38 +28,25 @@ as a formula: --safe writes an apostrophe before it. Rows are converted in block
 memory. Memory: some 100 MB."""
 
 
-def describe(parser: argparse.ArgumentParser) -> None:
-    add_feed(parser, "an unpacked feed, for names and coordinates", "there are none")
-    add_points(parser)
-    add_text(parser, "--origins", "FILE", "the origins to write, a file with the column stop_id", without="all")
-    add_text(
-        parser,
-        "--destinations",
-        "FILE",
-        "the destinations to write, a file with the column stop_id",
-        without="all",
-    )
-    what = "a scenario to write; may be given more than once (without it, all)"
-    parser.add_argument("--scenario", metavar="NAME", action="append", help=what)
-    add_share(parser, without="all")
-    add_within(parser, without="all; goes with --access")
-    what = "leave out the pairs without a travel time (without it, their seconds are empty)"
-    parser.add_argument("--reached", action="store_true", help=what)
-    what = "write the access of the origins instead of travel times (without it, travel times)"
-    parser.add_argument("--access", action="store_true", help=what)
+def describe(parser: Parser) -> None:
+    parser.add_text("--feed", "FOLDER", "an unpacked feed, for names and coordinates", without="there are none")
+    parser.add_points()
+    for ends in ("origins", "destinations"):
+        parser.add_text(f"--{ends}", "FILE", f"the {ends} to write, a file with the column stop_id", without="all")
+    parser.add_several("--scenario", "NAME", "a scenario to write", without="all")
+    parser.add_share(without="all")
+    parser.add_within(without="all; goes with --access")
+    parser.add_flag("--reached", "leave out the pairs without a travel time", "their seconds are empty")
+    parser.add_flag("--access", "write the access of the origins instead of travel times", "travel times")
     what = "the names of the columns (default ttm); r5py's are for one scenario, in minutes"
     parser.add_argument("--names", choices=("ttm", "r5py"), default="ttm", help=what)
-    what = "also write the types of the columns, to a file that ends in .csvt, for QGIS (without it, none)"
-    parser.add_argument("--csvt", action="store_true", help=what)
-    what = "write an apostrophe before names that a spreadsheet reads as formulas (without it, none)"
-    parser.add_argument("--safe", action="store_true", help=what)
-    add_out(parser, "the file of the lines: Parquet if it ends in .parquet, otherwise CSV")
-    add_matrix(parser)
+    parser.add_flag("--csvt", "also write the types of the columns, to a file that ends in .csvt, for QGIS", "none")
+    parser.add_flag("--safe", "write an apostrophe before names that a spreadsheet reads as formulas", "none")
+    parser.add_out("the file of the lines: Parquet if it ends in .parquet, otherwise CSV")
+    parser.add_matrix()
 
 
-def run(args: argparse.Namespace) -> int:
-    from ..faults import WrongWords, needs
-
+def run(args: argparse.Namespace) -> None:
     if args.within is not None and not args.access:
         raise WrongWords("--within goes with --access")
     if args.names == "r5py" and args.access:
@@ -70,7 +57,6 @@ def run(args: argparse.Namespace) -> int:
     if args.csvt and (parquet or args.out is None):
         raise WrongWords("--csvt needs --out, the name of a CSV")
     needs("numpy", *(["pandas"] if parquet else []))
-    from ..files import output
     from ..points.shown import shown_of
     from ..views import long
 
@@ -80,7 +66,7 @@ def run(args: argparse.Namespace) -> int:
     choice = choice_of(args, matrix)
     if parquet:
         long.write_parquet(args.out, long.frames_of(matrix, choice, stops))
-        return 0
+        return
     count = 0
     with output(args.out) as file:
         if args.access:
@@ -94,22 +80,18 @@ def run(args: argparse.Namespace) -> int:
     if count > long.MOST_LINES:
         sentence = f"{count:,} lines, of which a spreadsheet shows {long.MOST_LINES:,}: choose some with --origins"
         print(f"{args.out or 'standard output'}: {sentence}", file=sys.stderr)
-    return 0
 
 
 def choice_of(args: argparse.Namespace, matrix: "Matrix") -> "TableChoice":
     """What is taken of the matrix."""
-    from ..faults import BadInput
     from ..gtfs.stops import read_list
     from ..views.long import TableChoice
 
     named = scenarios_of(matrix, args.scenario)
     scenarios = [name for name in matrix.scenarios if name in named]
     if args.names == "r5py" and len(scenarios) > 1:
-        raise BadInput(
-            args.matrix,
-            f"r5py's columns name no scenario, and it has {', '.join(scenarios)}: choose one with --scenario",
-        )
+        there = ", ".join(scenarios)
+        raise BadInput(args.matrix, f"r5py's columns name no scenario, and it has {there}: choose one with --scenario")
     shares = matrix.shares if args.share is None else [matrix.share(args.share)]
     known = [name for scenario in matrix.scenarios for name in matrix.origins(scenario, shares[0])]
     origins = read_list(args.origins, known, "origin") if args.origins else None

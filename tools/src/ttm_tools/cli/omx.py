@@ -1,8 +1,7 @@
-"""ttm-tools omx."""
-
 import argparse
 
-from .options import add_points, add_text, scenarios_of
+from ..faults import needs
+from .options import Parser, scenarios_of
 
 SUMMARY = "an Open Matrix file"
 HELP = """\
@@ -13,26 +12,22 @@ percentiles have the same origins. Every command of ttm-tools accepts such a fil
 matrix is read once. Needs h5py. Memory: some 100 MB."""
 
 
-def describe(parser: argparse.ArgumentParser) -> None:
+def describe(parser: Parser) -> None:
     what = "the study's list of origins, a file with the column stop_id: the matrix must have all, in order"
-    add_text(parser, "--origins", "FILE", what, without="a truncation of all scenarios is not detected")
-    add_points(parser, "all stops")
-    what = "the Open Matrix file, which appears only when it is complete (needed)"
-    parser.add_argument("--out", metavar="FILE", required=True, help=what)
+    parser.add_text("--origins", "FILE", what, without="a truncation of all scenarios is not detected")
+    parser.add_points("all stops")
+    parser.add_out("the Open Matrix file", without="")
     parser.add_argument("matrix", metavar="MATRIX", help="a matrix as ttm prints it")
 
 
-def run(args: argparse.Namespace) -> int:
-    from ..faults import needs
-
+def run(args: argparse.Namespace) -> None:
     needs("numpy", "h5py")
     from ..matrices import has_all, open_matrix, write_open_matrix
     from ..parts import origins_in
     from ..points.shown import shown_of
 
     matrix = open_matrix(args.matrix)
-    scenarios_of(matrix, None)
+    scenarios_of(matrix, [])
     if args.origins:
         has_all(matrix, origins_in(args.origins), args.origins)
     write_open_matrix(shown_of(matrix, None, args.points)[0], args.out)
-    return 0

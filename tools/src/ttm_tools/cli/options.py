@@ -1,18 +1,22 @@
 """How options are described: each with its meaning, its unit, its range, and its default."""
 
 import argparse
+import functools
 import math
 import os
+import re
 from dataclasses import dataclass
-from typing import TYPE_CHECKING, Sequence
+from typing import TYPE_CHECKING, Any, Iterable, Sequence
 
-from ..faults import WrongWords, say
+from ..faults import BadInput, WrongWords, say, some
 
 if TYPE_CHECKING:
     import datetime
 
+    from ..gtfs.fields import Floats
+    from ..gtfs.stops import Stops
     from ..matrices import Matrix
-
+    from ..views.isochrones import AreaGround, Walking
 
 MOST_LIMIT = 4_294_967_295  # seconds
 
@@ -31,11 +35,9 @@ class Range:
 
     @property
     def metavar(self) -> str:
-        is_word = self.unit.isascii() and self.unit.replace(" ", "").isalpha()
-        return self.unit.upper().replace(" ", "_") if is_word else "N"
+        return self.unit.upper() if self.unit.isalpha() else "N"
 
     def read(self, text: str) -> float:
-        """One number."""
         try:
             value = int(text) if self.whole else float(text)
         except ValueError:
@@ -52,6 +54,9 @@ class Range:
         return values
 
 
+decimals = functools.partial(Range, whole=False)
+
+
 def day(text: str) -> "datetime.date":
     """A day, as `ttm` writes it or as ISO 8601 does."""
     from ..dates import ALLOWED, day_of
@@ -62,44 +67,145 @@ def day(text: str) -> "datetime.date":
         raise argparse.ArgumentTypeError(f"{text!r} is not a date, {ALLOWED}") from None
 
 
-def add_number(
-    parser: argparse.ArgumentParser,
-    name: str,
-    what: str,
-    allowed: Range,
-    default: float | None = None,
-    without: str = "",
-) -> None:
-    """An option with a number; without a default it says what happens without it."""
-    missing = f"default {default:g}" if default is not None else f"without it, {without}"
-    text = f"{what}: {str(allowed).replace('%', '%%')} ({missing.replace('%', '%%')})"
-    parser.add_argument(name, type=allowed.read, default=default, metavar=allowed.metavar, help=text)
+def clock(text: str) -> str:
+    """A minute of the day."""
+    if not re.fullmatch(r"([01][0-9]|2[0-3]):[0-5][0-9]", text):
+        raise argparse.ArgumentTypeError(f"{text!r} is not 00:00 to 23:59")
+    return text
 
 
-def add_numbers(
-    parser: argparse.ArgumentParser, name: str, what: str, allowed: Range, default: str | None = None, without: str = ""
-) -> None:
-    """An option with one or more numbers; without a default it says what happens without it."""
-    missing = f"default {default}" if default is not None else f"without it, {without}"
-    parser.add_argument(
-        name, type=allowed.read_several, default=default, metavar="N,N..", help=f"{what}: {allowed} ({missing})"
-    )
+class Parser(argparse.ArgumentParser):
+    """The options of a command. `without` says what happens where one isn't given and has no default; an option with
+    neither is needed.
+    """
 
+    def add(self, *names: str, what: str, default: object = None, without: str = "", **how: Any) -> None:
+        """An option whose help ends with what holds where it isn't given."""
+        missing = f"without it, {without}" if without else "needed" if default is None else f"default {default}"
+        is_needed = missing == "needed"
+        self.add_argument(*names, default=default, required=is_needed, help=f"{what} ({missing})", **how)
 
-def add_text(
-    parser: argparse.ArgumentParser, name: str, metavar: str, what: str, default: str | None = None, without: str = ""
-) -> None:
-    """An option with a text, such as a path or a name."""
-    missing = f"default {default}" if default is not None else f"without it, {without}"
-    parser.add_argument(name, metavar=metavar, default=default, help=f"{what} ({missing})")
+    def add_number(self, name: str, what: str, allowed: Range, default: float | None = None, without: str = "") -> None:
+        how: dict[str, Any] = {"type": allowed.read, "metavar": allowed.metavar}
+        self.add(name, what=f"{what}: {allowed}", default=default, without=without, **how)
 
+    def add_numbers(self, name: str, what: str, allowed: Range, default: str | None = None, without: str = "") -> None:
+        """An option with numbers between commas."""
+        how: dict[str, Any] = {"type": allowed.read_several, "metavar": "N,N.."}
+        self.add(name, what=f"{what}: {allowed}", default=default, without=without, **how)
 
-def add_matrix(parser: argparse.ArgumentParser) -> None:
-    parser.add_argument(
-        "matrix", metavar="MATRIX", help="a matrix as ttm prints it, or an Open Matrix file of ttm-tools omx"
-    )
-    what = "the greatest travel time: a pair that takes longer counts as not reached"
-    add_number(parser, "--max-minutes", what, Range("minutes", 0, 10000, whole=False), without="each counts")
+    def add_text(self, name: str, metavar: str, what: str, default: str | None = None, without: str = "") -> None:
+        """An option with a text, such as a path or a name."""
+        self.add(name, what=what, default=default, without=without, metavar=metavar)
+
+    def add_several(self, name: str, metavar: str, what: str, without: str = "") -> None:
+        """An option that may be given more than once."""
+        how: dict[str, Any] = {"default": [] if without else None, "metavar": metavar, "action": "append"}
+        self.add(name, what=f"{what}; may be given more than once", without=without, **how)
+
+    def add_flag(self, name: str, what: str, without: str) -> None:
+        self.add(name, what=what, default=False, without=without, action="store_true")
+
+    def add_choice(
+        self, name: str, choices: Iterable[str], what: str, default: str | None = None, without: str = ""
+    ) -> None:
+        self.add(name, what=what, default=default, without=without, choices=tuple(choices))
+
+    def add_form(self) -> None:
+        self.add_choice("--form", ("csv", "markdown"), "the format of the table", "csv")
+
+    def add_day(self, what: str, without: str = "") -> None:
+        what = f"{what}, YYYYMMDD or YYYY-MM-DD, of the years 1 to 9999"
+        self.add("--date", what=what, without=without, metavar="DATE", type=day)
+
+    def add_window(self, at: str = "", first: str | None = None, last: str | None = None) -> None:
+        """The first and the last departure."""
+        for name, end, default in (("--from", "first", first), ("--to", "last", last)):
+            what = f"the {end} departure{at}, one each minute, 00:00 to 23:59"
+            self.add(name, what=what, default=default, dest=end, metavar="HH:MM", type=clock)
+
+    def add_journeys(self, at: str = "") -> None:
+        """How many vehicles a journey has, and how far one walks."""
+        self.add_number("--trips", f"the maximum number of vehicles of a journey{at}", Range("", 1, 8), 4)
+        self.add_number("--walk", f"the longest walk{at}", Range("seconds", 0, 7200), 600)
+
+    def add_days_that_count(self) -> None:
+        for name, where in (("--back", "before"), ("--ahead", "after")):
+            self.add_number(name, f"service days {where} the date that count", Range("days", 0, 6), 1)
+
+    def add_program(self) -> None:
+        without = "TTM_PROGRAM, else the one on the PATH, else the one built here"
+        self.add_text("--program", "PATH", "the program ttm", without=without)
+
+    def add_matrix(self) -> None:
+        what = "a matrix as ttm prints it, or an Open Matrix file of ttm-tools omx"
+        self.add_argument("matrix", metavar="MATRIX", help=what)
+        what = "the greatest travel time: a pair that takes longer counts as not reached"
+        self.add_number("--max-minutes", what, decimals("minutes", 0, 10000), without="each counts")
+
+    def add_share(self, without: str = "the only one") -> None:
+        what = "the percentile: a travel time that at least this percentage of departures achieves"
+        self.add_number("--share", what, Range("percent", 1, 100), without=without)
+
+    def add_within(self, without: str = "the only one") -> None:
+        """The limit of access, in minutes as all tools have it, or in seconds as `ttm` has it."""
+        minutes, what = decimals("minutes", 0, MOST_LIMIT // 60), "the limit of access: 0 to 71,582,788 minutes"
+        how: dict[str, Any] = {"type": lambda text: round(60 * minutes.read(text)), "metavar": "MINUTES"}
+        self.add("--cutoff", "--cutoffs", what=what, without=without, dest="within", **how)
+        self.add_number("--within", "the same in seconds, as for ttm", Range("seconds", 0, MOST_LIMIT), without=without)
+
+    def add_cutoffs(self, what: str, least: float, most: float, default: str) -> None:
+        """Limits of access, in minutes as all tools have them, or in seconds as `ttm` has them."""
+        minutes, seconds = decimals("minutes", least, most), decimals("seconds", 60 * least, 60 * most)
+        how: dict[str, Any] = {"type": minutes.read_several, "metavar": "N,N.."}
+        self.add("--cutoffs", "--cutoff", what=f"{what}: {minutes}", default=default, **how)
+        how["type"] = lambda text: [second / 60 for second in seconds.read_several(text)]
+        what, default = f"the same in seconds, as for ttm: {seconds}", argparse.SUPPRESS
+        self.add("--within", what=what, default=default, without="--cutoffs", dest="cutoffs", **how)
+
+    def add_base(self) -> None:
+        about = "the scenario to compare with, or another file of the same kind, whose base to compare with"
+        self.add_text("--base", "NAME|FILE", about, without="base, or today for a plan")
+        self.add_base_scenario()
+
+    def add_base_scenario(self) -> None:
+        what = "the scenario of the file that --base names"
+        self.add_text("--base-scenario", "NAME", what, without="its base, or today")
+
+    def add_feed_of_matrix(self) -> None:
+        self.add_text("--feed", "FOLDER", "the unpacked feed of the matrix")
+
+    def add_out(self, what: str, without: str = "standard output", default: str | None = None) -> None:
+        what = f"{what}, which appears only when it is complete"
+        self.add_text("--out", "FILE", what, default, without)
+
+    def add_points(self, without: str = "") -> None:
+        what = "a file of points (id, lat, lon, name, width): the command shows only those of the matrix"
+        feed = "points.csv in the feed's folder, as ttm-tools points writes it, else all stops"
+        self.add_text("--points", "FILE", what, without=without or feed)
+
+    def add_pace(self) -> None:
+        """How one walks between stops."""
+        what = "walk along the streets of a file of OpenStreetMap (.osm.pbf, .osm); needs pyosmium and scipy"
+        self.add_ways("", what, "straight lines")
+        what = "with --streets, the greatest distance of a street that counts as near"
+        self.add_number("--near", what, decimals("metres", 0, 100000), 100)
+
+    def add_walking(self, of: str = "", there: str = "", along: str = "") -> None:
+        """How one walks on from a stop in areas; the texts name the picture."""
+        self.add_number("--walk", f"the longest walk on from a stop{of}", Range("seconds", 0, 7200), 600)
+        self.add_ways(there, f"a file of OpenStreetMap, along whose ways walks go{along}", "circles")
+        self.add_number("--near", "the greatest distance of a stop from a way", decimals("metres", 0, 10000), 100)
+
+    def add_ways(self, there: str, streets: str, without: str) -> None:
+        self.add_number("--speed", f"the walking speed{there}", decimals("m/s", 0.01, 100), 1.33)
+        self.add_number("--detour", "length of a walk, as a multiple of the straight line", decimals("", 1, 100), 1.3)
+        self.add_text("--streets", "FILE", streets, without=without)
+
+    def add_people(self) -> None:
+        """The files with how many people are at each origin, and which of their columns count."""
+        self.add_several("--people", "FILE", "a file with the number of people at each origin")
+        self.add_several("--column", "NAME", "a group of people, a column of these files", without="all")
 
 
 def opened(args: argparse.Namespace) -> "Matrix":
@@ -124,104 +230,26 @@ def is_file_of_base(base: str, scenarios: Sequence[str]) -> bool:
     return base not in scenarios and os.path.isfile(base)
 
 
-def add_share(parser: argparse.ArgumentParser, without: str = "the only one") -> None:
-    what = "the percentile: a travel time that at least this percentage of departures achieves"
-    add_number(parser, "--share", what, Range("percent", 1, 100), without=without)
+def column_of(
+    path: str, stops: Sequence[str], column: str | None, hint: str, kind: str = "stop of the matrix"
+) -> "tuple[str, Floats]":
+    """The numbers of a file for some stops, by the column that is named, or the only one."""
+    from ..measures.opportunities import read_counts
+
+    counts = read_counts([path], stops, kind, [column] if column else [])
+    if len(counts.names) > 1:
+        raise BadInput(path, f"it has the columns {some(counts.names)}: {hint}")
+    return counts.names[0], counts.numbers[:, 0]
 
 
-def add_within(parser: argparse.ArgumentParser, without: str = "the only one") -> None:
-    """The limit of access, in minutes as all tools have it, or in seconds as `ttm` has it."""
-    what = f"the limit of access: 0 to 71,582,788 minutes (without it, {without})"
-    minutes = Range("minutes", 0, MOST_LIMIT // 60, whole=False)
-    parser.add_argument(
-        "--cutoff",
-        "--cutoffs",
-        dest="within",
-        type=lambda text: round(60 * minutes.read(text)),
-        metavar="MINUTES",
-        help=what,
-    )
-    add_number(parser, "--within", "the same in seconds, as for ttm", Range("seconds", 0, MOST_LIMIT), without=without)
+def ground_of(args: argparse.Namespace, stops: "Stops") -> "tuple[AreaGround, Walking]":
+    """Where stops or points lie, and how one walks on from them."""
+    from ..points.shown import points_in
+    from ..views.isochrones import Walking, ground_on_foot
 
-
-def add_cutoffs(parser: argparse.ArgumentParser, what: str, bounds: tuple[float, float], default: str) -> None:
-    """Limits of access, in minutes as all tools have them, or in seconds as `ttm` has them."""
-    minutes, seconds = (
-        Range(unit, factor * bounds[0], factor * bounds[1], whole=False)
-        for unit, factor in (("minutes", 1), ("seconds", 60))
-    )
-    parser.add_argument(
-        "--cutoffs",
-        "--cutoff",
-        type=minutes.read_several,
-        default=default,
-        metavar="N,N..",
-        help=f"{what}: {minutes} (default {default})",
-    )
-    text = f"the same in seconds, as for ttm: {seconds}"
-    parser.add_argument(
-        "--within",
-        dest="cutoffs",
-        type=lambda text: [second / 60 for second in seconds.read_several(text)],
-        default=argparse.SUPPRESS,
-        metavar="N,N..",
-        help=f"{text} (without it, --cutoffs)",
-    )
-
-
-def add_base(parser: argparse.ArgumentParser) -> None:
-    what = "base, or today for a plan"
-    about = "the scenario to compare with, or another file of the same kind, whose base to compare with"
-    add_text(parser, "--base", "NAME|FILE", about, without=what)
-    add_base_scenario(parser)
-
-
-def add_base_scenario(parser: argparse.ArgumentParser) -> None:
-    what = "the scenario of the file that --base names"
-    add_text(parser, "--base-scenario", "NAME", what, without="its base, or today")
-
-
-def add_feed(parser: argparse.ArgumentParser, what: str, without: str) -> None:
-    add_text(parser, "--feed", "FOLDER", what, without=without)
-
-
-def add_out(parser: argparse.ArgumentParser, what: str, without: str = "standard output") -> None:
-    add_text(parser, "--out", "FILE", f"{what}, which appears only when it is complete", without=without)
-
-
-def add_points(parser: argparse.ArgumentParser, without: str = "") -> None:
-    what = "a file of points (id, lat, lon, name, width): the command shows only those of the matrix"
-    feed = "points.csv in the feed's folder, as ttm-tools points writes it, else all stops"
-    add_text(parser, "--points", "FILE", what, without=without or feed)
-
-
-def add_pace(parser: argparse.ArgumentParser) -> None:
-    """The options of walks: speed, detour, streets."""
-    add_number(parser, "--speed", "the walking speed", Range("m/s", 0.01, 100, whole=False), default=1.33)
-    what = "length of a walk, as a multiple of the straight line"
-    add_number(parser, "--detour", what, Range("", 1, 100, whole=False), default=1.3)
-    what = "walk along the streets of a file of OpenStreetMap (.osm.pbf, .osm); needs pyosmium and scipy"
-    add_text(parser, "--streets", "FILE", what, without="straight lines")
-    what = "with --streets, the greatest distance of a street that counts as near"
-    add_number(parser, "--near", what, Range("metres", 0, 100000, whole=False), default=100)
-
-
-def add_walking(parser: argparse.ArgumentParser, of: str = "", there: str = "", along: str = "") -> None:
-    """The options of walks on from a stop in areas; the texts name the picture."""
-    add_number(parser, "--walk", f"the longest walk on from a stop{of}", Range("seconds", 0, 7200), default=600)
-    add_number(parser, "--speed", f"the walking speed{there}", Range("m/s", 0.01, 100, whole=False), default=1.33)
-    what = "length of a walk, as a multiple of the straight line"
-    add_number(parser, "--detour", what, Range("", 1, 100, whole=False), default=1.3)
-    what = f"a file of OpenStreetMap, along whose ways walks go{along}"
-    add_text(parser, "--streets", "FILE", what, without="circles")
-    what = "the greatest distance of a stop from a way"
-    add_number(parser, "--near", what, Range("metres", 0, 10000, whole=False), default=100)
-
-
-def add_several(parser: argparse.ArgumentParser, name: str, metavar: str, what: str, without: str) -> None:
-    """An option that may be given more than once."""
-    text = f"{what}; may be given more than once (without it, {without})"
-    parser.add_argument(name, metavar=metavar, action="append", default=[], help=text)
+    walking = Walking(args.speed, args.detour, args.walk)
+    points = args.points or points_in(args.feed)
+    return ground_on_foot(stops, points, walking, args.streets, args.near), walking
 
 
 def gis_kind(path: str) -> str:
@@ -232,15 +260,8 @@ def gis_kind(path: str) -> str:
     return kind
 
 
-def scenarios_of(matrix: "Matrix", named: Sequence[str] | None) -> list[str]:
+def scenarios_of(matrix: "Matrix", named: Sequence[str]) -> list[str]:
     """The named scenarios, or all that are compared, with a note on one that is left out."""
     if not named and matrix.left_out:
         say(matrix.left_out)
     return [matrix.scenario(name) for name in named or matrix.compared]
-
-
-def add_people(parser: argparse.ArgumentParser) -> None:
-    """The files with how many people are at each origin, and which of their columns count."""
-    what = "a file with the number of people at each origin; may be given more than once (needed)"
-    parser.add_argument("--people", metavar="FILE", action="append", required=True, help=what)
-    add_several(parser, "--column", "NAME", "a group of people, a column of these files", without="all")

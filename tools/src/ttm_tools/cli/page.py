@@ -1,22 +1,8 @@
-"""ttm-tools page."""
-
 import argparse
 
-from .options import (
-    Range,
-    add_base,
-    add_cutoffs,
-    add_matrix,
-    add_number,
-    add_numbers,
-    add_points,
-    add_several,
-    add_share,
-    add_text,
-    add_walking,
-    opened,
-    scenarios_of,
-)
+from ..faults import WrongWords, needs
+from ..files import output
+from .options import Parser, Range, decimals, opened, scenarios_of
 
 SUMMARY = "one HTML file to send, with travel times and access to explore in a browser"
 HELP = """\
@@ -41,44 +27,40 @@ of the page, and 110 bytes for each stop time of the feed."""
 OPTION_NAMES = {"scenarios": "scenario", "arguments": "words"}  # of fields, where they differ
 
 
-def describe(parser: argparse.ArgumentParser) -> None:
-    parser.add_argument("--feed", metavar="FOLDER", required=True, help="the unpacked feed of the matrix (needed)")
-    add_points(parser)
+def describe(parser: Parser) -> None:
+    parser.add_feed_of_matrix()
+    parser.add_points()
     what = "a scenario file, named as its scenario, whose lines to draw"
-    add_several(parser, "--edits", "FILE", what, without="none")
+    parser.add_several("--edits", "FILE", what, without="none")
     what = "a file with what each stop has, as for access, whose columns the page counts"
-    add_several(parser, "--opportunities", "FILE", what, without="it counts stops alone")
+    parser.add_several("--opportunities", "FILE", what, without="it counts stops alone")
     what = "a file with the number of people at each stop, as for equity, whom the page counts, too"
-    add_several(parser, "--people", "FILE", what, without="none")
-    add_several(parser, "--scenario", "NAME", "a scenario to show in addition to the base", without="all")
-    add_base(parser)
-    add_share(parser, without="all")
-    add_cutoffs(parser, "the limits of access", (1, 250), "15,30,45,60")
+    parser.add_several("--people", "FILE", what, without="none")
+    parser.add_several("--scenario", "NAME", "a scenario to show in addition to the base", without="all")
+    parser.add_base()
+    parser.add_share(without="all")
+    parser.add_cutoffs("the limits of access", 1, 250, "15,30,45,60")
     what = "the numbers of nearest opportunities to look for, between commas; needs --opportunities"
-    add_numbers(parser, "--nearest", what, Range("", 1e-9, 1e15, whole=False), without="none")
-    add_walking(parser, ", in areas", " there", " in areas")
+    parser.add_numbers("--nearest", what, decimals("", 1e-9, 1e15), without="none")
+    parser.add_walking(", in areas", " there", " in areas")
     what = "a file with the column stop_id: the stops from which the page has travel times"
-    add_text(parser, "--origins", "FILE", what, without="all that there is room for")
+    parser.add_text("--origins", "FILE", what, without="all that there is room for")
     what = "the seed of the draw, if not all stops fit"
-    add_number(parser, "--seed", what, Range("", 0, 4294967295), default=1)
-    add_text(parser, "--unit", "WORD", "what the matrix counts as access, such as jobs", default="opportunities")
-    add_text(parser, "--title", "TEXT", "the title of the page", without="the feed's name")
-    add_text(parser, "--note", "TEXT", "what else a reader needs to know", without="nothing")
+    parser.add_number("--seed", what, Range("", 0, 4294967295), default=1)
+    parser.add_text("--unit", "WORD", "what the matrix counts as access, such as jobs", default="opportunities")
+    parser.add_text("--title", "TEXT", "the title of the page", without="the feed's name")
+    parser.add_text("--note", "TEXT", "what else a reader needs to know", without="nothing")
     what = "the arguments of the run of ttm, between quotes, with its date and departures"
-    add_text(parser, "--words", "TEXT", what, without="the page names neither")
+    parser.add_text("--words", "TEXT", what, without="the page names neither")
     what = "the address of a background map, such as https://tiles.example/{z}/{x}/{y}.png"
-    add_text(parser, "--tiles", "URL", what, without="none, and the page needs no network")
-    add_text(parser, "--attribution", "TEXT", "whom the page names for that map; --tiles needs it", without="nobody")
-    add_text(parser, "--leaflet", "FOLDER", "the folder of Leaflet", default="/usr/share/javascript/leaflet")
-    add_text(
-        parser, "--out", "FILE", "the file of the page, which appears only when it is complete", default="page.html"
-    )
-    add_matrix(parser)
+    parser.add_text("--tiles", "URL", what, without="none, and the page needs no network")
+    parser.add_text("--attribution", "TEXT", "whom the page names for that map; --tiles needs it", without="nobody")
+    parser.add_text("--leaflet", "FOLDER", "the folder of Leaflet", default="/usr/share/javascript/leaflet")
+    parser.add_out("the file of the page", "", "page.html")
+    parser.add_matrix()
 
 
-def run(args: argparse.Namespace) -> int:
-    from ..faults import WrongWords, needs
-
+def run(args: argparse.Namespace) -> None:
     if (args.tiles is None) != (args.attribution is None):
         raise WrongWords("--tiles and --attribution go together")
     args.nearest = args.nearest or []
@@ -87,22 +69,15 @@ def run(args: argparse.Namespace) -> int:
     if args.tiles is not None and not args.tiles.startswith(("https://", "http://")):
         raise WrongWords("--tiles begins with https:// or http://")
     needs("numpy", "pandas", "jinja2", *(["osmium", "scipy"] if args.streets else []))
-    from ..files import output
     from ..views.page.document import leaflet_files
     from ..views.page.make import PageSettings, page_of, tell
 
     leaflet_files(args.leaflet)
     matrix = opened(args)
-    settings = PageSettings(
-        **{
-            name: getattr(args, OPTION_NAMES.get(name, name))
-            for name in PageSettings.__dataclass_fields__
-            if name != "within"
-        }
-    )
+    names = [name for name in PageSettings.__dataclass_fields__ if name != "within"]
+    settings = PageSettings(**{name: getattr(args, OPTION_NAMES.get(name, name)) for name in names})
     scenarios_of(matrix, args.scenario)  # says which of them is left out
     page = page_of(matrix, settings)
     with output(args.out) as file:
         page.write(file)
     tell(args.out, page)
-    return 0

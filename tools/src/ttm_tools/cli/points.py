@@ -1,9 +1,8 @@
-"""ttm-tools points."""
-
 import argparse
 from typing import TYPE_CHECKING
 
-from .options import Range, add_number, add_pace, add_several, add_text
+from ..faults import WrongWords, needs, say
+from .options import Parser, Range, decimals
 
 if TYPE_CHECKING:
     from ..points import Points
@@ -40,32 +39,25 @@ reach are reported, and so are old stops that walks by way of a plan's new stops
 MB, 150 bytes for each walk, and with --streets 800 for each node of the ways."""
 
 
-def describe(parser: argparse.ArgumentParser) -> None:
+def describe(parser: Parser) -> None:
     parser.add_argument("feed", metavar="FEED", help="an unpacked feed")
     parser.add_argument("points", metavar="POINTS", nargs="*", help="points at which journeys begin and end")
     for name, what in (("--origins", "begin"), ("--destinations", "end")):
-        add_several(parser, name, "POINTS", f"points at which journeys only {what}", without="POINTS alone")
-    parser.add_argument(
-        "--out", metavar="FOLDER", required=True, help="the folder to write; it must be new or empty (needed)"
-    )
+        parser.add_several(name, "POINTS", f"points at which journeys only {what}", without="POINTS alone")
+    parser.add_text("--out", "FOLDER", "the folder to write; it must be new or empty")
     for name, what in (("id", "identifier"), ("lat", "latitude"), ("lon", "longitude")):
-        add_text(parser, f"--{name}", "COLUMN", f"the column of a point's {what}", default=name)
-    add_number(
-        parser, "--grid", "the side of the cells of a grid", Range("metres", 10, 100000, whole=False), without="none"
-    )
+        parser.add_text(f"--{name}", "COLUMN", f"the column of a point's {what}", default=name)
+    parser.add_number("--grid", "the side of the cells of a grid", decimals("metres", 10, 100000), without="none")
     what = "polygons that the grid covers (GeoPackage, GeoJSON)"
-    add_text(parser, "--area", "FILE", what, without="wherever a stop is within a walk")
+    parser.add_text("--area", "FILE", what, without="wherever a stop is within a walk")
     what = "points or polygons whose numbers to sum into the cells"
-    add_several(parser, "--people", "FILE", what, without="none")
-    add_number(parser, "--limit", "the longest walk, and the --walk of a run", Range("seconds", 1, 7200), 600)
-    add_pace(parser)
-    what = "leave out the points without a stop in reach (without it, they are reported)"
-    parser.add_argument("--leave-out", action="store_true", help=what)
+    parser.add_several("--people", "FILE", what, without="none")
+    parser.add_number("--limit", "the longest walk, and the --walk of a run", Range("seconds", 1, 7200), 600)
+    parser.add_pace()
+    parser.add_flag("--leave-out", "leave out the points without a stop in reach", "they are reported")
 
 
-def run(args: argparse.Namespace) -> int:
-    from ..faults import WrongWords, needs, say
-
+def run(args: argparse.Namespace) -> None:
     needs("numpy")
     from ..plans.nearness import sentences_on_nearer
     from ..points import read_points
@@ -73,7 +65,9 @@ def run(args: argparse.Namespace) -> int:
     from ..points.study import FEED, FOOTPATHS, PointsOptions, make
     from ..walks import Pace, walks_of
 
-    files, begins, ends = files_of(args)
+    files = list(dict.fromkeys([*args.points, *args.origins, *args.destinations]))
+    begins = [path in args.points or path in args.origins for path in files]
+    ends = [path in args.points or path in args.destinations for path in files]
     if args.grid is None and (args.area or args.people):
         raise WrongWords("--area and --people need --grid")
     pace = Pace(args.limit, args.speed, args.detour)
@@ -93,15 +87,6 @@ def run(args: argparse.Namespace) -> int:
     options = PointsOptions(args.feed, args.out, points, begins, ends, args.limit, args.leave_out, args.near)
     say(*make(options, lambda stops, first: walks_of(stops, pace, args.streets, args.near, first)))
     say(*sentences_on_nearer(f"{args.out}/{FEED}", f"{args.out}/{FOOTPATHS}", args.limit))
-    return 0
-
-
-def files_of(args: argparse.Namespace) -> tuple[list[str], list[bool], list[bool]]:
-    """The files of points, each once, and whether journeys begin and end at their points."""
-    files = list(dict.fromkeys([*args.points, *args.origins, *args.destinations]))
-    begins = [path in args.points or path in args.origins for path in files]
-    ends = [path in args.points or path in args.destinations for path in files]
-    return files, begins, ends
 
 
 def grid_of(args: argparse.Namespace, pace: "Pace") -> "tuple[Points, list[str]]":

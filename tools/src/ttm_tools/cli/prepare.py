@@ -1,10 +1,10 @@
-"""ttm-tools prepare."""
-
 import argparse
 import datetime
 
+from ..faults import WrongWords, as_line, needs, say
+from ..files import output, scratch
 from ..prepare.rules import help_table
-from .options import Range, add_number, add_several, add_text, day
+from .options import Parser, Range, day
 
 SUMMARY = "a feed that ttm reads, from published feeds: checked, repaired, clipped, merged"
 HELP = """\
@@ -42,29 +42,25 @@ their rules; the numbers of removed records are printed. More than 65,535 stops 
 No rule replaces a missing file or column. Memory: some 250 bytes for each record of stop_times.txt that is held."""
 
 
-def describe(parser: argparse.ArgumentParser) -> None:
+def describe(parser: Parser) -> None:
     parser.description = HELP.replace("{rules}", help_table())
-    only = "report errors, and write no folder (without it, --out is needed)"
-    parser.add_argument("--check", action="store_true", help=only)
-    add_text(parser, "--faults", "FILE", "with --check, a line for each single error, as CSV", without="none")
-    add_text(parser, "--out", "FOLDER", "the folder to write; it must be new or empty", without="--check is needed")
-    parser.add_argument(
-        "--repair", action="store_true", help="repair errors (without it, they are reported and nothing is written)"
-    )
-    what = "write the feed even if a repair removes much of a file, or if no trip runs (without it, an error)"
-    parser.add_argument("--allow-loss", action="store_true", help=what)
-    what = "merge feeds of several time zones, and treat their times as those of one (without it, an error)"
-    parser.add_argument("--same-clock", action="store_true", help=what)
-    what = "west, south, east, north in degrees, -180 to 180 and -90 to 90: keep the stops inside (without it, all)"
-    parser.add_argument("--box", type=box, metavar="W,S,E,N", help=what)
-    add_text(parser, "--area", "FILE", "GeoJSON polygons: keep the stops inside; needs shapely", without="all")
-    add_several(parser, "--routes", "ROUTE_ID", "a route to keep", without="all")
-    what = "an agency whose routes to keep; may be given more than once (without it, all)"
-    parser.add_argument("--agency", action="append", default=[], metavar="AGENCY_ID", help=what)
-    what = "YYYYMMDD or YYYY-MM-DD: keep services that run --back days before it to --ahead after (without it, all)"
-    parser.add_argument("--date", type=day, metavar="DATE", help=what)
-    add_number(parser, "--back", "days before the date, as for ttm", Range("days", 0, 6), default=1)
-    add_number(parser, "--ahead", "days after the date, as for ttm", Range("days", 0, 6), default=1)
+    parser.add_flag("--check", "report errors, and write no folder", "--out is needed")
+    parser.add_text("--faults", "FILE", "with --check, a line for each single error, as CSV", without="none")
+    parser.add_text("--out", "FOLDER", "the folder to write; it must be new or empty", without="--check is needed")
+    parser.add_flag("--repair", "repair errors", "they are reported and nothing is written")
+    what = "write the feed even if a repair removes much of a file, or if no trip runs"
+    parser.add_flag("--allow-loss", what, "an error")
+    what = "merge feeds of several time zones, and treat their times as those of one"
+    parser.add_flag("--same-clock", what, "an error")
+    what = "west, south, east, north in degrees, -180 to 180 and -90 to 90: keep the stops inside"
+    parser.add("--box", what=what, without="all", type=box, metavar="W,S,E,N")
+    parser.add_text("--area", "FILE", "GeoJSON polygons: keep the stops inside; needs shapely", without="all")
+    parser.add_several("--routes", "ROUTE_ID", "a route to keep", without="all")
+    parser.add_several("--agency", "AGENCY_ID", "an agency whose routes to keep", without="all")
+    what = "YYYYMMDD or YYYY-MM-DD: keep services that run --back days before it to --ahead after"
+    parser.add("--date", what=what, without="all", type=day, metavar="DATE")
+    parser.add_number("--back", "days before the date, as for ttm", Range("days", 0, 6), default=1)
+    parser.add_number("--ahead", "days after the date, as for ttm", Range("days", 0, 6), default=1)
     parser.add_argument("feeds", metavar="FEED", nargs="+", help="a zip file or folder")
 
 
@@ -80,8 +76,6 @@ def box(text: str) -> tuple[float, float, float, float]:
 
 
 def run(args: argparse.Namespace) -> int:
-    from ..faults import WrongWords, needs, say
-
     needs("numpy", "pandas")
     if args.check == (args.out is not None):
         raise WrongWords("one of --check and --out is needed")
@@ -89,7 +83,6 @@ def run(args: argparse.Namespace) -> int:
         raise WrongWords("--faults goes with --check")
     if args.check:
         return check_feeds(args)
-    from ..files import scratch
     from ..prepare.clip import Clip
     from ..prepare.make import PrepareOptions, make
 
@@ -108,10 +101,7 @@ def run(args: argparse.Namespace) -> int:
 
 
 def check_feeds(args: argparse.Namespace) -> int:
-    """Reports the errors of each feed."""
     from ..column_list import ERRORS, names_of
-    from ..faults import as_line
-    from ..files import output, scratch
     from ..prepare import report
     from ..prepare.check import check
     from ..prepare.losses import sentences

@@ -1,11 +1,10 @@
-"""ttm-tools scenarios."""
-
 import argparse
 import os
 import sys
 
+from ..faults import needs, say
 from ..plans.action_list import help_table
-from .options import add_text
+from .options import Parser
 
 SUMMARY = "a feed with scenario files, from a plan of new lines, headways and speeds"
 HELP = """\
@@ -28,19 +27,16 @@ scenario `base`, which has the trips of all scenarios at once, and use `today` a
 each stop time that is written."""
 
 
-def describe(parser: argparse.ArgumentParser) -> None:
+def describe(parser: Parser) -> None:
     parser.description = HELP.replace("{actions}", help_table())
     parser.add_argument("feed", metavar="FEED", help="the folder of a feed")
     parser.add_argument("plan", metavar="PLAN", help="the plan, a TOML file")
-    what = "the folder to write; it must be new or empty (needed)"
-    parser.add_argument("--out", metavar="FOLDER", required=True, help=what)
+    parser.add_text("--out", "FOLDER", "the folder to write; it must be new or empty")
     what = "the only scenario to carry out: the feed with its trips and no others, and no scenario files"
-    add_text(parser, "--only", "NAME", what, without="all are in the feed")
+    parser.add_text("--only", "NAME", what, without="all are in the feed")
 
 
-def run(args: argparse.Namespace) -> int:
-    from ..faults import needs, say
-
+def run(args: argparse.Namespace) -> None:
     needs("numpy", "pandas")
     from ..plans.make import make
 
@@ -48,4 +44,3 @@ def run(args: argparse.Namespace) -> int:
     say(*written.lines)
     if written.arguments is not None:
         sys.stdout.buffer.write(os.fsencode(written.arguments) + b"\n")
-    return 0

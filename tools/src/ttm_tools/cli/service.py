@@ -1,10 +1,10 @@
-"""ttm-tools service."""
-
 import argparse
 import re
 from typing import TYPE_CHECKING
 
-from .options import add_out, add_text, day
+from ..faults import BadInput, needs, say
+from ..files import output, write_picture
+from .options import Parser
 
 if TYPE_CHECKING:
     from ..views.service import Day
@@ -36,29 +36,22 @@ def times(text: str) -> list[int]:
     return seconds
 
 
-def describe(parser: argparse.ArgumentParser) -> None:
+def describe(parser: Parser) -> None:
     parser.add_argument("feed", metavar="FEED", help="the folder of an unpacked feed")
     what = "scenario files, each compared with the feed as it is; default: those of the plan"
     parser.add_argument("scenarios", metavar="SCENARIO", nargs="*", help=what)
-    what = "the service day, YYYYMMDD or YYYY-MM-DD, of the years 1 to 9999 (needed)"
-    parser.add_argument("--date", metavar="DATE", type=day, required=True, help=what)
-    what = (
-        "the times at which periods begin and the last one ends: 00:00 to 168:00 between commas (default 00:00,48:00)"
-    )
-    parser.add_argument("--periods", metavar="TIMES", type=times, default=[0, 48 * 3600], help=what)
-    what = "what a line stands for (default direction)"
-    parser.add_argument("--by", choices=("direction", "route", "all", "stop"), default="direction", help=what)
-    add_text(parser, "--page", "FILE", "the file of a page like a timetable, as HTML", without="none is written")
+    parser.add_day("the service day")
+    what = "the times at which periods begin and the last one ends: 00:00 to 168:00 between commas"
+    parser.add("--periods", what=what, default="00:00,48:00", metavar="TIMES", type=times)
+    parser.add_choice("--by", ("direction", "route", "all", "stop"), "what a line stands for", "direction")
+    parser.add_text("--page", "FILE", "the file of a page like a timetable, as HTML", without="none is written")
     what = "the file of a map of the last scenario in the first period, as PNG"
-    add_text(parser, "--picture", "FILE", what, without="none is drawn")
-    add_out(parser, "the file of the table")
+    parser.add_text("--picture", "FILE", what, without="none is drawn")
+    parser.add_out("the file of the table")
 
 
-def run(args: argparse.Namespace) -> int:
-    from ..faults import needs, say
-
+def run(args: argparse.Namespace) -> None:
     needs("numpy", "pandas", *(["matplotlib"] if args.picture else []))
-    from ..files import output, write_picture
     from ..views.service import costs_stated, groups_of, lines_of, write_lines, write_stops
     from ..views.service_map import figure_of
     from ..views.service_page import write_page
@@ -79,14 +72,12 @@ def run(args: argparse.Namespace) -> int:
     if figure is not None:
         write_picture(args.picture, figure)
     say(*costs_stated(found))
-    return 0
 
 
 def day_of(args: argparse.Namespace) -> "Day":
     """What runs in each scenario: in the feed as it is, unless it is that of a plan, and in each file."""
     from pathlib import Path
 
-    from ..faults import BadInput
     from ..gtfs.stops import Projection, read_stops
     from ..matrices import BASE, TODAY
     from ..measures.service import periods_of, running_on, straight_lengths

@@ -1,8 +1,7 @@
-"""ttm-tools split."""
-
 import argparse
 
-from .options import Range, add_number, add_text
+from ..faults import needs, quantity, say
+from .options import Parser, Range
 
 SUMMARY = "the origins of a study, cut into parts"
 HELP = """\
@@ -11,25 +10,20 @@ stops of the feed. The files part_0001.csv .. have the origins in their order, i
 at most, and there are no more parts than origins. origins.csv has all origins, for ttm-tools join."""
 
 
-def describe(parser: argparse.ArgumentParser) -> None:
+def describe(parser: Parser) -> None:
     whole = parser.add_mutually_exclusive_group(required=True)
-    whole.add_argument(
-        "--origins", metavar="FILE", help="the origins, a file with the column stop_id (this or --feed is needed)"
-    )
-    whole.add_argument(
-        "--feed", metavar="FOLDER", help="an unpacked feed, whose stops are the origins (this or --origins is needed)"
-    )
-    add_number(parser, "--parts", "the number of parts", Range("parts", 1, 9999), without="1 part")
-    add_text(parser, "--out", "FOLDER", "the folder of the parts", default=".")
+    what = "the origins, a file with the column stop_id (this or --feed is needed)"
+    whole.add_argument("--origins", metavar="FILE", help=what)
+    what = "an unpacked feed, whose stops are the origins (this or --origins is needed)"
+    whole.add_argument("--feed", metavar="FOLDER", help=what)
+    parser.add_number("--parts", "the number of parts", Range("parts", 1, 9999), without="1 part")
+    parser.add_text("--out", "FOLDER", "the folder of the parts", default=".")
 
 
-def run(args: argparse.Namespace) -> int:
-    from ..faults import needs, quantity, say
-
+def run(args: argparse.Namespace) -> None:
     needs("numpy")
     from ..parts import origins_in, origins_of_feed, write_parts
 
     origins = origins_in(args.origins) if args.origins else origins_of_feed(args.feed)
     parts = write_parts(origins, args.parts or 1, args.out)
     say(f"{quantity(len(origins), 'origin')} in {quantity(parts, 'part')}")
-    return 0

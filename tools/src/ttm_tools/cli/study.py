@@ -1,9 +1,10 @@
-"""ttm-tools study."""
-
 import argparse
 import sys
+from pathlib import Path
 
-from .options import Range, add_number, add_several, add_text
+from ..faults import WrongWords, needs
+from ..files import Interrupted
+from .options import Parser, Range
 
 SUMMARY = "a whole study from one file: feed, runs in parts, matrix, tables, maps, report"
 HELP = """\
@@ -25,34 +26,24 @@ continues, and the same command waits for it.
 bytes. Memory: what ttm takes for all parts that run at once, and then what map, page and compare take."""
 
 
-def describe(parser: argparse.ArgumentParser) -> None:
+def describe(parser: Parser) -> None:
     parser.add_argument("study", metavar="STUDY", nargs="?", help="the study's file, or with --part its folder")
-    what = "print a new file with a comment for each field (without it, a study runs)"
-    parser.add_argument("--new", action="store_true", help=what)
-    add_text(parser, "--out", "FOLDER", "the study's folder", without="the file's name without .toml")
+    parser.add_flag("--new", "print a new file with a comment for each field", "a study runs")
+    parser.add_text("--out", "FOLDER", "the study's folder", without="the file's name without .toml")
     what = "the number of parts that run at once on this machine"
-    add_number(parser, "--workers", what, Range("processes", 1, 1024), without="one on each processor")
-    parser.add_argument("--slurm", action="store_true", help="run the parts as an array under Slurm (without it, here)")
-    add_text(parser, "--hosts", "HOSTS", "run the parts with GNU parallel, such as 8/one,8/two", without="here")
+    parser.add_number("--workers", what, Range("processes", 1, 1024), without="one on each processor")
+    parser.add_flag("--slurm", "run the parts as an array under Slurm", "here")
+    parser.add_text("--hosts", "HOSTS", "run the parts with GNU parallel, such as 8/one,8/two", without="here")
     what = "an option of sbatch or parallel, such as partition=long"
-    add_several(parser, "--option", "NAME=VALUE", what, without="none")
-    add_number(
-        parser, "--part", "compute one part, as the tasks of --slurm and --hosts do", Range("", 1, 9999), without="all"
-    )
-    add_text(parser, "--verify", "FOLDER", "recompute a tenth of a study's rows", without="the study runs")
-    add_number(
-        parser,
-        "--seed",
-        "chooses the rows of --verify",
-        Range("", 0, 4294967295),
-        without="drawn at random, and printed",
-    )
+    parser.add_several("--option", "NAME=VALUE", what, without="none")
+    what = "compute one part, as the tasks of --slurm and --hosts do"
+    parser.add_number("--part", what, Range("", 1, 9999), without="all")
+    parser.add_text("--verify", "FOLDER", "recompute a tenth of a study's rows", without="the study runs")
+    without = "drawn at random, and printed"
+    parser.add_number("--seed", "chooses the rows of --verify", Range("", 0, 4294967295), without=without)
 
 
 def refuse_others(args: argparse.Namespace) -> None:
-    """Refuses options that don't go together."""
-    from ..faults import WrongWords
-
     if sum([args.new, args.verify is not None, args.study is not None]) != 1:
         raise WrongWords("one of STUDY, --new and --verify is needed")
     if args.part is not None and args.study is None:
@@ -65,38 +56,29 @@ def refuse_others(args: argparse.Namespace) -> None:
         raise WrongWords("--option goes with --slurm and --hosts")
 
 
-def run(args: argparse.Namespace) -> int:
-    from pathlib import Path
-
-    from ..faults import needs
-
+def run(args: argparse.Namespace) -> None:
     refuse_others(args)
     needs("numpy", "pandas")
+    if not args.new and args.part is None:
+        needs("h5py", "matplotlib")
     if args.new:
         from ..study.template import template
 
         sys.stdout.write(template())
-        return 0
-    if args.part is not None:
+    elif args.part is not None:
         from ..study.task import one_part
 
         one_part(Path(args.study), args.part)
-        return 0
-    needs("h5py", "matplotlib")
-    if args.verify is not None:
+    elif args.verify is not None:
         from ..study.verify import verify
         from ..threads import processors
 
         verify(Path(args.verify), args.seed, args.workers or processors())
-        return 0
-    return make(args)
+    else:
+        make(args)
 
 
-def make(args: argparse.Namespace) -> int:
-    """Makes a study in its folder."""
-    from pathlib import Path
-
-    from ..files import Interrupted
+def make(args: argparse.Namespace) -> None:
     from ..study.elsewhere import Means
     from ..study.study_file import read_study
     from ..study.work import make_study
@@ -108,4 +90,3 @@ def make(args: argparse.Namespace) -> int:
     except (Interrupted, KeyboardInterrupt):
         print("finished parts are kept: the same command resumes the study", file=sys.stderr)
         raise
-    return 0

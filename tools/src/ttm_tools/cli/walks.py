@@ -1,9 +1,9 @@
-"""ttm-tools walks."""
-
 import argparse
 import os
 
-from .options import Range, add_number, add_out, add_pace, add_text
+from ..faults import WrongWords, needs, say
+from ..files import output
+from .options import Parser, decimals
 
 SUMMARY = "the footpaths of a feed, from the coordinates of its stops"
 HELP = """\
@@ -28,37 +28,27 @@ than --near are reported, and joined by a straight line with its detour. Memory:
 footpath, and with --streets 800 for each node of the ways."""
 
 
-def describe(parser: argparse.ArgumentParser) -> None:
-    add_number(parser, "--limit", "the longest walk", Range("seconds", 1, 86400, whole=False), default=600)
-    add_pace(parser)
+def describe(parser: Parser) -> None:
+    parser.add_number("--limit", "the longest walk", decimals("seconds", 1, 86400), default=600)
+    parser.add_pace()
     what = "your own walks, a table with from_stop_id, to_stop_id and seconds; decimals are rounded up, and counted"
-    add_text(parser, "--table", "FILE", what, without="straight lines")
-    add_out(parser, "the file of footpaths", without="footpaths.csv in FOLDER")
+    parser.add_text("--table", "FILE", what, without="straight lines")
+    parser.add_out("the file of footpaths", without="footpaths.csv in FOLDER")
     parser.add_argument("folder", metavar="FOLDER", help="an unpacked feed")
 
 
-def run(args: argparse.Namespace) -> int:
-    from ..faults import WrongWords, needs, quantity, say
-
+def run(args: argparse.Namespace) -> None:
     if args.table and args.streets:
         raise WrongWords("--table and --streets are two sources of walks: choose one")
     needs("numpy")
     from ..gtfs.stops import read_stops
-    from ..files import output
     from ..plans.nearness import sentences_on_nearer
-    from ..records import Rounded, write_rows
-    from ..walks import Pace, read_walks, summary as walks_summary, walks_of
+    from ..records import write_rows
+    from ..walks import Pace, footpaths_of
 
-    stops, rounded = read_stops(args.folder), Rounded()
+    pace, stops = Pace(args.limit, args.speed, args.detour), read_stops(args.folder)
     out = args.out or os.path.join(args.folder, "footpaths.csv")
-    if args.table:
-        rows = read_walks(args.table, stops, rounded)
-        sentence = f"{quantity(rounded.count, 'time')} with decimals rounded up"
-    else:
-        pace = Pace(args.limit, args.speed, args.detour)
-        found = walks_of(stops, pace, args.streets, args.near)
-        rows, sentence = found.rows(), walks_summary(found, "stops", args.near)
+    rows, sentence = footpaths_of(stops, args.table, pace, args.streets, args.near)
     with output(out) as file:
         write_rows(file, ["from_stop_id", "to_stop_id", "seconds"], rows)
-    say(f"{out}: {quantity(len(rows), 'footpath')}; {sentence}", *sentences_on_nearer(args.folder, out))
-    return 0
+    say(f"{out}: {sentence}", *sentences_on_nearer(args.folder, out))

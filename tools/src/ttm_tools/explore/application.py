@@ -11,6 +11,8 @@ from .changes import actions_of, walk_of
 from .document import write_document
 from .exploration import Exploration
 from .guard import HEADERS, Guard
+from .journeys import JourneyQuestion
+from .keeping import save
 from .question import question_of, whole, window_of
 from .turnstile import Overtaken
 
@@ -21,21 +23,14 @@ Answer = Response | tuple[dict[str, Any], int]
 
 
 def application(exploration: Exploration, guard: Guard) -> Flask:
-    """The application that answers the page of an exploration."""
     server = Flask(__name__, static_folder=None, template_folder=None)
     server.before_request(lambda: refusal(guard))
     server.after_request(with_headers)
-    answers: dict[str, tuple[str, Callable[[Exploration], Answer]]] = {
-        "": ("GET", page),
-        "times": ("GET", times),
-        "journey": ("GET", journey),
-        "routes": ("GET", routes),
-        "changes": ("POST", changes),
-        "study": ("POST", study),
-    }
-    for name, (method, answer) in answers.items():
+    answers = {"": page, "times": times, "journey": journey, "routes": routes, "changes": changes, "study": study}
+    for name, answer in answers.items():
+        methods = ["POST" if answer in (changes, study) else "GET"]
         view = functools.partial(answered, answer, exploration)
-        server.add_url_rule(f"/<token>/{name}", name or "page", view, methods=[method], provide_automatic_options=False)
+        server.add_url_rule(f"/<token>/{name}", name or "page", view, methods=methods, provide_automatic_options=False)
     return server
 
 
@@ -77,18 +72,18 @@ def page(exploration: Exploration) -> Answer:
 
 def times(exploration: Exploration) -> Answer:
     """Seconds as int32, for each scenario, share and column; -1 where it isn't reached."""
-    found = exploration.times(question_of(request.args, exploration.count))
-    response = Response(found.seconds.tobytes(), mimetype=NUMBERS)
-    response.headers["X-Version"] = str(found.version)
+    version, seconds = exploration.times(question_of(request.args, len(exploration.ground.columns)))
+    response = Response(seconds.tobytes(), mimetype=NUMBERS)
+    response.headers["X-Version"] = str(version)
     return response
 
 
 def journey(exploration: Exploration) -> Answer:
-    args, most = request.args, exploration.count - 1
-    origin, end = whole(args, "origin", 0, most), whole(args, "end", 0, most)
+    args, columns = request.args, exploration.ground.columns
+    origin, end = (columns[whole(args, name, 0, len(columns) - 1)] for name in ("origin", "end"))
     scenario = whole(args, "scenario", 0, len(exploration.standing.scenarios) - 1)
     window, trips, share = window_of(args), whole(args, "trips", 1, 8), whole(args, "share", 1, 100)
-    return exploration.journey((origin, end), scenario, window, trips, share), 200
+    return exploration.journey(JourneyQuestion((origin, end), scenario, window, trips, share)), 200
 
 
 def routes(exploration: Exploration) -> Answer:
@@ -102,4 +97,5 @@ def changes(exploration: Exploration) -> Answer:
 
 
 def study(exploration: Exploration) -> Answer:
-    return exploration.save(request.get_json(silent=True)), 200
+    plan, body = exploration.standing.plan, request.get_json(silent=True)
+    return save(exploration.options, plan, exploration.ground.columns, body, exploration.walks_from), 200

@@ -4,13 +4,14 @@ The page names routes and stops by their numbers, so that no text of it is taken
 a new line.
 """
 
+import itertools
 import json
 from dataclasses import dataclass
 from decimal import Decimal, InvalidOperation
 from typing import Any, Sequence
 
 from ..faults import WrongWords
-from .routes import Routes
+from .routes import Route
 
 Values = dict[str, Any]
 MOST = 1_000_000  # of a number with decimals
@@ -67,7 +68,7 @@ class Namer:
     """Finds what numbers of the page stand for."""
 
     stops: Sequence[str]  # by the numbers of places
-    routes: Routes
+    routes: Sequence[Route]  # by their numbers
 
     def stop(self, value: Any, name: str = "stop") -> str:
         return self.stops[number(value, name, 0, len(self.stops) - 1)]
@@ -78,14 +79,12 @@ class Namer:
         return [self.stop(place) for place in value]
 
     def action(self, change: Values) -> Values:
-        """An action of a plan."""
         if change["do"] == "add_line":
             return self.new_line(change)
-        place = number(change["route"], "route", 0, len(self.routes.identifiers) - 1)
-        action: Values = {"do": change["do"], "route": self.routes.identifiers[place]}
+        route = self.routes[number(change["route"], "route", 0, len(self.routes) - 1)]
+        action: Values = {"do": change["do"], "route": route.identifier}
         if change["do"] in ("cut", "extend"):
-            ways = self.routes.ways[place]
-            way = ways[number(change["way"], "way", 0, len(ways) - 1)]
+            way = route.ways[number(change["way"], "way", 0, len(route.ways) - 1)]
             key, value = ("pattern", way.trip) if way.direction is None else ("direction", way.direction)
             action[key] = value
             action["after"] = self.stop(change["after"] if change["do"] == "cut" else way.stops[-1], "after")
@@ -127,7 +126,6 @@ def in_toml(value: Any) -> str:
 
 
 def scenario_text(name: str, actions: Sequence[Values]) -> str:
-    """A scenario of a plan."""
     lines = ["[[scenario]]", f"name = {in_toml(name)}"]
     for action in actions:
         lines += ["", "[[scenario.action]]", *(f"{key} = {in_toml(value)}" for key, value in action.items())]
@@ -136,8 +134,5 @@ def scenario_text(name: str, actions: Sequence[Values]) -> str:
 
 def name_among(names: Sequence[str]) -> str:
     """The name of the scenario of a person's changes, which none of a plan has."""
-    number, name = 1, NAME
-    while name in names:
-        number += 1
-        name = f"{NAME} {number}"
-    return name
+    numbered = (f"{NAME} {number}" for number in itertools.count(2))
+    return next(name for name in itertools.chain([NAME], numbered) if name not in names)

@@ -1,6 +1,7 @@
 """The page of an exploration: that of `ttm-tools page`, whose travel times come from the network that answers."""
 
 import os
+from dataclasses import replace
 from pathlib import Path
 from typing import Any, BinaryIO
 
@@ -11,15 +12,8 @@ from ..views.page.content import Content
 from .exploration import Exploration
 
 ASSETS = Path(__file__).resolve().parent / "assets"
-LIVE = (
-    "live.js",
-    "isochrones.js",
-    "journey.js",
-    "routes.js",
-    "beside.js",
-    "keep.js",
-    "point.js",
-)  # in place of the page's cells
+# in place of the page's cells
+LIVE = tuple(f"{name}.js" for name in "live isochrones journey routes beside keep point".split())
 MINUTES = 30  # at which the slider stands first
 
 
@@ -36,17 +30,10 @@ def kind_of(exploration: Exploration) -> page.PageKind:
 def beginning_of(exploration: Exploration) -> dict[str, Any]:
     """With what the page begins."""
     options, standing = exploration.options, exploration.standing
-    return {
-        "version": standing.version,
-        "first": options.window[0],
-        "last": options.window[1],
-        "trips": options.trips,
-        "walk": standing.plan.walk,
-        "most_walk": options.most_walk,
-        "actions": standing.plan.actions,
-        "told": standing.plan.sentences,
-        "date": options.date.isoformat(),
-    }
+    (first, last), plan = options.window, standing.plan
+    known = {"version": standing.version, "first": first, "last": last, "trips": options.trips, "walk": plan.walk}
+    known |= {"most_walk": options.most_walk, "actions": plan.actions, "told": plan.sentences}
+    return {**known, "date": options.date.isoformat()}
 
 
 def frame_of(exploration: Exploration) -> page.Frame:
@@ -70,4 +57,5 @@ def frame_of(exploration: Exploration) -> page.Frame:
 def write_document(out: BinaryIO, exploration: Exploration) -> None:
     """Writes the page of the network that answers now."""
     content = Content(exploration.ground, exploration.counts, 0, [], [], [], [])
-    page.write_page(out, content, exploration.lines(), frame_of(exploration), kind_of(exploration))
+    lines = replace(exploration.feed_lines.whole, changes=exploration.standing.plan.changes)
+    page.write_page(out, content, lines, frame_of(exploration), kind_of(exploration))

@@ -3,7 +3,6 @@
 import json
 import tempfile
 import threading
-from dataclasses import dataclass, replace
 from functools import cached_property
 from pathlib import Path
 from typing import Any
@@ -17,29 +16,20 @@ from ..plans.plan_file import read_plan
 from ..points.shown import points_in, with_points
 from ..points.table import read_points
 from ..views.page.content import Ground
-from ..views.page.lines import Lines
-from ..views.page.places import places_of
+from ..views.page.places import in_order
 from ..walks import Pace
 from ..walks.osm import Streets, read_streets
-from . import keeping, planning
+from . import planning
 from .changes import Namer, Values
 from .journeys import JourneyQuestion, Journeys
 from .lines import FeedLines
 from .point import Point, Walk, walks_from
 from .question import Question
-from .routes import Routes, routes_of
+from .routes import Route, routes_of
 from .standing import Plan, Seconds, Standing
 from .timetables import timetable_of
 from .turnstile import Turnstile
 from .options import ExploreOptions
-
-
-@dataclass(frozen=True)
-class Times:
-    """Travel times, and of which network."""
-
-    version: int
-    seconds: Seconds
 
 
 class Exploration:
@@ -50,24 +40,17 @@ class Exploration:
         self.turnstile, self.changing, self.reading = Turnstile(), threading.Lock(), threading.RLock()
         self.plan_text = Path(options.plan).read_text(encoding="utf-8") if options.plan is not None else ""
         if self.plan_text:
-            self.begun(
-                0, Plan(options.feed, [], options.walk, [], "", [], None)
-            ).close()  # reports what is wrong with the feed
+            self.begun(0, self.of_feed(options.walk)).close()  # reports what is wrong with the feed
         self.standing = self.begun(1, self.planned([], options.walk))
-        self.ground = ground_of(stops_of(self.standing.plan.folder, points_in(options.feed)))
+        stops, points = read_stops(self.standing.plan.folder), points_in(options.feed)
+        self.ground = ground_of(stops if points is None else with_points(stops, read_points(points)))
         self.counts: Counts = read_counts(options.opportunities, self.ground.places.identifiers, "stop of the feed")
-
-    @property
-    def count(self) -> int:
-        """How many places there are."""
-        return len(self.ground.columns)
 
     @cached_property
     def base(self) -> Base:
         """The feed as plans change it, which is read when it is first needed."""
-        base = read_taken_base(
-            self.options.feed, read_plan(self.options.plan).stops if self.options.plan is not None else []
-        )
+        own_stops = [] if self.options.plan is None else read_plan(self.options.plan).stops
+        base = read_taken_base(self.options.feed, own_stops)
         give_back()
         return base
 
@@ -82,7 +65,7 @@ class Exploration:
         return None if self.options.streets is None else read_streets(self.options.streets)
 
     @cached_property
-    def of_routes(self) -> Routes:
+    def of_routes(self) -> list[Route]:
         numbers = {name: number for number, name in enumerate(self.ground.columns)}
         return routes_of(self.base, self.options.date, numbers)
 
@@ -96,27 +79,27 @@ class Exploration:
         """A network that has answered its first question, so that an error of the feed is reported."""
         standing = Standing(version, plan, self.options)
         try:
-            standing.network.matrix((self.options.window[0],) * 2, origins=self.first_stop(plan.folder))
+            first_stop = called_at(read_stops(plan.folder))[:1]
+            standing.network.matrix((self.options.window[0],) * 2, origins=first_stop)
         except BaseException:
             standing.close()
             raise
         return standing
 
-    def first_stop(self, folder: str) -> list[str]:
-        stops = read_stops(folder)
-        return [name for name, kind in zip(stops.identifiers, stops.kinds.tolist()) if kind == 0][:1]
+    def of_feed(self, walk: int) -> Plan:
+        return Plan(self.options.feed, [], walk, [], "", [], None)
 
     def planned(self, actions: list[Values], walk: int) -> Plan:
         """The feed with the plan and a person's changes, written into a folder of its own."""
         if not actions and not self.plan_text:
-            return Plan(self.options.feed, [], walk, actions, "", [], None)
+            return self.of_feed(walk)
         with self.reading:
             named = [Namer(self.ground.columns, self.of_routes).action(action) for action in actions]
             text = planning.text_of(self.plan_text, named)
             return planning.written(self.base, self.feed_lines, text, self.room, walk, actions)
 
-    def times(self, question: Question) -> Times:
-        """Travel times from a place; `Overtaken` where a later question of the same tab came meanwhile."""
+    def times(self, question: Question) -> tuple[int, Seconds]:
+        """Which network answers, and travel times from a place; `Overtaken` by a later question of the same tab."""
         with self.turnstile.turn(question.tab, question.turn):
             standing, origin = self.standing, question.origin
             if isinstance(origin, Point):
@@ -124,7 +107,7 @@ class Exploration:
                     result = standing.ask_from(origin, self.walks_from(origin), Path(folder), question)
             else:
                 result = standing.ask(self.ground.columns[origin], question.window, question.trips, self.options.shares)
-            return Times(standing.version, standing.seconds(result, self.ground.columns))
+            return standing.version, standing.seconds(result, self.ground.columns)
 
     def walks_from(self, point: Point) -> list[Walk]:
         """The walks from a point to the stops of the network that answers."""
@@ -142,22 +125,11 @@ class Exploration:
                 before, self.standing = self.standing, standing
             threading.Thread(target=before.close).start()
             give_back()
-            return {
-                "version": version,
-                "scenarios": standing.scenarios,
-                "told": standing.plan.sentences,
-                **self.changed_lines(),
-            }
-
-    def changed_lines(self) -> dict[str, Any]:
-        """What the map draws of each scenario, as pieces in millionths of a degree."""
-        changes = self.standing.plan.changes
-        kinds = ("taken", "changed", "added")
-        return {"lines": [{kind: getattr(change, kind).ravel().tolist() for kind in kinds} for change in changes]}
-
-    def lines(self) -> Lines:
-        """The lines of the feed, and what each scenario of the network that answers changes of them."""
-        return replace(self.feed_lines.whole, changes=self.standing.plan.changes)
+            # what the map draws of each scenario: pieces in millionths of a degree
+            kinds, changes = ("taken", "changed", "added"), standing.plan.changes
+            lines = [{kind: getattr(change, kind).ravel().tolist() for kind in kinds} for change in changes]
+            told = standing.plan.sentences
+            return {"version": version, "scenarios": standing.scenarios, "told": told, "lines": lines}
 
     @cached_property
     def routes(self) -> bytes:
@@ -165,7 +137,7 @@ class Exploration:
         with self.reading:
             running = self.feed_lines.from_stop_to_stop(self.base)
             lines = None if running is None else running.ravel().tolist()
-            content = {"routes": self.of_routes.as_json(), "running": lines}
+            content = {"routes": [route.as_json() for route in self.of_routes], "running": lines}
             encoded = json.dumps(content, separators=(",", ":")).encode()
         del content, lines, running
         give_back()
@@ -173,37 +145,24 @@ class Exploration:
 
     @cached_property
     def journeys(self) -> Journeys:
-        return Journeys(self.options, lambda: timetable_of(self.base, self.feed_lines.stops))
+        return Journeys(self.options, timetable_of(self.base, self.feed_lines.stops))
 
-    def journey(
-        self, ends: tuple[int, int], scenario: int, window: tuple[str, str], trips: int, share: int
-    ) -> dict[str, Any]:
+    def journey(self, question: JourneyQuestion) -> dict[str, Any]:
         """The journey from one place to another, leg by leg, and all departures."""
         with self.reading:
-            standing, columns = self.standing, self.ground.columns
-            named = columns[ends[0]], columns[ends[1]]
-            question = JourneyQuestion(named, standing.scenarios[scenario], window, trips, share)
-            return self.journeys.journey(standing, columns, question)
-
-    def save(self, body: Any) -> dict[str, Any]:
-        """Writes a study that computes what is shown."""
-        return keeping.save(self.options, self.standing.plan, self.ground.columns, body, self.walks_from)
+            return self.journeys.journey(self.standing, self.ground.columns, question)
 
     def close(self) -> None:
-        """Ends the conversation."""
         self.standing.close()
-
-
-def stops_of(folder: str, points: str | None) -> Stops:
-    """The stops of a feed; those that `ttm-tools points` made of points with their widths."""
-    stops = read_stops(folder)
-    return stops if points is None else with_points(stops, read_points(points))
 
 
 def ground_of(stops: Stops) -> Ground:
     """All stops at which vehicles may call, each of which is an origin and a destination."""
     if not stops.placed.any():
         raise BadInput(stops.path, "none of the stops has coordinates, so there is nothing to show")
-    names = [name for name, kind in zip(stops.identifiers, stops.kinds.tolist()) if kind == 0]
-    places = places_of(stops, names).in_order()
+    places = in_order(stops.of(called_at(stops)))
     return Ground(places, places.identifiers, places.identifiers, places.identifiers)
+
+
+def called_at(stops: Stops) -> list[str]:
+    return [name for name, kind in zip(stops.identifiers, stops.kinds.tolist()) if kind == 0]

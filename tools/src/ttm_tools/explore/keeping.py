@@ -1,5 +1,6 @@
 """What is kept of an exploration: a study that computes all of it, in a folder of its own."""
 
+import itertools
 import os
 import shlex
 from pathlib import Path
@@ -18,14 +19,6 @@ from .options import ExploreOptions
 STUDY, PLAN, ORIGINS = "study.toml", "plan.toml", "origins.csv"
 
 
-def next_folder(out: Path) -> Path:
-    """A folder that isn't there yet."""
-    count = 1
-    while (out / str(count)).exists():
-        count += 1
-    return out / str(count)
-
-
 Walker = Callable[[Point], list[Walk]]
 
 
@@ -38,7 +31,8 @@ def save(options: ExploreOptions, plan: Plan, columns: Sequence[str], body: Any,
     window = window_of({key: str(body[key]) for key in ("first", "last")})
     trips, point = number(body["trips"], "trips", 1, 8), point_in(body["origin"])
     origin = -1 if point else number(body["origin"], "origin", -1, len(columns) - 1)
-    folder = next_folder(Path(options.out))
+    folders = (Path(options.out) / str(number) for number in itertools.count(1))
+    folder = next(folder for folder in folders if not folder.exists())
     with many_written_aside(folder) as aside:
         named = columns[origin] if origin >= 0 else None
         if point is not None:

@@ -16,17 +16,13 @@ from ..plans.shapes import NAME as SHAPES
 from ..plans.shapes import Shapes
 from ..plans.state import State
 from ..plans.writing import Written
-from ..views.page.lines import STRAIGHT, LineChange, Lines, Pieces, change_of, in_degrees, page_lines
+from ..views.page.lines import NONE, STRAIGHT, LineChange, Lines, OnGrid, Pieces, change_of, in_degrees, page_lines
 
 Course = tuple[Floats, Floats]  # latitudes and longitudes of the points of a line, one after another
-OnGrid = npt.NDArray[np.int32]
-NONE = np.zeros((0, 4), np.int32)
 UNCHANGED = LineChange(NONE, NONE, NONE)
 
 
 class FeedLines:
-    """The lines of a feed."""
-
     def __init__(self, folder: str, stops: Stops) -> None:
         self.folder, self.stops = folder, stops
         self.projection = Projection(stops.latitudes, stops.longitudes)
@@ -88,7 +84,6 @@ class FeedLines:
 
 
 def course_of(base: Base, stops: npt.NDArray[Any]) -> Course:
-    """The line from stop to stop."""
     return base.places.latitudes[stops], base.places.longitudes[stops]
 
 

@@ -31,7 +31,6 @@ def with_generated(options: ExploreOptions, room: Path) -> tuple[ExploreOptions,
 
 
 def with_walks(options: ExploreOptions, room: Path) -> tuple[ExploreOptions, list[str]]:
-    """Walks along streets between the stops of the feed."""
     walks = walks_of(read_stops(options.feed), Pace(options.walk), options.streets)
     path = room / WALKS
     with open(path, "wb") as file:

@@ -18,19 +18,16 @@ def options_of_study(path: str, options: ExploreOptions) -> ExploreOptions:
     if walks.table is None and not walks.none:
         message = "must be computed first: run ttm-tools walks, then set table of [walks]"
         raise BadInput(path, message, column="walks", allowed="table, or none = true")
+    same = {name: getattr(run, name) for name in ("trips", "walk", "shares", "back", "ahead")}
     table, plan = (None if path is None else study.at(path) for path in (walks.table, study.scenarios.plan))
     return replace(
         options,
         feed=study.at(study.feed.files[0]),
         date=day_of(run.date),
         window=(run.first, run.last),
-        trips=run.trips,
-        walk=run.walk,
-        shares=run.shares,
         plan=plan,
         opportunities=[study.at(file) for file in study.opportunities.files],
         footpaths=table,
-        back=run.back,
-        ahead=run.ahead,
         title=study.title,
+        **same,
     )

@@ -1,5 +1,6 @@
 """A plan of what somebody changes, carried out on a feed that was read once."""
 
+import contextlib
 import os
 import tempfile
 from pathlib import Path
@@ -34,36 +35,27 @@ def text_of(plan: str, actions: Sequence[Values]) -> str:
 
 
 def written(base: Base, lines: FeedLines, text: str, room: Path, walk: int, actions: list[Values]) -> Plan:
-    """Writes the feed of all scenarios of a plan, where they have trips of their own, and their files into a new folder
-    of a room; none stays where that fails.
-    """
+    """Writes the feed of all scenarios of a plan, if it has trips of its own, and their files; if it fails, none."""
     own = Path(tempfile.mkdtemp(prefix="plan.", dir=room))
-    try:
-        return carried(base, lines, text, own, walk, actions)
-    except BaseException:
-        remove(own)
-        raise
-
-
-def carried(base: Base, lines: FeedLines, text: str, room: Path, walk: int, actions: list[Values]) -> Plan:
-    path = room / PLAN
-    try:
-        path.write_text(text, encoding="utf-8")
-    except UnicodeEncodeError:
-        raise BadInput("the plan", "a name in it is not UTF-8") from None
-    plan = read_plan(str(path))
-    finished = [carried_out(base, scenario) for scenario in plan.scenarios]
-    refuse_limits(str(path), base, [scenario.state for scenario in finished])
-    written = written_of(base, finished, alone=False)
-    feed = base.folder
-    if written.own:
-        feed = room / FEED
-        feed.mkdir()
-        write_all(written, feed)
-    names = write_scenarios(written, room / SCENARIOS)
-    if not written.own:  # of the feed as it is scenarios take out and shift alone, so that today's is the feed itself
-        names.remove(f"{TODAY}.csv")
-    files = [os.fspath(room / SCENARIOS / name) for name in names]
-    lines_said, changes = list(sentences(finished)), lines.changes(written)
-    trips = own_timetable(written, lines.stops)
-    return Plan(os.fspath(feed), files, walk, actions, text, lines_said, room, trips, changes)
+    with contextlib.ExitStack() as undoing:
+        undoing.callback(remove, own)
+        path, feed = own / PLAN, base.folder
+        try:
+            path.write_text(text, encoding="utf-8")
+        except UnicodeEncodeError:
+            raise BadInput("the plan", "a name in it is not UTF-8") from None
+        finished = [carried_out(base, scenario) for scenario in read_plan(str(path)).scenarios]
+        refuse_limits(str(path), base, [scenario.state for scenario in finished])
+        found = written_of(base, finished, alone=False)
+        if found.own:
+            feed = own / FEED
+            feed.mkdir()
+            write_all(found, feed)
+        names = write_scenarios(found, own / SCENARIOS)
+        if not found.own:  # of the feed as it is scenarios take out and shift alone, so that today's is the feed itself
+            names.remove(f"{TODAY}.csv")
+        files = [os.fspath(own / SCENARIOS / name) for name in names]
+        told, changes = list(sentences(finished)), lines.changes(found)
+        trips = own_timetable(found, lines.stops)
+        undoing.pop_all()
+    return Plan(os.fspath(feed), files, walk, actions, text, told, own, trips, changes)

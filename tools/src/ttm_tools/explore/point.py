@@ -10,7 +10,6 @@ from pathlib import Path
 
 import numpy as np
 
-from ..gtfs.fields import Floats
 from ..gtfs.stops import Stops, read_stops
 from ..points.study import spread, stops_with
 from ..points.table import Points
@@ -73,18 +72,9 @@ def stops_near(point: Point, stops: Stops, metres: float) -> Stops:
 def with_point(stops: Stops, point: Point) -> Stops:
     """The point, and these stops behind it."""
 
-    def first(value: float, others: Floats) -> Floats:
-        return np.concatenate([[value], others])
-
-    return Stops(
-        stops.path,
-        [point.name_among(stops), *stops.identifiers],
-        ["", *stops.names],
-        first(point.latitude, stops.latitudes),
-        first(point.longitude, stops.longitudes),
-        np.concatenate([np.zeros(1, np.int8), stops.kinds]),
-        ["", *stops.stations],
-    )
+    identifiers, names = [point.name_among(stops), *stops.identifiers], ["", *stops.names]
+    places = np.append(point.latitude, stops.latitudes), np.append(point.longitude, stops.longitudes)
+    return Stops(stops.path, identifiers, names, *places, np.append(np.int8(0), stops.kinds), ["", *stops.stations])
 
 
 def streets_around(point: Point, streets: Streets, metres: float) -> Streets:
@@ -92,10 +82,8 @@ def streets_around(point: Point, streets: Streets, metres: float) -> Streets:
     up = np.degrees(metres / 6_371_000) * 1.01
     right = up / max(np.cos(np.radians(point.latitude)), 1e-6)
     kept = np.ones(len(streets.begin), dtype=np.bool_)
-    for degrees, middle, reach in (
-        (streets.latitudes, point.latitude, up),
-        (streets.longitudes, point.longitude, right),
-    ):
+    north, east = (streets.latitudes, point.latitude, up), (streets.longitudes, point.longitude, right)
+    for degrees, middle, reach in (north, east):
         one, other = degrees[streets.begin], degrees[streets.end]
         kept &= (np.minimum(one, other) <= middle + reach) & (np.maximum(one, other) >= middle - reach)
     nodes, ends = np.unique(np.stack([streets.begin[kept], streets.end[kept]]), return_inverse=True)
@@ -104,22 +92,17 @@ def streets_around(point: Point, streets: Streets, metres: float) -> Streets:
     return Streets(streets.path, streets.latitudes[nodes], streets.longitudes[nodes], begin, end, *ways)
 
 
-def write_feed(folder: Path, feed: str, point: Point, name: str) -> None:
-    """The feed with the point behind its stops; its other files are links."""
-    folder.mkdir()
-    for file in Path(feed).resolve().iterdir():
-        if file.name != "stops.txt":
-            os.symlink(file, folder / file.name)
-    with open(folder / "stops.txt", "wb") as out:
-        write_rows(out, *stops_with(Path(feed) / "stops.txt", point.as_points(name)))
-
-
 def laid_out(folder: Path, feed: str, footpaths: str | None, point: Point, walks: list[Walk]) -> tuple[str, Path, Path]:
-    """Writes the feed with the point, and its walks in addition to those of a file; returns its name, and where both
-    are.
+    """Writes the feed with the point behind its stops, and its walks in addition to those of a file; returns its name,
+    and where both are. Other files of the feed are links.
     """
     name = point.name_among(read_stops(feed))
-    write_feed(folder / FEED, feed, point, name)
+    (folder / FEED).mkdir()
+    for file in Path(feed).resolve().iterdir():
+        if file.name != "stops.txt":
+            os.symlink(file, folder / FEED / file.name)
+    with open(folder / FEED / "stops.txt", "wb") as out:
+        write_rows(out, *stops_with(Path(feed) / "stops.txt", point.as_points(name)))
     write_walks(folder / WALKS, footpaths, name, walks)
     return name, folder / FEED, folder / WALKS
 

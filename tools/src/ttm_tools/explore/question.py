@@ -15,8 +15,6 @@ DEGREES = re.compile(r"-?[0-9]{1,3}(\.[0-9]{1,9})?")
 
 @dataclass(frozen=True)
 class Question:
-    """Travel times from a place."""
-
     origin: int | Point  # the number of a place of the page, or any point
     window: tuple[str, str]
     trips: int
@@ -25,7 +23,6 @@ class Question:
 
 
 def whole(args: Mapping[str, str], name: str, least: int, most: int) -> int:
-    """A whole number of a range."""
     text = args.get(name, "")
     if not WHOLE.fullmatch(text) or not least <= int(text) <= most:
         raise WrongWords(f"{name} is {text[:60]!r}; allowed: {least} to {most}")
@@ -33,7 +30,6 @@ def whole(args: Mapping[str, str], name: str, least: int, most: int) -> int:
 
 
 def clock(args: Mapping[str, str], name: str) -> str:
-    """A time of the day."""
     text = args.get(name, "")
     if not CLOCK.fullmatch(text):
         raise WrongWords(f"{name} is {text[:60]!r}; allowed: 00:00 to 23:59")
@@ -41,7 +37,6 @@ def clock(args: Mapping[str, str], name: str) -> str:
 
 
 def window_of(args: Mapping[str, str]) -> tuple[str, str]:
-    """The first and the last departure."""
     first, last = clock(args, "first"), clock(args, "last")
     if last < first:
         raise WrongWords(f"the last departure, {last}, is before the first, {first}")
@@ -49,7 +44,6 @@ def window_of(args: Mapping[str, str]) -> tuple[str, str]:
 
 
 def degrees(args: Mapping[str, str], name: str, most: int) -> float:
-    """A latitude or a longitude."""
     text = args.get(name, "")
     if not DEGREES.fullmatch(text) or abs(float(text)) > most:
         raise WrongWords(f"{name} is {text[:60]!r}; allowed: -{most} to {most}")
@@ -57,14 +51,12 @@ def degrees(args: Mapping[str, str], name: str, most: int) -> float:
 
 
 def origin_of(args: Mapping[str, str], places: int) -> int | Point:
-    """One of the places, or a point."""
     if "lat" in args or "lon" in args:
         return Point(degrees(args, "lat", 90), degrees(args, "lon", 180))
     return whole(args, "origin", 0, places - 1)
 
 
 def question_of(args: Mapping[str, str], places: int) -> Question:
-    """A question about one of the places, or about any point."""
     tab = args.get("tab", "")
     if not TAB.fullmatch(tab):
         raise WrongWords("tab is not the name of a tab")

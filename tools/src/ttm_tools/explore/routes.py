@@ -11,6 +11,7 @@ from ..gtfs.service_days import services_on
 from ..plans.base import Base
 from ..plans.choice import runs_along
 from ..records import shown
+from ..views.journeys import name_of, with_identifiers
 
 MOST_WAYS = 4  # of a route that are shown, those with the most trips
 HOURS = 24
@@ -29,41 +30,36 @@ class Way:
 
 
 @dataclass(frozen=True)
-class Routes:
-    """All routes that have trips, in the feed's order."""
+class Route:
+    """A route that has trips."""
 
-    identifiers: list[str]
-    names: list[str]  # for people
-    ways: list[list[Way]]
-    hours: list[list[int]]  # departures of each in each hour of the day, the way that most of its trips run
-    pairs: list[list[int]]  # two numbers of places for each piece of its lines
+    identifier: str
+    name: str  # for people
+    ways: list[Way]
+    hours: list[int]  # departures in each hour of the day, the way that most of its trips run
+    pairs: list[int]  # two numbers of places for each piece of its lines
 
-    def as_json(self) -> list[dict[str, Any]]:
-        ways = [[{"stops": way.stops, "count": way.count} for way in some] for some in self.ways]
-        rows = zip(map(shown, self.identifiers), self.names, ways, self.hours, self.pairs)
-        return [dict(zip(("id", "name", "ways", "hours", "pairs"), row)) for row in rows]
+    def as_json(self) -> dict[str, Any]:
+        ways = [{"stops": way.stops, "count": way.count} for way in self.ways]
+        own = {"id": shown(self.identifier), "name": self.name, "ways": ways}
+        return {**own, "hours": self.hours, "pairs": self.pairs}
 
 
-def routes_of(base: Base, date: datetime.date, numbers: Mapping[str, int]) -> Routes:
-    """The routes of a feed, with places of the page by the stops' identifiers."""
-    running = services_on(base.feed, date)
+def routes_of(base: Base, date: datetime.date, numbers: Mapping[str, int]) -> list[Route]:
+    """The routes of a feed in its order, with places of the page by the stops' identifiers."""
+    running, names, routes = services_on(base.feed, date), names_of(base), []
     place = np.array([numbers.get(name, -1) for name in base.places.identifiers], dtype=np.int64)  # -1: of no trip
-    found = {own: trips for own, trips in base.by_route.items() if base.lengths[trips].sum() > 0}
-    names = names_of(base)
-    ways = [ways_of(base, trips[base.lengths[trips] > 1], place, running) for trips in found.values()]
-    shown_ways, hours = [some[:MOST_WAYS] for some in ways], [hours_of(some) for some in ways]
-    return Routes(list(found), [names[own] for own in found], shown_ways, hours, [pairs_of(some) for some in ways])
+    for own, trips in base.by_route.items():
+        if base.lengths[trips].sum() > 0:
+            ways = ways_of(base, trips[base.lengths[trips] > 1], place, running)
+            routes.append(Route(own, names[own], ways[:MOST_WAYS], hours_of(ways), pairs_of(ways)))
+    return routes
 
 
 def names_of(base: Base) -> dict[str, str]:
-    """What people call each route: its short name, or its long one, and its identifier where it is another."""
     table = base.feed.tables["routes.txt"]
     columns = (table.texts(name) for name in ("route_id", "route_short_name", "route_long_name"))
-    names = {}
-    for own, short, long in zip(*columns):
-        name, identifier = shown(short.strip() or long.strip() or own), shown(own)
-        names[own] = name if name == identifier else f"{name} ({identifier})"
-    return names
+    return with_identifiers({route: name_of(route, short, long) for route, short, long in zip(*columns)})
 
 
 def ways_of(base: Base, trips: Whole, place: Whole, running: set[str]) -> list[Way]:

@@ -55,38 +55,18 @@ class Standing:
         self.version, self.plan, self.options = version, plan, options
         self.scenarios = plan.scenarios
         self.order: npt.NDArray[np.intp] | None = None  # where the column of each place is, by the first answer
-        self.network = Network(
-            plan.folder,
-            options.date,
-            walk=plan.walk,
-            scenarios=plan.files,
-            footpaths=options.footpaths,
-            back=options.back,
-            ahead=options.ahead,
-            program=options.program,
-        )
+        self.own: dict[str, Any] = {name: getattr(options, name) for name in ("back", "ahead", "program")}
+        self.own |= {"walk": plan.walk, "scenarios": plan.files}
+        self.network = Network(plan.folder, options.date, footpaths=options.footpaths, **self.own)
 
     def ask(self, origin: str, window: tuple[str, str], trips: int, shares: Sequence[int]) -> Result:
-        """Travel times from a stop."""
         return self.network.matrix(window, trips=trips, shares=shares, origins=[origin])
 
     def ask_from(self, point: Point, walks: list[Walk], folder: Path, question: Question) -> Result:
         """Travel times from a point that is no stop, by a run with it as one more stop, whose files are in a folder."""
         name, feed, footpaths = laid_out(folder, self.plan.folder, self.options.footpaths, point, walks)
-        return matrix(
-            feed,
-            self.options.date,
-            question.window,
-            trips=question.trips,
-            walk=self.plan.walk,
-            shares=self.options.shares,
-            scenarios=self.plan.files,
-            origins=[name],
-            footpaths=footpaths,
-            back=self.options.back,
-            ahead=self.options.ahead,
-            program=self.options.program,
-        )
+        own: dict[str, Any] = {"trips": question.trips, "shares": self.options.shares, "footpaths": footpaths}
+        return matrix(feed, self.options.date, question.window, origins=[name], **own, **self.own)
 
     def seconds(self, result: Result, columns: Sequence[str]) -> Seconds:
         """The cells of some stops by scenario and share, in whole seconds."""

@@ -37,7 +37,6 @@ class Timetables:
 
     @cached_property
     def called(self) -> Mask:
-        """At which stops vehicles call."""
         called = np.zeros(len(self.stops), dtype=np.bool_)
         for part in self.parts:
             called[part.events.stop] = True
@@ -92,27 +91,20 @@ def own_timetable(written: Written, all_stops: Stops) -> Timetable | None:
     base, own = written.base, written.own
     if not own:
         return None
-    columns = {
-        "route_id": coded(one.route for one in own),
-        "service_id": coded(one.trip.service for one in own),
-        "trip_id": coded(one.name for one in own),
-    }
+    trips, routes = [one.name for one in own], [one.route for one in own]
+    services = (one.trip.service for one in own)
+    columns = {"route_id": coded(routes), "service_id": coded(services), "trip_id": coded(trips)}
     tables = {"trips.txt": Table("trips.txt", columns, unnumbered(len(own)))}
     tables[DATES] = joined(base.feed.get(DATES), new_days(base, own))
     if CALENDARS in base.feed.tables:
         tables[CALENDARS] = base.feed.tables[CALENDARS]
-    headways = {
-        place: [(row.start, row.end, row.seconds) for row in one.trip.headways]
-        for place, one in enumerate(own)
-        if one.trip.headways
-    }
-    trips, routes = [one.name for one in own], [one.route for one in own]
+    stated = {place: one.trip.headways for place, one in enumerate(own) if one.trip.headways}
+    headways = {place: [(row.start, row.end, row.seconds) for row in rows] for place, rows in stated.items()}
     feed = Feed(base.feed.name, tables)
     return Timetable(feed, all_stops, base.places.identifiers, trips, routes, own_events(written), headways)
 
 
 def own_events(written: Written) -> Events:
-    """The events of these trips."""
     base, own = written.base, written.own
     begins = np.cumsum([0, *(len(one.trip.stop) for one in own)])
     stop, row = (together([getattr(one.trip, name) for one in own]) for name in ("stop", "row"))

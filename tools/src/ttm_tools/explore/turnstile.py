@@ -22,14 +22,11 @@ class Turnstile:
     @contextlib.contextmanager
     def turn(self, tab: str, number: int) -> Iterator[None]:
         """Waits for a turn; a question that was overtaken meanwhile has none."""
-        self.note(tab, number)
-        with self.passing:
-            if self.latest.get(tab, number) > number:
-                raise Overtaken
-            yield
-
-    def note(self, tab: str, number: int) -> None:
         with self.noting:
             self.latest[tab] = max(number, self.latest.pop(tab, number))
             while len(self.latest) > MOST_TABS:
                 self.latest.popitem(last=False)
+        with self.passing:
+            if self.latest.get(tab, number) > number:
+                raise Overtaken
+            yield

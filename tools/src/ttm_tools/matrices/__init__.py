@@ -8,17 +8,15 @@ from ..opening.paths import as_one_line, regular
 from .beside import Beside
 from .capped import capped
 from .csv_matrix import CsvMatrix
-from .layout import MatrixLayout, layout_of
+from .layout import layout_of
 from .lines import Seconds
-from .matrix import BASE, TODAY, Block, Matrix, Pair, Share, Sums, has_all, lacking, pair_of
+from .matrix import BASE, TODAY, Matrix, Pair, Share, Sums, has_all, lacking, pair_of
 from .open_matrix import OpenMatrix, is_open_matrix, write_open_matrix
 
 __all__ = [
     "BASE",
     "Beside",
     "TODAY",
-    "Block",
-    "MatrixLayout",
     "Matrix",
     "Pair",
     "Seconds",

@@ -4,14 +4,13 @@ identifiers.
 
 from dataclasses import dataclass, replace
 from pathlib import Path
-from typing import Sequence
 
 import numpy as np
 
-from ..faults import BadInput, some
+from ..faults import BadInput
 from ..records import shown
 from .lines import Seconds
-from .matrix import Matrix, Places, Share, Sums
+from .matrix import LEFT_OUT, Matrix, Places, Share, Sums, sentences_on_lacking
 from .origin import told_of
 
 
@@ -45,10 +44,10 @@ class Beside(Matrix):
         chosen = other.scenario(scenario or other.base)
         shares = shares_of(own, other)
         self.shares = list(shares)
-        limits = limits_of(own, other)
+        both = [limit for limit in own.layout.limits if limit in other.layout.limits]
         stops = [name for name in own.stops if name in other.places]
-        self.layout = replace(own.layout, limits=tuple(own.layout.limits[place] for place, _ in limits), stops=stops)
-        at = [np.array([limit[end] for limit in limits], dtype=np.intp) for end in (0, 1)]
+        self.layout = replace(own.layout, limits=tuple(both), stops=stops)
+        at = [np.array([table.layout.limits.index(limit) for limit in both], dtype=np.intp) for table in (own, other)]
         columns = [np.array([table.places[name] for name in stops], dtype=np.intp) for table in (own, other)]
         origins = self.common(chosen, shares)
         self.sources = {second: MatrixSource(other, chosen, shares, origins, columns[1], at[1])}
@@ -56,7 +55,7 @@ class Beside(Matrix):
         self.renamed = {own.base: first}
         for name in own.compared:
             self.sources[self.renamed.get(name, name)] = MatrixSource(own, name, same, origins, columns[0], at[0])
-        self.scenarios = list(self.sources)
+        self.scenarios, self.named_base = list(self.sources), second
         self.heading, self.files = self.heading_of(), (other.path,)
         if not stops or not origins:
             raise BadInput(other.path, f"has no {'stop' if not stops else 'origin'} in common with {own.path}")
@@ -67,14 +66,6 @@ class Beside(Matrix):
         lists += [self.other_matrix.origins(chosen, share) for share in shares.values()]
         among = set(lists[0]).intersection(*lists[1:])
         return [name for name in lists[0] if name in among]
-
-    @property
-    def base(self) -> str:
-        return self.scenarios[0]
-
-    @property
-    def compared(self) -> list[str]:
-        return self.scenarios
 
     @property
     def left_out(self) -> str:
@@ -102,19 +93,13 @@ class Beside(Matrix):
 
     def sentences(self) -> list[str]:
         """What is only in one of the two, and from where each comes."""
-        lines, (own, other) = list[str](), (self.own, self.other_matrix)
-        share = self.shares[0]
+        share, names = self.shares[0], list[list[str]]()
         mine, base = list(self.sources.values())[1], self.sources[self.base]
-        ends = [
-            (source.matrix.origins(source.scenario, source.shares[share]), source.matrix.stops)
-            for source in (mine, base)
-        ]
-        for what, place, kept in (("origins", 0, set(mine.origins)), ("stops", 1, set(self.stops))):
-            for (one, names), (another, _) in (((own, ends[0]), (other, ends[1])), ((other, ends[1]), (own, ends[0]))):
-                lost = [shown(name) for name in names[place] if name not in kept]
-                if lost:
-                    count = f"{len(lost):,} of {len(names[place]):,} {what} of {one.path}"
-                    lines.append(f"{count} aren't in {another.path}, and are left out: {some(lost)}")
+        for source in (mine, base):
+            names += [source.matrix.origins(source.scenario, source.shares[share]), source.matrix.stops]
+        lines, (own, other) = list[str](), (self.own.path, self.other_matrix.path)
+        for place, (what, kept) in enumerate((("origins", mine.origins), ("stops", self.stops))):
+            lines += sentences_on_lacking((own, names[place]), (other, names[place + 2]), set(kept), what, LEFT_OUT)
         return [*lines, self.heading]
 
     def heading_of(self) -> str:
@@ -147,9 +132,3 @@ def shares_of(own: Matrix, other: Matrix) -> dict[Share, Share]:
         return {own.shares[0]: other.shares[0]}
     percentiles = ", ".join(map(str, own.shares))
     raise BadInput(other.path, f"no percentile in common with {own.path}, which has {percentiles}")
-
-
-def limits_of(own: Matrix, other: Matrix) -> Sequence[tuple[int, int]]:
-    """The places of the limits of access that both have."""
-    mine, others = own.layout.limits, other.layout.limits
-    return [(place, others.index(limit)) for place, limit in enumerate(mine) if limit in others]

@@ -17,7 +17,7 @@ class Chosen(Matrix):
     def __init__(self, whole: Matrix, names: Collection[str]) -> None:
         self.whole, self.path = whole, whole.path
         self.scenarios, self.shares, self.greatest = whole.scenarios, whole.shares, whole.greatest
-        self.heading, self.files = whole.heading, whole.files
+        self.heading, self.files, self.named_base = whole.heading, whole.files, whole.named_base
         self.names = frozenset(names)
         self.columns = self.places_among(whole.stops)
         self.layout = replace(whole.layout, stops=[whole.stops[place] for place in self.columns.tolist()])
@@ -31,10 +31,7 @@ class Chosen(Matrix):
     @property
     def is_any(self) -> bool:
         """Whether anything of the matrix is named."""
-        origins = (
-            name for scenario in self.scenarios for share in self.shares for name in self.origins(scenario, share)
-        )
-        return any(name in self.names for name in self.layout.stops) or any(name in self.names for name in origins)
+        return not self.names.isdisjoint(self.whole.stops_and_origins())
 
     def rows_of(self, scenario: str, share: Share) -> Places:
         """The places of the chosen origins among all."""
@@ -57,14 +54,6 @@ class Chosen(Matrix):
 
     def limit(self, seconds: int | None) -> tuple[int, int | None]:
         return self.whole.limit(seconds)
-
-    @property
-    def base(self) -> str:
-        return self.whole.base
-
-    @property
-    def compared(self) -> list[str]:
-        return self.whole.compared
 
     @property
     def left_out(self) -> str:

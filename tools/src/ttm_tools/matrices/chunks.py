@@ -17,7 +17,6 @@ SHUFFLED_AND_DEFLATED = [2, 1]  # the numbers of HDF5's filters
 
 
 def packed(cells: Seconds) -> bytes:
-    """Rows as a chunk."""
     by_cell = cells.astype("<f4", copy=False).view(np.uint8).reshape(-1, BYTES)
     planes = np.empty((BYTES, len(by_cell)), np.uint8)
     for place in range(BYTES):  # five times as fast as a transposed copy
@@ -26,7 +25,6 @@ def packed(cells: Seconds) -> bytes:
 
 
 def unpacked(chunk: bytes, rows: int, columns: int) -> Seconds:
-    """A chunk as rows."""
     size = rows * columns
     planes = np.frombuffer(zlib.decompress(chunk, bufsize=BYTES * size), np.uint8).reshape(BYTES, size)
     by_cell = np.empty((size, BYTES), np.uint8)
@@ -43,7 +41,6 @@ def is_packed(data: Any) -> bool:
 
 
 def rows_of(data: Any, begin: int, end: int) -> Seconds:
-    """Some rows of a set of data."""
     values: Seconds
     if begin >= end or not is_packed(data):
         values = data[begin:end].astype(np.float32, copy=False)

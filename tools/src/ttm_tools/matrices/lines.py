@@ -1,12 +1,13 @@
 """The records of a matrix as lines of bytes, and the cells of a line as numbers, all at once and never one by one."""
 
+import csv
+import io
 from typing import BinaryIO, Iterator
 
 import numpy as np
 import numpy.typing as npt
 
 from ..faults import BadInput
-from ..records import read_text
 
 Seconds = npt.NDArray[np.float32]  # NaN where a stop isn't reached; whole seconds up to MOST are exact
 Bytes = npt.NDArray[np.uint8]
@@ -47,7 +48,8 @@ def content(record: bytes) -> bytes:
 
 def fields_of(record: bytes) -> list[str]:
     """All fields of a record as text."""
-    return next(iter(read_text(record.decode("utf-8", "surrogateescape"))), [])
+    text = io.StringIO(record.decode("utf-8", "surrogateescape"), newline="")
+    return next((fields for fields in csv.reader(text) if fields), [])
 
 
 def head_of(line: bytes, count: int) -> tuple[list[str], int]:
@@ -88,7 +90,11 @@ def seconds_of(cells: bytes, count: int) -> Seconds | None:
     if longest > MOST_DIGITS:
         return None
     values = values_of(digits, ends, lengths, longest)
-    return None if values.max() > MOST else with_gaps(values, lengths)
+    if values.max() > MOST:
+        return None
+    seconds: Seconds = values.astype(np.float32)
+    seconds[lengths == 0] = np.nan
+    return seconds
 
 
 def values_of(
@@ -100,12 +106,6 @@ def values_of(
         digit = digits.take(ends - (1 + place), mode="clip")
         values += (digit * (lengths > place)).astype(np.int32) * POWERS[place]
     return values
-
-
-def with_gaps(values: npt.NDArray[np.int32], lengths: npt.NDArray[np.intp]) -> Seconds:
-    seconds = values.astype(np.float32)
-    seconds[lengths == 0] = np.nan
-    return seconds
 
 
 def first_bad(cells: bytes) -> tuple[int, str]:

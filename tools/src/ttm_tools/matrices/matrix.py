@@ -3,7 +3,7 @@
 from abc import ABC, abstractmethod
 from dataclasses import dataclass
 from functools import cached_property
-from typing import Iterator, Sequence
+from typing import Collection, Iterator, Sequence
 
 import numpy as np
 import numpy.typing as npt
@@ -17,6 +17,7 @@ Sums = npt.NDArray[np.int64]
 Places = npt.NDArray[np.intp]
 CELLS_AT_ONCE = 2_000_000
 Share = int | None  # percent; None where the matrix names none
+LEFT_OUT = ", and are left out"
 BASE, TODAY = "base", "today"  # what `ttm` calls the feed as it is, and a plan what it begins from
 
 
@@ -39,6 +40,7 @@ class Matrix(ABC):
     layout: MatrixLayout
     scenarios: list[str]  # in the file's order
     shares: list[Share]  # ascending
+    named_base: str | None = None  # where it is of another file
     greatest: float | None = None  # seconds above which a pair counts as not reached
     heading: str = ""  # the heading if it is two files, side by side
     files: tuple[str, ...] = ()  # those in addition to its own
@@ -74,14 +76,15 @@ class Matrix(ABC):
     @property
     def base(self) -> str:
         """The scenario that others are compared with where none is named: of those of a plan, today."""
-        return TODAY if TODAY in self.scenarios else BASE
+        return self.named_base or (TODAY if TODAY in self.scenarios else BASE)
 
     @property
     def compared(self) -> list[str]:
         """The scenarios that are taken where none is named: all but the one that has the trips of all scenarios of a
         plan at once.
         """
-        return [name for name in self.scenarios if (name, self.base) != (BASE, TODAY)]
+        leaves_base = self.named_base is None and TODAY in self.scenarios
+        return [name for name in self.scenarios if name != BASE or not leaves_base]
 
     def rows_at_once(self) -> int:
         return max(1, CELLS_AT_ONCE // max(1, len(self.stops)))
@@ -162,9 +165,8 @@ class Matrix(ABC):
             names = f"{shown(others[0])} and {shown(others[1])}"
             raise BadInput(self.path, f"it has the scenarios {names} besides {shown(base)}: choose one with --scenario")
         if not others:
-            raise BadInput(
-                self.path, f"no scenario other than {shown(base)}; it has {', '.join(map(shown, self.scenarios))}"
-            )
+            there = ", ".join(map(shown, self.scenarios))
+            raise BadInput(self.path, f"no scenario other than {shown(base)}; it has {there}")
         return others[0]
 
 
@@ -193,10 +195,9 @@ class Pair:
         """The travel times of the origins before and after, some at a time, with the place of the first of them."""
         step = self.matrix.rows_at_once()
         for begin in range(0, len(self.origins), step):
-            chosen = [places[begin : begin + step] for places in (self.before, self.after)]
-            yield begin, self.matrix.rows_at(self.base, self.share, chosen[0]), self.matrix.rows_at(
-                self.other, self.share, chosen[1]
-            )
+            before, after = (places[begin : begin + step] for places in (self.before, self.after))
+            first = self.matrix.rows_at(self.base, self.share, before)
+            yield begin, first, self.matrix.rows_at(self.other, self.share, after)
 
 
 def pair_of(matrix: Matrix, base: str | None, compared: str | None, share: int | None) -> Pair:
@@ -226,12 +227,23 @@ def has_all(matrix: Matrix, origins: Sequence[str], file: str) -> None:
 
 def lacking(one: tuple[str, Sequence[str]], other: tuple[str, Sequence[str]]) -> str | None:
     """Which origins one scenario has and the other hasn't, as a line says it."""
+    (name, origins), (another, others) = one, other
+    kept = {*origins} & {*others}
+    return "; ".join(sentences_on_lacking((shown(name), origins), (shown(another), others), kept)) or None
+
+
+def sentences_on_lacking(
+    one: tuple[str, Sequence[str]],
+    other: tuple[str, Sequence[str]],
+    kept: Collection[str],
+    what: str = "origins",
+    more: str = "",
+) -> list[str]:
+    """Which names of one aren't among those that are kept of both, and which of the other."""
     sentences = []
-    for (name, origins), (another, others) in ((one, other), (other, one)):
-        there = set(others)
-        lost = [shown(origin) for origin in origins if origin not in there]
+    for (name, names), (another, _) in ((one, other), (other, one)):
+        lost = [shown(item) for item in names if item not in kept]
         if lost:
-            sentences.append(
-                f"{len(lost):,} of {len(origins):,} origins of {shown(name)} aren't in {shown(another)}: {some(lost)}"
-            )
-    return "; ".join(sentences) or None
+            count = f"{len(lost):,} of {len(names):,} {what} of {name}"
+            sentences.append(f"{count} aren't in {another}{more}: {some(lost)}")
+    return sentences

@@ -8,7 +8,7 @@ Each is a product of matrices, block of rows by block of rows: weights of cells 
 
 import math
 from dataclasses import dataclass
-from typing import Callable, Protocol, Sequence
+from typing import Callable, Sequence
 
 import numpy as np
 import numpy.typing as npt
@@ -23,13 +23,6 @@ STEP = "step"
 NEARLY = 1 - 1e-12  # of a sum of decimals that is meant to be whole
 
 
-class Weighting(Protocol):
-    """What gives the weight of each travel time, 0 where there is none."""
-
-    def weights(self, seconds: Seconds, cutoff: float) -> Floats:
-        """The weights, 0 to 1, for a cutoff in minutes."""
-
-
 @dataclass(frozen=True)
 class Interval:
     """The mean of cumulative opportunities over all limits of whole minutes from one to another, both included."""
@@ -40,7 +33,7 @@ class Interval:
     def weights(self, seconds: Seconds, cutoff: float) -> Floats:
         """The part of the limits within which each travel time is; the cutoff isn't used."""
         count = self.high - self.low + 1
-        minutes = np.ceil(np.where(np.isnan(seconds), np.inf, seconds).astype(np.float64) / 60)
+        minutes = np.ceil(endless(seconds) / 60)
         weights: Floats = np.clip(self.high + 1 - np.maximum(minutes, self.low), 0, count) / count
         return weights
 
@@ -63,6 +56,9 @@ class Decay:
         """The weight of each travel time, 0 to 1; 0 where there is none. The cutoff is in minutes."""
         weights: Floats = DECAYS[self.kind].compute()(seconds, np.round(60 * cutoff), 60 * (self.value or 0))
         return weights
+
+
+Weighting = Interval | Decay  # what gives the weight of each travel time, 0 where there is none
 
 
 def step(seconds: Seconds, limit: float, width: float) -> Floats:

@@ -12,6 +12,7 @@ from ..column_list import ACCESS, NEAREST, names_of
 from ..faults import BadInput, some
 from ..gtfs.fields import Floats
 from ..matrices import BASE, TODAY
+from ..matrices.matrix import LEFT_OUT, sentences_on_lacking
 from ..records import number_of, records, rows, shown
 from .opportunities import Counts
 
@@ -28,14 +29,16 @@ class AccessKind:
 
     @property
     def label(self) -> str:
-        share = f", share {self.percentile} %" if self.percentile else ""
-        return f"{shown(self.opportunity)} within {self.cutoff} minutes{share}"
+        return f"{shown(self.opportunity)} within {self.cutoff} minutes{self.share}"
 
     @property
     def label_of_nearest(self) -> str:
-        share = f", share {self.percentile} %" if self.percentile else ""
         count = "" if self.cutoff == "1" else f"{self.cutoff} "
-        return f"time to the {count}nearest {shown(self.opportunity)}{share}"
+        return f"time to the {count}nearest {shown(self.opportunity)}{self.share}"
+
+    @property
+    def share(self) -> str:
+        return f", share {self.percentile} %" if self.percentile else ""
 
 
 @dataclass(frozen=True)
@@ -113,14 +116,8 @@ def beside(own: AccessTable, other: AccessTable, labels: tuple[str, str], scenar
 
 def sentences_on_lost(own: AccessTable, other: AccessTable) -> list[str]:
     """The origins that only one of two tables has."""
-    sentences = []
-    for one, another in ((own, other), (other, own)):
-        there = set(another.origins)
-        lost = [shown(name) for name in one.origins if name not in there]
-        if lost:
-            count = f"{len(lost):,} of {len(one.origins):,} origins of {one.path}"
-            sentences.append(f"{count} aren't in {another.path}, and are left out: {some(lost)}")
-    return sentences
+    kept = {*own.origins} & {*other.origins}
+    return sentences_on_lacking((own.path, own.origins), (other.path, other.origins), kept, more=LEFT_OUT)
 
 
 def by_group(

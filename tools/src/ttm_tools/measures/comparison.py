@@ -17,6 +17,7 @@ from ..matrices import Pair, Seconds, Sums
 KINDS = ["cut off", "slower", "new", "faster"]  # in the order of a table
 CUT_OFF, SLOWER, NEW, FASTER = range(4)
 LOSS, GAIN, RELATIVE = "loss", "gain", "relative"  # ways to sort other than losers first and then winners, by size
+Order = npt.NDArray[np.intp]
 RANKS = {LOSS: [0, 1, 3, 2], GAIN: [3, 2, 0, 1]}  # of KINDS
 
 
@@ -38,13 +39,11 @@ class Changes:
 
 @dataclass(frozen=True)
 class Comparison:
-    """How two scenarios differ: for each origin its reached stops, and to how many it is cut off, slower, new and
-    faster; and the pairs, where kept.
+    """How two scenarios differ: for each origin to how many stops it is cut off, slower, new and faster; and the pairs,
+    where kept.
     """
 
     counts: npt.NDArray[np.int64]  # a row for each origin, a column for each of KINDS
-    reached_before: npt.NDArray[np.int64]
-    reached_after: npt.NDArray[np.int64]
     changes: Changes
 
 
@@ -89,17 +88,15 @@ def compare(pair: Pair, limit: float, with_pairs: bool) -> Comparison:
     """Compares all origins that both scenarios have, some at a time; a pair that differs takes 17 bytes where it is
     kept, and as many again while all are put in order.
     """
-    counts, reached = [np.zeros((0, len(KINDS)), np.int64)], [np.zeros((2, 0), np.int64)]
+    counts = [np.zeros((0, len(KINDS)), np.int64)]
     none = np.zeros((0, 0), np.float32)
     found = [[column] for column in columns_of(0, none, none, np.zeros((0, 0), np.int8))]
     for begin, before, after in progress.shown(pair.blocks(), pair.count_of_blocks(), "comparing", "blocks"):
         kinds = kinds_of(before, after, limit)
         counts.append(np.stack([np.count_nonzero(kinds == kind, axis=1) for kind in range(len(KINDS))], axis=1))
-        reached.append(np.stack([np.count_nonzero(~np.isnan(times), axis=1) for times in (before, after)]))
         for column, piece in zip(found, columns_of(begin, before, after, kinds) if with_pairs else ()):
             column.append(piece)
-    all_reached = np.concatenate(reached, axis=1)
-    return Comparison(np.concatenate(counts), all_reached[0], all_reached[1], Changes(*map(put_together, found)))
+    return Comparison(np.concatenate(counts), Changes(*map(put_together, found)))
 
 
 def put_together(pieces: list[npt.NDArray[Any]]) -> npt.NDArray[Any]:
@@ -116,30 +113,27 @@ def columns_of(begin: int, before: Seconds, after: Seconds, kinds: npt.NDArray[n
     return [*ends, kinds[row, column], before[row, column], after[row, column]]
 
 
-def order_of(changes: Changes, sort: str | None = None) -> npt.NDArray[np.intp]:
+def order_of(changes: Changes, sort: str | None = None) -> Order:
     """Losers first: those cut off, then the slower, the greatest change first; then new connections, then the faster,
     the greatest change first. Sorted by gain new connections and the faster come first, and those cut off last; by loss
-    the faster come before new connections; relative, each by its part of the travel time before.
+    the faster come before new connections; by both, the least change comes last of what is first, and first of what is
+    last; relative, each by its part of the travel time before.
     """
-    if sort is not None:
-        return sorted_pairs(changes, sort)
-    size = np.nan_to_num(np.abs(changes.after - changes.before)).astype(np.int32)
-    key = (changes.kind.astype(np.int32) << 25) + ((1 << 24) - size)
-    order: npt.NDArray[np.intp] = np.argsort(key, kind="stable")
-    return order
-
-
-def sorted_pairs(changes: Changes, sort: str) -> npt.NDArray[np.intp]:
-    """Pairs by kind, and then by change: the least gain, or loss, last of what is first, and first of what is last."""
+    if sort is None:
+        size = np.nan_to_num(np.abs(changes.after - changes.before)).astype(np.int32)
+        key = (changes.kind.astype(np.int32) << 25) + ((1 << 24) - size)
+        return np.argsort(key, kind="stable")
     change = np.nan_to_num(changes.after.astype(np.float64) - changes.before)
     if sort == RELATIVE:
         part = np.abs(change) / np.maximum(np.nan_to_num(changes.before.astype(np.float64)), 1)
-        return as_order(np.lexsort([-part, changes.kind]))
-    rank = np.array(RANKS[sort])[changes.kind]
-    return as_order(np.lexsort([-change if sort == LOSS else change, rank]))
+        keys = [-part, changes.kind]
+    else:
+        keys = [-change if sort == LOSS else change, np.array(RANKS[sort])[changes.kind]]
+    order: Order = np.lexsort(keys)
+    return order
 
 
-def sorted_origins(first: Sums, second: Sums, sort: str) -> npt.NDArray[np.intp]:
+def sorted_origins(first: Sums, second: Sums, sort: str) -> Order:
     """Origins by their change of access: the greatest loss or gain first, or by its part of the access before, losers
     first and then winners.
     """
@@ -147,19 +141,18 @@ def sorted_origins(first: Sums, second: Sums, sort: str) -> npt.NDArray[np.intp]
     if sort != RELATIVE:
         return np.argsort(change if sort == LOSS else -change, kind="stable")
     part = np.abs(change) / np.where(first > 0, first, np.where(change == 0, 1, 1e-300))
-    rank = np.select([change < 0, change > 0], [0, 1], 2)
-    return as_order(np.lexsort([-part, rank]))
-
-
-def as_order(places: Any) -> npt.NDArray[np.intp]:
-    order: npt.NDArray[np.intp] = places
+    order: Order = np.lexsort([-part, rank_of(change)])
     return order
 
 
-def order_of_origins(change: Sums, counts: npt.NDArray[np.int64]) -> npt.NDArray[np.intp]:
+def rank_of(change: npt.NDArray[Any]) -> npt.NDArray[Any]:
+    """Losers before winners before the others."""
+    return np.select([change < 0, change > 0], [0, 1], 2)
+
+
+def order_of_origins(change: Sums, counts: npt.NDArray[np.int64]) -> Order:
     """Losers of access first, then its winners, each by the size of the change; then who has the same access, those cut
     off from most first.
     """
-    rank = np.select([change < 0, change > 0], [0, 1], 2)
-    order: npt.NDArray[np.intp] = np.lexsort([-counts[:, SLOWER], -counts[:, CUT_OFF], -np.abs(change), rank])
+    order: Order = np.lexsort([-counts[:, SLOWER], -counts[:, CUT_OFF], -np.abs(change), rank_of(change)])
     return order

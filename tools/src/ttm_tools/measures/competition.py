@@ -9,14 +9,12 @@ from dataclasses import dataclass
 from typing import Sequence
 
 import numpy as np
-import numpy.typing as npt
 
 from ..gtfs.fields import Floats
 from ..matrices import Matrix, Seconds, Share
+from ..matrices.matrix import Places
 from .access import Weighting, by_blocks
 from .measure_list import COMPETITIONS
-
-Places = npt.NDArray[np.intp]
 
 
 @dataclass(frozen=True)
@@ -29,24 +27,18 @@ class Market:
     weighting: Weighting
     cutoffs: Sequence[float]  # minutes
 
-    def people(self, origins: Sequence[str]) -> Floats:
-        return np.array([self.demand.get(name, 0.0) for name in origins])
-
 
 def competition(matrix: Matrix, scenario: str, share: Share, market: Market) -> Floats:
     """What each origin has: by origin, column of the supply, and cutoff. Availability is what all people there have,
     the others what each of them has.
     """
-    columns = [of_cutoff(matrix, scenario, share, market, cutoff) for cutoff in market.cutoffs]
-    return np.stack(columns, axis=2)
-
-
-def of_cutoff(matrix: Matrix, scenario: str, share: Share, market: Market, cutoff: float) -> Floats:
-    origins = matrix.origins(scenario, share)
-    people = market.people(origins)
-    things = [Thing(matrix, scenario, share, market, cutoff, people, supply) for supply in market.supply.T]
-    columns: list[Floats] = [COMPETITIONS[market.method].compute()(thing) for thing in things]
-    return np.stack(columns, axis=1) if columns else np.zeros((len(origins), 0))
+    people = np.array([market.demand.get(name, 0.0) for name in matrix.origins(scenario, share)])
+    compute = COMPETITIONS[market.method].compute()
+    found = np.zeros((len(people), market.supply.shape[1], len(market.cutoffs)))
+    for column, supply in enumerate(market.supply.T):
+        for place, cutoff in enumerate(market.cutoffs):
+            found[:, column, place] = compute(Thing(matrix, scenario, share, market, cutoff, people, supply))
+    return found
 
 
 @dataclass(frozen=True)

@@ -30,15 +30,11 @@ def mean(numbers: Floats, people: Floats) -> float:
     return float(numbers @ people / people.sum())
 
 
-def median(access: Floats, people: Floats) -> float:
-    """The least access such that half of the people, or more, have no more."""
-    order = np.argsort(access, kind="stable")
+def within(numbers: Floats, people: Floats, part: float) -> float:
+    """The least number such that this part of the people, or more, have no more; NaN stands last."""
+    order = np.argsort(numbers, kind="stable")
     sums = np.cumsum(people[order])
-    return float(access[order][np.argmax(sums >= sums[-1] / 2 * NEARLY)])
-
-
-def ratio(number: float, other: float) -> float:
-    return number / other if other > 0 else float("nan")
+    return float(numbers[order][np.argmax(sums >= sums[-1] * part * NEARLY)])
 
 
 def part(access: Floats, people: Floats, begin: float, end: float) -> Floats:
@@ -74,7 +70,8 @@ def losers_percent(case: EquityCase) -> float:
 
 def palma(case: EquityCase) -> float:
     most, least = part(case.access, case.people, 1 - TOP, 1), part(case.access, case.people, 0, BOTTOM)
-    return ratio(mean(case.access, most), mean(case.access, least))
+    of_least = mean(case.access, least)
+    return mean(case.access, most) / of_least if of_least > 0 else float("nan")
 
 
 def least_tenth(case: EquityCase) -> float:
@@ -92,7 +89,8 @@ class Equity:
     people: float = column(lambda case: float(case.people.sum()))
     mean: float = column(lambda case: mean(case.access, case.people), "Σ *p a* / *P*")
     median: float = column(
-        lambda case: median(case.access, case.people), "the least access that at least half of the people don't exceed"
+        lambda case: within(case.access, case.people, 0.5),
+        "the least access that at least half of the people don't exceed",
     )
     losers_percent: float = column(
         losers_percent,

@@ -11,16 +11,6 @@ from ..gtfs.fields import Floats
 
 
 @dataclass(frozen=True)
-class FairnessCase:
-    """The access at each point of a scenario, and the people of a group there."""
-
-    access: Floats
-    people: Floats
-    rank: Floats | None = None  # of concentration
-    line: float | None = None  # of poverty
-
-
-@dataclass(frozen=True)
 class Theil:
     """Theil's T of some people, and of which parts it is: NaN where there is none."""
 
@@ -56,19 +46,8 @@ def theil(access: Floats, people: Floats) -> float:
     return float((people * part) @ logs / people.sum())
 
 
-def of_theil(case: FairnessCase) -> Theil:
-    """The T of one group."""
-    return Theil(float(case.people.sum()), theil(case.access, case.people), float("nan"), float("nan"))
-
-
-def of_concentration(case: FairnessCase) -> Concentration:
-    assert case.rank is not None
-    return concentration(case.access, case.people, case.rank)
-
-
-def of_poverty(case: FairnessCase) -> Poverty:
-    assert case.line is not None
-    return poverty(case.access, case.people, case.line)
+def theil_of_group(access: Floats, people: Floats) -> Theil:
+    return Theil(float(people.sum()), theil(access, people), float("nan"), float("nan"))
 
 
 def theil_of_all(access: Floats, groups: Floats) -> Theil:

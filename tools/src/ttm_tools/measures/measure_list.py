@@ -13,8 +13,6 @@ from ..column_list import table
 
 @dataclass(frozen=True)
 class Measure:
-    """A measure."""
-
     name: str
     formula: str
     source: str
@@ -85,7 +83,7 @@ FAIRNESS = by_name(
         "its parts over the groups: within, Σ *s* *T*, and between, Σ *s* ln(*µ* of the group / *µ*), "
         "with *s* the group's part of all access",
         'H. Theil, "Economics and Information Theory", 1967',
-        "fairness.of_theil",
+        "fairness.theil_of_group",
         columns=("people", "theil", "within", "between"),
     ),
     Measure(
@@ -93,7 +91,7 @@ FAIRNESS = by_name(
         "2 Σ *p a r* / (*P µ*) − 1, with *r* the part of the people of lower rank (`--rank`, such as "
         "income), plus half of those of the same: below 0 if people of low rank have more",
         "N. Kakwani, A. Wagstaff, E. van Doorslaer, Journal of Econometrics 77, 1997",
-        "fairness.of_concentration",
+        "fairness.concentration",
         columns=("people", "concentration"),
     ),
     Measure(
@@ -101,7 +99,7 @@ FAIRNESS = by_name(
         "fgt0, fgt1, fgt2: Σ *p* ((*z* − *a*)/*z*)^0, ^1, ^2 / *P* over those with *a* < *z* "
         "(`--line`): how many are poor, how poor, and with weight on the poorest",
         "J. Foster, J. Greer, E. Thorbecke, Econometrica 52, 1984",
-        "fairness.of_poverty",
+        "fairness.poverty",
         columns=("people", "fgt0", "fgt1", "fgt2"),
     ),
 )

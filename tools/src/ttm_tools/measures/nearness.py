@@ -3,15 +3,13 @@
 from dataclasses import dataclass
 
 import numpy as np
-import numpy.typing as npt
 
-from ..gtfs.fields import Floats
+from ..gtfs.fields import Floats, Mask
 from .columns import column, row_of
+from .equity import NEARLY, within
 
-NEARLY = 1 - 1e-12  # of what is meant to be just a half, or just a percentage
 MINUTE = 60.0
 OF_PARTS = "the least time within which at least half, or nine tenths, of all people are there; none if fewer ever are"
-Flags = npt.NDArray[np.bool_]
 
 
 @dataclass(frozen=True)
@@ -26,7 +24,7 @@ class NearnessCase:
     percent: float  # longer, from which on somebody counts as a loser
 
     @property
-    def there(self) -> Flags:
+    def there(self) -> Mask:
         return ~np.isnan(self.seconds)
 
     @property
@@ -46,13 +44,6 @@ def losers_percent(case: NearnessCase) -> float:
     loses = (case.seconds > case.base) & (longer >= case.base * (case.percent / 100 * NEARLY))
     lost = loses | (~case.there & ~np.isnan(case.base))
     return 100 * float(case.people[lost].sum() / case.people.sum())
-
-
-def within(seconds: Floats, people: Floats, part: float) -> float:
-    """The least time within which this part of the people, or more, are there; NaN where fewer ever are."""
-    order = np.argsort(seconds, kind="stable")  # those without a time stand last
-    sums = np.cumsum(people[order])
-    return float(seconds[order][np.argmax(sums >= sums[-1] * part * NEARLY)])
 
 
 @dataclass(frozen=True)

@@ -8,7 +8,7 @@ import numpy as np
 
 from ..faults import BadInput, some
 from ..gtfs.fields import Floats
-from ..records import number_of, places_of, records, refuse_alike, rows, shown
+from ..records import names_of, number_of, places_of, records, refuse_alike, rows, shown
 
 IDENTIFIERS = ("stop_id", "id")  # the column that names a stop or a point: the first of these that is there
 # columns that say where and what it is
@@ -43,11 +43,9 @@ def read_counts(paths: Sequence[str], stops: Sequence[str], kind: str, wanted: S
                 raise BadInput(path, f"a column {shown(called(name, path))} is in another file too")
             names.append(called(name, path))
         columns.append(numbers_of(path, found, places, kind))
-    lost = [name for name in wanted if name not in names]
+    lost = [shown(name) for name in wanted if name not in names]
     if lost:
-        raise BadInput(
-            ", ".join(paths), f"no column {shown(lost[0])}; there are {some([shown(name) for name in there])}"
-        )
+        raise BadInput(", ".join(paths), f"no column {lost[0]}; there are {some([*map(shown, there)])}")
     return Counts(names, np.concatenate([np.zeros((len(stops), 0)), *columns], axis=1))
 
 
@@ -58,9 +56,9 @@ def called(column: str, path: str) -> str:
 def columns_of(path: str) -> list[str]:
     """The columns of numbers of a file: all but the identifier, names and places; no two of them are called alike."""
     _, header = next(records(path), (1, list[str]()))
-    names = [name for name in places_of(header, path, []) if name]
-    refuse_alike(path, header, [name for name in names if name not in NO_COUNTS])
-    columns = [name for name in names if name not in NO_COUNTS and name not in IDENTIFIERS]
+    names = [name for name in places_of(header, path, []) if name and name not in NO_COUNTS]
+    refuse_alike(path, header, names)
+    columns = [name for name in names if name not in IDENTIFIERS]
     if not columns:
         raise BadInput(path, "no column of numbers", record=1)
     return columns
@@ -68,11 +66,11 @@ def columns_of(path: str) -> list[str]:
 
 def identifier_of(path: str) -> str:
     """The column of a file that names stops."""
-    _, header = next(records(path), (1, list[str]()))
-    found = [name for name in IDENTIFIERS if name in places_of(header, path, [])]
-    if not found:
+    names = names_of(path)
+    found = next((name for name in IDENTIFIERS if name in names), None)
+    if found is None:
         raise BadInput(path, f"no column {' or '.join(IDENTIFIERS)}", record=1)
-    return found[0]
+    return found
 
 
 def numbers_of(path: str, names: Sequence[str], places: dict[str, int], kind: str) -> Floats:

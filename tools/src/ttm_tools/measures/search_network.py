@@ -58,7 +58,6 @@ class SearchNetwork:
         return self.only(self.aboard(ready) | (self.board & (ready[self.stop] <= self.depart)))
 
     def only(self, kept: Mask) -> "SearchNetwork":
-        """Some events alone."""
         run, stop, board, alight = self.run[kept], self.stop[kept], self.board[kept], self.alight[kept]
         times = self.arrive[kept], self.depart[kept]
         return SearchNetwork(run, first_of_each(run), stop, *times, board, alight, self.walks, self.changes)

@@ -11,14 +11,11 @@ from dataclasses import dataclass
 from typing import Any, Sequence
 
 import numpy as np
-import numpy.typing as npt
 
-from ..gtfs.fields import Floats
-from ..gtfs.fields import Whole
+from ..gtfs.fields import Floats, Mask, Whole
 from ..gtfs.timetable import Edits, Timetable, runs_of
 from .columns import column, row_of
 
-Flags = npt.NDArray[np.bool_]
 HOUR, NONE = 3600.0, float("nan")
 
 
@@ -29,8 +26,8 @@ class Period:
     start: int
     end: int
 
-    def has(self, times: Whole) -> Flags:
-        inside: Flags = (times >= self.start) & (times < self.end)
+    def has(self, times: Whole) -> Mask:
+        inside: Mask = (times >= self.start) & (times < self.end)
         return inside
 
 
@@ -96,12 +93,12 @@ class PeriodRuns:
     """Some of the runs in a period, and a stop of theirs; -1 for none."""
 
     running: ServiceRuns
-    chosen: Flags
+    chosen: Mask
     period: Period
     stop: int
 
     @functools.cached_property
-    def inside(self) -> Flags:
+    def inside(self) -> Mask:
         """The runs that leave their first stop in the period."""
         return self.chosen & self.period.has(self.running.start)
 
@@ -121,7 +118,7 @@ class PeriodRuns:
         return float(self.running.kilometres[self.inside].sum())
 
 
-def vehicles_in(running: ServiceRuns, chosen: Flags, period: Period) -> int:
+def vehicles_in(running: ServiceRuns, chosen: Mask, period: Period) -> int:
     """The most runs under way at once; one that ends frees its vehicle for one that begins then."""
     under = chosen & (running.start < period.end) & (running.end > period.start)
     begins, ends = np.maximum(running.start[under], period.start), np.minimum(running.end[under], period.end)
@@ -178,7 +175,7 @@ class Service:
     vehicle_kilometres: float = column(lambda part: part.kilometres, OF_WAYS, head="km", decimals=2)
 
 
-def service_of(running: ServiceRuns, chosen: Flags, period: Period, stop: int) -> Service:
+def service_of(running: ServiceRuns, chosen: Mask, period: Period, stop: int) -> Service:
     """What some of the runs are in a period."""
     return row_of(Service, PeriodRuns(running, chosen, period, stop))
 

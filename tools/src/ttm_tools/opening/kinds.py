@@ -26,8 +26,6 @@ class WrongItem(ValueError):
 
 @dataclass(frozen=True)
 class Kind(Generic[Value]):
-    """A kind of value."""
-
     allowed: str
     wrong: str  # what an error says of any other value
     convert: Callable[[Any], Value]  # raises a ValueError for any other value, for an item of a list a `WrongItem`
@@ -65,7 +63,6 @@ def taken_if(fits: Callable[[Any], bool]) -> Callable[[Any], Any]:
 
 
 def texts_of(value: Any) -> list[str]:
-    """A text, or several."""
     listed = [value] if isinstance(value, str) else value
     if not isinstance(listed, list) or not listed or not all(isinstance(item, str) and item for item in listed):
         raise ValueError(value)

@@ -51,9 +51,7 @@ def inside(folder: Path, file: Path) -> Path:
 
 @contextlib.contextmanager
 def as_one_line(path: str | Path, what: str) -> Iterator[None]:
-    """Turns whatever a library raises of a file into a line that names it, and says what couldn't be done. A full disk
-    is no fault of the file.
-    """
+    """Turns what a library raises of a file into a line that says what couldn't be done, unless a disk is full."""
     try:
         yield
     except (BadInput, Lacking, WrongWords, MemoryError):

@@ -26,7 +26,6 @@ def read_toml(path: str | Path) -> tuple[str, dict[str, Any]]:
 
 
 def read_json(path: str | Path, what: str) -> Any:
-    """What a file of JSON says."""
     text = read_text(path, MOST_JSON, what)
     with as_one_line(path, f"is not {what}"):
         return json.loads(text)

@@ -28,7 +28,6 @@ class LineNumbers:
     items: dict[str, list[int]] = field(default_factory=dict)  # of the lists
 
     def inner(self, key: str, number: int = 0) -> "LineNumbers":
-        """A table in this one; one within a statement stands on the line of its key."""
         found = self.tables.get(key, [])
         return found[number] if number < len(found) else LineNumbers(self.keys.get(key, self.line))
 
@@ -49,7 +48,6 @@ class Entry:
         return BadInput(f"{self.path}: line {line}", what, column=key, value=value, allowed=allowed)
 
     def fault_of_item(self, key: str, wrong: WrongItem) -> BadInput:
-        """What is wrong with an item of a list."""
         items, lines = self.values[key], self.lines.items.get(key, [])
         line = lines[wrong.number] if wrong.number < len(lines) else self.lines.keys.get(key, self.lines.line)
         what, value = f"{wrong.what} (item {wrong.number + 1} of {len(items)})", as_written(items[wrong.number])
@@ -98,13 +96,11 @@ class Entry:
         return self.read(key, TEXTS)
 
     def table(self, key: str) -> "Entry":
-        """A table in this one."""
         if not isinstance(self.get(key), dict):
             raise self.fault("is not a table", key, allowed=f"[{key}] with its fields in the lines below")
         return Entry(self.path, self.values[key], self.lines.inner(key))
 
     def inner(self, key: str) -> list["Entry"]:
-        """The tables of a list."""
         value = self.get(key)
         if not isinstance(value, list) or not value or not all(isinstance(item, dict) for item in value):
             raise self.fault("is not a list of tables", key, allowed="[{ .. }, { .. }]")
@@ -152,7 +148,6 @@ def lines_of_items(line: int, statement: str) -> list[int]:
 
 
 def lines_of(text: str) -> LineNumbers:
-    """The lines of a file."""
     whole = LineNumbers(1)
     table = whole
     for line, statement in statements(text):

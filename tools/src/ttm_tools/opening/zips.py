@@ -3,9 +3,10 @@
 import os
 import shutil
 import zipfile
-from collections.abc import Mapping, MutableMapping
+from collections import UserDict
+from collections.abc import Mapping
 from pathlib import Path
-from typing import Iterable, Iterator
+from typing import Iterable
 
 from ..faults import BadInput
 from ..files import writing_to
@@ -41,7 +42,6 @@ def refuse_size(path: Path, sizes: Iterable[int], room: Path) -> None:
 
 
 def unpack_member(path: Path, member: str, target: Path) -> Path:
-    """Unpacks one member."""
     target.parent.mkdir(exist_ok=True)
     with as_one_line(path, f"{os.path.basename(member)} can't be unzipped"):
         with zipfile.ZipFile(path) as packed, packed.open(member) as source:
@@ -50,27 +50,20 @@ def unpack_member(path: Path, member: str, target: Path) -> Path:
     return target
 
 
-class Unread(MutableMapping[str, Path]):
+class Unread(UserDict[str, Path]):
     """Members that nothing reads yet, by their names: each is unpacked when it is needed."""
 
     def __init__(self, path: Path, members: Mapping[str, str], room: Path) -> None:
-        self.path, self.members, self.room = path, dict(members), room
-        self.unpacked: dict[str, Path] = {}
+        self.path, self.packed = path, dict[str, str]()
+        super().__init__({name: room / name for name in members})
+        self.packed.update(members)
 
     def __getitem__(self, name: str) -> Path:
-        if name not in self.unpacked:
-            self.unpacked[name] = unpack_member(self.path, self.members[name], self.room / name)
-        return self.unpacked[name]
+        if name in self.data and name in self.packed:
+            unpack_member(self.path, self.packed[name], self.data[name])
+            del self.packed[name]
+        return self.data[name]
 
     def __setitem__(self, name: str, path: Path) -> None:
-        self.members[name], self.unpacked[name] = name, path
-
-    def __delitem__(self, name: str) -> None:
-        del self.members[name]
-        self.unpacked.pop(name, None)
-
-    def __iter__(self) -> Iterator[str]:
-        return iter(self.members)
-
-    def __len__(self) -> int:
-        return len(self.members)
+        self.packed.pop(name, None)
+        self.data[name] = path

@@ -57,17 +57,11 @@ def kept(kind: str, key: str, make: Callable[[Path], None]) -> Path:
             remove(aside)
             aside.mkdir()
             make(aside)
-            if not entry.is_dir():
-                rename(aside, entry)
+            try:
+                os.replace(aside, entry)
+            except OSError:
+                if not entry.is_dir():  # else another process has made it meanwhile
+                    raise
         finally:
             remove(aside)
     return entry
-
-
-def rename(aside: Path, entry: Path) -> None:
-    """Gives a folder its name, unless another process has made it meanwhile."""
-    try:
-        os.replace(aside, entry)
-    except OSError:
-        if not entry.is_dir():
-            raise

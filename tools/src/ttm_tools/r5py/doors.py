@@ -1,7 +1,6 @@
 """From door to door: travel times in seconds between places, by `ttm` where vehicles are taken, else along streets."""
 
 import contextlib
-import csv
 import datetime
 from dataclasses import dataclass, replace
 from functools import cached_property, partial
@@ -12,7 +11,6 @@ import numpy as np
 import numpy.typing as npt
 
 from ..files import remove
-from ..network import Network
 from ..points import study
 from ..records import rows
 from ..threads import processors
@@ -93,7 +91,7 @@ def ridden(
 ) -> dict[int, Seconds]:
     """Travel times by `ttm` between the places that lie anywhere."""
     doors = doors_of(network, task, feed, origins, destinations)
-    answer = network_at(network, task, doors).matrix(
+    answer = network.network_of(doors.folder, doors.key, task.times, doors.walk).matrix(
         task.times.window,
         trips=task.rides,
         shares=sorted(set(task.percentiles)),
@@ -107,11 +105,6 @@ def ridden(
     if doors.direct is not None:
         found = {percentile: np.fmin(seconds, doors.direct) for percentile, seconds in found.items()}
     return found
-
-
-def network_at(network: TransportNetwork, task: RegionalTask, doors: Doors) -> Network:
-    """The network that is kept of a folder of places, on the chosen date."""
-    return network.network_of(doors.folder, doors.key, task.times, doors.walk)
 
 
 def doors_of(
@@ -144,7 +137,6 @@ def write_doors(folder: Path, walks: LongWalks, merges: bool) -> None:
 
 
 def write_whole(folder: Path, walks: LongWalks) -> None:
-    """Writes the folder with all walks."""
     count = len(walks.files)
     begins, ends = ([True], [True]) if count == 1 else ([True, False], [False, True])
     limit, only = int(walks.pace.limit), None if count == 1 else walks.ends
@@ -169,5 +161,4 @@ def named_limits(task: RegionalTask, places: FramePlaces) -> Iterator[None]:
 
 def stops_in(path: Path) -> Sequence[str]:
     """The identifiers of a file of stops."""
-    with open(path, newline="", encoding="utf-8", errors="surrogateescape") as file:
-        return [row["stop_id"] for row in csv.DictReader(file)]
+    return [stop for _, (stop,) in rows(path, ["stop_id"])]

@@ -70,34 +70,10 @@ def cells_along(begin: Floats, end: Floats, side: float) -> GridCells:
     return cells
 
 
-def frame_of(
-    transport_network: Any, origins: Any, isochrones: Iterable[Any], resolution: float, **kwargs: Any
-) -> geopandas.GeoDataFrame:
-    """A row for each limit, ascending: the area that is reached from the nearest of the origins."""
-    limits, network = limits_of(isochrones), network_from(transport_network)
-    kwargs["max_time"] = limits[-1]
-    task = RegionalTask(network, **kwargs)
-    if len(task.percentiles) != 1:
-        raise NotAvailable("percentiles", f"{task.percentiles} are several", "use one at a time")
-    begins, *_, frame, _ = ends_of(network, as_frame(origins), None, False)
-    grid = StreetGrid(network.streets, frame.estimate_utm_crs(), resolution)
-    found = seconds_between(network, task, begins, grid.places())[task.percentiles[0]]
-    least = np.fmin.reduce(found, axis=0)
-    with np.errstate(invalid="ignore"):
-        areas = [grid.area(least <= limit.total_seconds()) for limit in limits]
-    table = {"travel_time": pandas.to_timedelta(limits)}
-    return geopandas.GeoDataFrame(table, geometry=areas, crs=grid.crs).to_crs(DEGREES)
-
-
-def as_frame(origins: Any) -> Any:
-    """Origins as they are, or a point of shapely in degrees as the only one."""
-    if isinstance(origins, Point):
-        return geopandas.GeoDataFrame({"id": ["origin"]}, geometry=[origins], crs=DEGREES)
-    return origins
-
-
 class Isochrones(geopandas.GeoDataFrame):  # type: ignore[misc]
-    """The areas that are reached within some limits from the nearest of the origins: `travel_time` and `geometry`."""
+    """The areas that are reached within some limits from the nearest of the origins, which may be one point of shapely
+    in degrees: `travel_time` and `geometry`, a row for each limit, ascending.
+    """
 
     def __init__(
         self,
@@ -111,7 +87,21 @@ class Isochrones(geopandas.GeoDataFrame):  # type: ignore[misc]
         if point_grid_sample_ratio != 1:
             what = f"{point_grid_sample_ratio!r} isn't supported, since all points are computed"
             raise NotAvailable("point_grid_sample_ratio", what, "leave it out, or give a larger point_grid_resolution")
-        super().__init__(frame_of(transport_network, origins, isochrones, point_grid_resolution, **kwargs))
+        limits, network = limits_of(isochrones), network_from(transport_network)
+        kwargs["max_time"] = limits[-1]
+        task = RegionalTask(network, **kwargs)
+        if len(task.percentiles) != 1:
+            raise NotAvailable("percentiles", f"{task.percentiles} are several", "use one at a time")
+        if isinstance(origins, Point):
+            origins = geopandas.GeoDataFrame({"id": ["origin"]}, geometry=[origins], crs=DEGREES)
+        begins, *_, frame, _ = ends_of(network, origins, None, False)
+        grid = StreetGrid(network.streets, frame.estimate_utm_crs(), point_grid_resolution)
+        found = seconds_between(network, task, begins, grid.places())[task.percentiles[0]]
+        least = np.fmin.reduce(found, axis=0)
+        with np.errstate(invalid="ignore"):
+            areas = [grid.area(least <= limit.total_seconds()) for limit in limits]
+        table = geopandas.GeoDataFrame({"travel_time": pandas.to_timedelta(limits)}, geometry=areas, crs=grid.crs)
+        super().__init__(table.to_crs(DEGREES))
 
     @property
     def _constructor(self) -> Any:

@@ -2,6 +2,7 @@
 
 import datetime
 import warnings
+from functools import partial
 from typing import Any, Iterator, Sequence
 
 import geopandas
@@ -10,7 +11,7 @@ from shapely.geometry import LineString
 
 from ..walks import points_of
 from ..walks.ways import Ways, degrees_of
-from .doors import doors_of, network_at
+from .doors import doors_of
 from .journeys import JourneySearch
 from .legs import DrawnLegs, Row
 from .matrix import ends_of
@@ -46,7 +47,7 @@ def ridden(
 ) -> Iterator[Row]:
     """The journeys of each pair, which take vehicles or walk."""
     doors = doors_of(network, task, feed, *ends)
-    found = JourneySearch(doors, network_at(network, task, doors), task)
+    found = JourneySearch(doors, network.network_of(doors.folder, doors.key, task.times, doors.walk), task)
     numbers = [dict(zip(places.placed.tolist(), own)) for places, own in zip(ends, doors.ends)]
     options = {(one, other): found.between(numbers[0][one], numbers[1][other]) for one, other in pairs}
     drawn = DrawnLegs(network, found)
@@ -84,23 +85,6 @@ def walked(
         }
 
 
-def frame_of(
-    transport_network: Any, origins: Any, destinations: Any, snaps: bool | float, all_to_all: bool, **kwargs: Any
-) -> geopandas.GeoDataFrame:
-    """A row for each leg of each journey."""
-    network = network_from(transport_network)
-    task = RegionalTask(network, **kwargs)
-    begins, others, *_ = ends_of(network, origins, destinations, snaps)
-    pairs, feed = pairs_of(begins, others, all_to_all), network.feed_with(task.vehicles)
-    found = list[Row]()
-    if pairs:
-        both = (begins, others)
-        found += walked(network, task, both, pairs) if feed is None else ridden(network, task, feed, both, pairs)
-    columns = {name: [row.get(name) for row in found] for name in COLUMNS[:-1]}
-    shapes = [row["geometry"] for row in found]
-    return geopandas.GeoDataFrame(columns, geometry=shapes, crs=DEGREES)
-
-
 class DetailedItineraries(geopandas.GeoDataFrame):  # type: ignore[misc]
     """The journeys between origins and destinations, a row for each leg: between the first, the second and so on where
     there are as many, else between all of them.
@@ -115,8 +99,15 @@ class DetailedItineraries(geopandas.GeoDataFrame):  # type: ignore[misc]
         force_all_to_all: bool = False,
         **kwargs: Any,
     ) -> None:
-        frame = frame_of(transport_network, origins, destinations, snap_to_network, force_all_to_all, **kwargs)
-        super().__init__(frame)
+        network = network_from(transport_network)
+        task = RegionalTask(network, **kwargs)
+        both = ends_of(network, origins, destinations, snap_to_network)[:2]
+        pairs, feed = pairs_of(*both, force_all_to_all), network.feed_with(task.vehicles)
+        found = list[Row]()
+        if pairs:
+            found += walked(network, task, both, pairs) if feed is None else ridden(network, task, feed, both, pairs)
+        columns = {name: [row.get(name) for row in found] for name in COLUMNS[:-1]}
+        super().__init__(columns, geometry=[row["geometry"] for row in found], crs=DEGREES)
 
     @property
     def _constructor(self) -> Any:
@@ -137,10 +128,10 @@ class DetailedItinerariesComputer:
     ) -> None:
         text = "DetailedItineraries replaces DetailedItinerariesComputer in r5py 1.0"
         warnings.warn(text, DeprecationWarning, stacklevel=2)
-        self.arguments = (transport_network, origins, destinations, snap_to_network, force_all_to_all)
-        self.kwargs = kwargs
         RegionalTask(transport_network, **kwargs)
+        more = (snap_to_network, force_all_to_all)
+        self.compute = partial(DetailedItineraries, transport_network, origins, destinations, *more, **kwargs)
 
     def compute_travel_details(self) -> geopandas.GeoDataFrame:
         """The journeys."""
-        return frame_of(*self.arguments, **self.kwargs)
+        return geopandas.GeoDataFrame(self.compute())

@@ -15,7 +15,7 @@ from ..measures import journeys as search
 from ..measures.journeys import Leg
 from ..measures.search_network import Schedule
 from ..network import Network
-from ..gtfs.footpaths import Footpaths, read_walks
+from ..gtfs.footpaths import Footpaths, joined, read_walks
 from ..gtfs.timetable import DAY, Edits, Runs, Timetable, read_timetable, runs_of
 from .doors import Doors
 from .network import FEED
@@ -91,9 +91,7 @@ def with_direct(walks: Footpaths, doors: Doors, places: dict[str, int]) -> Footp
         return walks
     begins, ends = (np.array([places[name] for name in names], np.int64) for names in doors.ends)
     one, other = np.nonzero(~np.isnan(doors.direct))
-    seconds = doors.direct[one, other].astype(np.int64)
-    columns = (walks.begin, begins[one]), (walks.end, ends[other]), (walks.seconds, seconds)
-    return Footpaths(*(np.concatenate(some) for some in columns))
+    return joined([walks, Footpaths(begins[one], ends[other], doors.direct[one, other].astype(np.int64))])
 
 
 def last_to_arrive(seconds: list[int | None]) -> Iterator[tuple[int, int]]:

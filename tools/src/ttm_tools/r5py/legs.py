@@ -1,7 +1,6 @@
 """The legs of journeys as rows: what each is called, when it begins, how long it takes, and how it goes."""
 
 import datetime
-from dataclasses import dataclass
 from typing import Any, Iterator, Sequence
 
 import numpy as np
@@ -20,19 +19,10 @@ from .task import NEAR
 Row = dict[str, Any]
 
 
-@dataclass(frozen=True)
-class LegRoutes:
-    """Of each route its agency and its mode."""
-
-    agencies: dict[str, str | None]
-    modes: dict[str, TransportMode | None]
-
-
-def routes_of(folder: str) -> LegRoutes:
-    """The routes of a feed."""
-    found = [fields for _, fields in rows(f"{folder}/routes.txt", ["route_id"], ["agency_id", "route_type"])]
-    agencies = {route: agency or None for route, agency, _ in found}
-    return LegRoutes(agencies, {route: mode_of(int(kind.strip() or -1)) for route, _, kind in found})
+def routes_of(folder: str) -> dict[str, tuple[str | None, TransportMode | None]]:
+    """Of each route of a feed its agency and its mode."""
+    found = rows(f"{folder}/routes.txt", ["route_id"], ["agency_id", "route_type"])
+    return {route: (agency or None, mode_of(int(kind.strip() or -1))) for _, (route, agency, kind) in found}
 
 
 class DrawnLegs:
@@ -79,7 +69,6 @@ class DrawnLegs:
         return [stop for stop, before in zip(called, [-1, *called]) if stop != before]
 
     def rows_of(self, journey: Journey) -> Iterator[Row]:
-        """A row for each leg."""
         time = self.found.departures[journey.minute]
         for segment, leg in enumerate(journey.legs):
             line, metres = self.line_of(leg)
@@ -97,15 +86,13 @@ class DrawnLegs:
     def names_of(self, leg: Leg) -> Row:
         """What a leg is called by the feed."""
         stops, boards = self.found.timetable.stops, self.found.boards
-        ends = {
-            name: stops[boards.get(stop, stop)]
-            for name, stop in (("start_stop_id", leg.start), ("end_stop_id", leg.end))
-        }
-        names: Row = {column: None if name in self.no_stops else name for column, name in ends.items()}
+        ends = {"start_stop_id": leg.start, "end_stop_id": leg.end}
+        called = {column: stops[boards.get(stop, stop)] for column, stop in ends.items()}
+        names: Row = {column: None if name in self.no_stops else name for column, name in called.items()}
         if leg.run is None:
             return {"transport_mode": TransportMode.WALK, "feed": None, "agency_id": None, "route_id": None, **names}
         route = self.found.timetable.routes[int(self.found.runs.trip[leg.run])]
-        mode, agency = self.routes.modes[route], self.routes.agencies[route]
+        agency, mode = self.routes[route]
         return {"transport_mode": mode, "feed": self.network.feed_name, "agency_id": agency, "route_id": route, **names}
 
     def at(self, seconds: int) -> datetime.datetime:

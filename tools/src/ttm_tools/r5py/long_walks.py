@@ -10,7 +10,7 @@ from typing import Sequence
 import numpy as np
 import numpy.typing as npt
 
-from ..gtfs.footpaths import Footpaths, direct_walks
+from ..gtfs.footpaths import Footpaths, direct_walks, joined
 from ..gtfs.stops import Stops, read_stops
 from ..gtfs.timetable import Timetable, read_timetable
 from ..parts import write_stops
@@ -22,7 +22,7 @@ from ..walks.osm import Streets
 from ..walks.streets import Ends, OnStreets, stops_on_streets
 from ..walks.table import NONE, WalkTable, street_table
 from .needed import needed_walks
-from .split import SplitFootpaths, Split, changes_at, refuse_many, split_of, together, write_feed
+from .split import Split, changes_at, refuse_many, split_of, write_feed, write_footpaths
 
 MANY = 1_000_000  # walks, with which a run takes twice as long as with those that journeys need
 SAMPLE = 64  # stops and origins from which walks are counted
@@ -80,40 +80,35 @@ class LongWalks:
         folder.mkdir()
         split = split_of(timetable, places, len(places) * (1 if len(self.files) > 1 else 2))
         direct, changes = direct_walks(timetable, None, int(self.pace.limit))
-        table = self.table(timetable, direct)
+        table = self.table(direct)
         walks = [changes_at(changes)]
         for begins, ends in needed_walks(table, timetable.events, changes, merges):
-            walks.append(SplitFootpaths(begins, ends, table.seconds[begins, ends].astype(np.int64)))
+            walks.append(Footpaths(begins, ends, table.seconds[begins, ends].astype(np.int64)))
             refuse_many(folder, walks)
-        self.write_folder(folder, timetable, split, together(walks))
-        np.save(folder / DIRECT, self.direct(table, len(split.stops)))
+        self.write_folder(folder, timetable, split, joined(walks))
+        seconds = table.seconds[len(split.stops) :, len(split.stops) :]
+        if len(self.files) == 1:
+            np.fill_diagonal(seconds, 0)
+        np.save(folder / DIRECT, seconds)
 
-    def table(self, timetable: Timetable, stated: Footpaths) -> WalkTable:
+    def table(self, stated: Footpaths) -> WalkTable:
         """The walks along streets and those that the feed states, and chains of both."""
         table = street_table(self.placed, self.streets, self.pace, self.ends)
         stops = np.flatnonzero(self.own.kinds == 0)
-        joined = table.put_direct(
-            zip(stops[stated.begin].tolist(), stops[stated.end].tolist(), stated.seconds.tolist())
-        )
+        ends = stops[stated.begin].tolist(), stops[stated.end].tolist()
+        put = table.put_direct(zip(*ends, stated.seconds.tolist()))
         inside = [station in self.placed.entrances for station in self.placed.stations]
-        table.chain(joined | set(self.placed.chosen[np.array(inside, np.bool_)].tolist()))
+        table.chain(put | set(self.placed.chosen[np.array(inside, np.bool_)].tolist()))
         return table
 
-    def direct(self, table: WalkTable, stops: int) -> npt.NDArray[np.uint16]:
-        """The walks from origins to destinations."""
-        seconds = table.seconds[stops:, stops:]
-        if len(self.files) == 1:
-            np.fill_diagonal(seconds, 0)
-        return seconds
-
-    def write_folder(self, folder: Path, timetable: Timetable, split: Split, walks: SplitFootpaths) -> None:
+    def write_folder(self, folder: Path, timetable: Timetable, split: Split, walks: Footpaths) -> None:
         """Writes the feed, the footpaths, and the names of origins, destinations and split stops."""
         points, same = self.study.points, len(self.files) == 1
         origins = self.study.of_files([True, False][: len(self.files)])
         destinations = [split.twin(name) for name in origins] if same else self.study.of_files([False, True])
         added = points.only(np.tile(np.arange(len(points.identifiers)), 2)) if same else points
         write_feed(folder / FEED, timetable, split, added, [*origins, *destinations])
-        walks.write(folder / FOOTPATHS, [*split.alights, *origins], [*split.stops, *destinations])
+        write_footpaths(folder / FOOTPATHS, walks, [*split.alights, *origins], [*split.stops, *destinations])
         for name, stops in (("origins.csv", origins), ("destinations.csv", destinations)):
             with open(folder / name, "wb") as out:
                 write_stops(out, stops)

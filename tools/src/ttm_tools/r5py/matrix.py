@@ -1,6 +1,7 @@
 """Matrices of travel times, as frames with r5py's columns."""
 
 import warnings
+from functools import partial
 from typing import Any
 
 import numpy as np
@@ -36,26 +37,9 @@ def ends_of(
 
 def columns_of(task: RegionalTask, seconds: dict[int, Seconds]) -> dict[str, Seconds]:
     """A column for each percentile, in minutes; the median alone has no number in its name."""
-    if task.percentiles == [50]:
-        return {"travel_time": minutes_of(seconds[50], task.max_time).ravel()}
-    return {
-        f"travel_time_p{percentile}": minutes_of(seconds[percentile], task.max_time).ravel()
-        for percentile in task.percentiles
-    }
-
-
-def table_of(
-    transport_network: Any, origins: Any, destinations: Any, snap_to_network: bool | float, **kwargs: Any
-) -> pandas.DataFrame:
-    """The matrix in the long form."""
-    network = network_from(transport_network)
-    task = RegionalTask(network, **kwargs)
-    begins, ends, *_ = ends_of(network, origins, destinations, snap_to_network)
-    seconds = seconds_between(network, task, begins, ends)
-    count = len(ends.identifiers)
-    from_id = np.repeat(as_column(begins.identifiers), count)
-    to_id = np.tile(as_column(ends.identifiers), len(begins.identifiers))
-    return pandas.DataFrame({"from_id": from_id, "to_id": to_id, **columns_of(task, seconds)})
+    alone = task.percentiles == [50]
+    names = {percentile: "travel_time" if alone else f"travel_time_p{percentile}" for percentile in task.percentiles}
+    return {name: minutes_of(seconds[percentile], task.max_time).ravel() for percentile, name in names.items()}
 
 
 def as_column(identifiers: list[Any]) -> Any:
@@ -76,7 +60,13 @@ class TravelTimeMatrix(pandas.DataFrame):  # type: ignore[misc]
         snap_to_network: bool | float = False,
         **kwargs: Any,
     ) -> None:
-        super().__init__(table_of(transport_network, origins, destinations, snap_to_network, **kwargs))
+        network = network_from(transport_network)
+        task = RegionalTask(network, **kwargs)
+        begins, ends, *_ = ends_of(network, origins, destinations, snap_to_network)
+        seconds = seconds_between(network, task, begins, ends)
+        from_id = np.repeat(as_column(begins.identifiers), len(ends.identifiers))
+        to_id = np.tile(as_column(ends.identifiers), len(begins.identifiers))
+        super().__init__({"from_id": from_id, "to_id": to_id, **columns_of(task, seconds)})
 
     @property
     def _constructor(self) -> Any:
@@ -94,13 +84,11 @@ class TravelTimeMatrixComputer:
         snap_to_network: bool | float = False,
         **kwargs: Any,
     ) -> None:
-        warnings.warn(
-            "TravelTimeMatrix replaces TravelTimeMatrixComputer in r5py 1.0", DeprecationWarning, stacklevel=2
-        )
-        self.arguments = (transport_network, origins, destinations, snap_to_network)
-        self.kwargs = kwargs
+        text = "TravelTimeMatrix replaces TravelTimeMatrixComputer in r5py 1.0"
+        warnings.warn(text, DeprecationWarning, stacklevel=2)
         RegionalTask(transport_network, **kwargs)
+        self.compute = partial(TravelTimeMatrix, transport_network, origins, destinations, snap_to_network, **kwargs)
 
     def compute_travel_times(self) -> pandas.DataFrame:
         """The matrix."""
-        return table_of(*self.arguments, **self.kwargs)
+        return pandas.DataFrame(self.compute())

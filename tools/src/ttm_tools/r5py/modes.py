@@ -36,16 +36,9 @@ class ElevationCostFunction(enum.Enum):
 
 LACKING = (TransportMode.BICYCLE, TransportMode.CAR, TransportMode.BICYCLE_RENT, TransportMode.CAR_PARK)
 VEHICLES = tuple(mode for mode in TransportMode if mode not in (*LACKING, TransportMode.TRANSIT, TransportMode.WALK))
-BASIC = [
-    TransportMode.TRAM,
-    TransportMode.SUBWAY,
-    TransportMode.RAIL,
-    TransportMode.BUS,
-    TransportMode.FERRY,
-    TransportMode.CABLE_CAR,
-    TransportMode.GONDOLA,
-    TransportMode.FUNICULAR,
-]  # by route_type, 0 to 7
+BASIC = [  # by route_type, 0 to 7
+    TransportMode[name] for name in "TRAM SUBWAY RAIL BUS FERRY CABLE_CAR GONDOLA FUNICULAR".split()
+]
 OTHERS = {11: TransportMode.BUS, 12: TransportMode.RAIL}  # trolleybus, monorail
 EXTENDED = [  # route types below a number
     (100, None),

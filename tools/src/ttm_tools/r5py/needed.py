@@ -7,7 +7,6 @@ walks of a journey, takes no more rides and ends no later, so the least duration
 leaving earlier may put two walks together: they count only where no walk of an answer can exceed the limit.
 """
 
-from dataclasses import dataclass
 from typing import Iterator
 
 import numpy as np
@@ -21,18 +20,11 @@ from ..walks.table import NONE, Seconds, WalkTable
 Kinds = npt.NDArray[np.int64]
 
 
-@dataclass(frozen=True)
-class Neighbours:
-    """The calls next to those at each stop, each kind once. A row has the stop, the stop one ride away, the most
-    seconds of this ride, and the stop on the other side; the count of stops stands for a stop that isn't there.
+def neighbours_of(events: Events, stops: int, merges: bool) -> tuple[Kinds, Kinds]:
+    """The calls next to those at each stop, of boarding and of alighting; `merges` also takes those that may put two
+    walks together. A row has the stop, the stop one ride away (of boarding the call before), the most seconds of this
+    ride, and the stop on the other side; the count of stops stands for a stop that isn't there.
     """
-
-    of_boarding: Kinds  # one ride away is the call before
-    of_alighting: Kinds  # one ride away is the call after
-
-
-def neighbours_of(events: Events, stops: int, merges: bool) -> Neighbours:
-    """The neighbours of all calls; `merges` also takes those that may put two walks together."""
     first, last = ends_of_trips(events)
     places = np.arange(len(first))
     before, after = np.maximum(places - 1, 0), np.minimum(places + 1, len(first) - 1)
@@ -46,7 +38,7 @@ def neighbours_of(events: Events, stops: int, merges: bool) -> Neighbours:
     ride_before, ride_after = events.depart - events.depart[before], events.arrive[after] - events.arrive
     columns = (events.stop, stop_at(before, earlier), ride_before, stop_at(after, later))
     others = (events.stop, stop_at(after, further), ride_after, stop_at(before, sooner))
-    return Neighbours(kinds_of(boards, columns), kinds_of(alights, others))
+    return kinds_of(boards, columns), kinds_of(alights, others)
 
 
 def ends_of_trips(events: Events) -> tuple[Mask, Mask]:
@@ -72,16 +64,17 @@ def needed_walks(table: WalkTable, events: Events, changes: Whole, merges: bool)
     """Rows and columns of the walks that journeys with a ride need. The first rows and columns are the stops at which
     vehicles call, with these change times; the rows behind them are origins, and the columns destinations.
     """
-    stops, kinds = len(changes), neighbours_of(events, len(changes), merges)
+    stops = len(changes)
+    of_boarding, of_alighting = neighbours_of(events, stops, merges)
     np.fill_diagonal(table.seconds[:stops, :stops], np.minimum(changes, NONE))
-    by_stop = np.searchsorted(kinds.of_alighting[:, 0], np.arange(stops + 1))
+    by_stop = np.searchsorted(of_alighting[:, 0], np.arange(stops + 1))
     for rows, block in table.blocks():
         own = np.arange(rows.start, min(rows.start + len(block), stops))
-        needed = np.concatenate([boarding_needs(block, kinds.of_boarding, stops), block[:, stops:] < NONE], axis=1)
+        needed = np.concatenate([boarding_needs(block, of_boarding, stops), block[:, stops:] < NONE], axis=1)
         needed[len(own) :, stops:] = False
         needed[np.arange(len(own)), own] = False
         for place, stop in enumerate(own.tolist()):
-            own_kinds = kinds.of_alighting[by_stop[stop] : by_stop[stop + 1]]
+            own_kinds = of_alighting[by_stop[stop] : by_stop[stop + 1]]
             needed[place] &= alighting_needs(table.seconds[:stops], own_kinds)
         row, column = np.nonzero(needed)
         yield row + rows.start, column

@@ -122,7 +122,7 @@ class TransportNetwork:
         if not routes:
             return None
         key = key_of("routes", self.feed.key, *routes)
-        return Prepared(key, made_feed(key, [self.feed.folder], Clip(routes=routes), False, False))
+        return made_feed(key, [self.feed.folder], Clip(routes=routes), False, False)
 
     def network_of(self, folder: Path, key: str, times: DepartureTimes, walk: int) -> Network:
         """The network of a folder of points on a date; the ones that were used last are kept."""
@@ -145,11 +145,9 @@ def network_from(given: Any) -> TransportNetwork:
     if isinstance(given, TransportNetwork):
         return given
     if not isinstance(given, tuple) or not given:
-        raise NotAvailable(
-            "transport_network", f"{type(given).__name__} is not a network", "TransportNetwork(osm_pbf, gtfs)"
-        )
-    more = given[2] if len(given) > 2 else {}
-    return TransportNetwork(*given[:2], **more)
+        what = f"{type(given).__name__} is not a network"
+        raise NotAvailable("transport_network", what, "TransportNetwork(osm_pbf, gtfs)")
+    return TransportNetwork(*given[:2], **(given[2] if len(given) > 2 else {}))
 
 
 def streets_of(path: str, key: str) -> Streets:
@@ -166,12 +164,13 @@ def streets_of(path: str, key: str) -> Streets:
 
 def feed_of(paths: list[str], repair: bool, allow_errors: bool) -> Prepared:
     """The feeds, made ready as one."""
-    key = key_of("feed", repair, allow_errors, *map(sum_of_source, paths))
-    return Prepared(key, made_feed(key, paths, Clip(), repair, allow_errors))
+    return made_feed(
+        key_of("feed", repair, allow_errors, *map(sum_of_source, paths)), paths, Clip(), repair, allow_errors
+    )
 
 
-def made_feed(key: str, paths: list[str], clip: Clip, repair: bool, allow_errors: bool) -> str:
-    """The folder of prepared feeds; a warning says what was repaired."""
+def made_feed(key: str, paths: list[str], clip: Clip, repair: bool, allow_errors: bool) -> Prepared:
+    """The prepared feeds; a warning says what was repaired."""
 
     def prepare(folder: Path) -> None:
         with scratch("feed") as room:
@@ -183,4 +182,4 @@ def made_feed(key: str, paths: list[str], clip: Clip, repair: bool, allow_errors
     text = (entry / TOLD).read_text(encoding="utf-8")
     if text:
         warnings.warn(f"{', '.join(paths)} repaired:\n{text}", stacklevel=4)
-    return str(entry / FEED)
+    return Prepared(key, str(entry / FEED))

@@ -14,13 +14,13 @@ import numpy as np
 from ..files import copy_file
 from ..gtfs.columns import Column, clocks, column_of, numbered
 from ..gtfs.fields import MOST_FOOTPATHS, MOST_STOP_TIMES, MOST_STOPS, Mask, Whole
-from ..gtfs.footpaths import NO_CHANGE
+from ..gtfs.footpaths import NO_CHANGE, Footpaths
 from ..gtfs.tables import Table, write_table
 from ..gtfs.timetable import Timetable
 from ..points.study import stops_with
 from ..points.table import Points
 from ..records import write_rows
-from ..walks.counting import Places, TooManyWalks
+from ..walks.counting import TooManyWalks
 from .needed import ends_of_trips
 
 LONGEST = 7_200  # seconds of a walk that `ttm` takes
@@ -108,40 +108,26 @@ def forbidden(not_allowed: Mask) -> Column:
     return column_of(["0", "1"], not_allowed.astype(np.int8))
 
 
-@dataclass(frozen=True)
-class SplitFootpaths:
-    """Walks by the positions of the stops and places where they begin and end, both in the order of a table."""
-
-    begins: Places
-    ends: Places
-    seconds: Whole
-
-    def write(self, path: Path, begin_names: Sequence[str], end_names: Sequence[str]) -> None:
-        """Writes a file of footpaths."""
-        columns = {
-            "from_stop_id": column_of(begin_names, self.begins),
-            "to_stop_id": column_of(end_names, self.ends),
-            "seconds": numbered(self.seconds, str),
-        }
-        with open(path, "wb") as out:
-            write_table(Table(path.name, columns, np.arange(len(self.seconds))), out)
+def write_footpaths(path: Path, walks: Footpaths, begin_names: Sequence[str], end_names: Sequence[str]) -> None:
+    """Writes a file of footpaths, which begin and end at positions in the order of a table."""
+    columns = {
+        "from_stop_id": column_of(begin_names, walks.begin),
+        "to_stop_id": column_of(end_names, walks.end),
+        "seconds": numbered(walks.seconds, str),
+    }
+    with open(path, "wb") as out:
+        write_table(Table(path.name, columns, np.arange(len(walks.seconds))), out)
 
 
-def together(walks: Sequence[SplitFootpaths]) -> SplitFootpaths:
-    """All of some walks."""
-    columns = zip(*((some.begins, some.ends, some.seconds) for some in walks))
-    return SplitFootpaths(*(np.concatenate(column) for column in columns))
-
-
-def refuse_many(path: Path, walks: Sequence[SplitFootpaths]) -> None:
+def refuse_many(path: Path, walks: Sequence[Footpaths]) -> None:
     """Refuses more walks than `ttm` takes."""
     if sum(len(some.seconds) for some in walks) > MOST_FOOTPATHS:
         raise TooManyWalks(path, f"more than the {MOST_FOOTPATHS:,} walks that ttm takes")
 
 
-def changes_at(changes: Whole) -> SplitFootpaths:
+def changes_at(changes: Whole) -> Footpaths:
     """The changes between vehicles as walks; where nobody changes there is none."""
     if ((changes > LONGEST) & (changes < NO_CHANGE)).any():
         raise TooManyWalks("transfers.txt", "too many walks, and a change that takes more than two hours")
     stop = np.flatnonzero(changes <= LONGEST)
-    return SplitFootpaths(stop, stop, changes[stop])
+    return Footpaths(stop, stop, changes[stop])

@@ -12,6 +12,7 @@ MINUTE = datetime.timedelta(minutes=1)
 HOURS = datetime.timedelta(hours=2)
 TEN_MINUTES = datetime.timedelta(minutes=10)
 MOST_RIDES, MOST_PERCENTILES = 8, 8
+NO_RIDES = "; transport_modes=[TransportMode.WALK] takes none"
 DETOUR = 1.3  # metres of way for a metre of straight line to a street that isn't near
 NEAR = 1600.0  # metres to a street that are walked as they are: R5's radius of links
 
@@ -70,8 +71,9 @@ class RegionalTask:
         only_walks("egress_modes", [] if egress_modes is None else egress_modes)
         self.max_time = seconds_of("max_time", max_time, 24 * HOURS)
         self.max_time_walking = seconds_of("max_time_walking", max_time_walking, HOURS)
-        self.speed_walking = speed_of(speed_walking)
-        self.rides = rides_of(max_public_transport_rides)
+        refuse_outside("speed_walking", speed_walking, 0.1, 50, " kilometres an hour")
+        refuse_outside("max_public_transport_rides", max_public_transport_rides, 1, MOST_RIDES, NO_RIDES)
+        self.speed_walking, self.rides = float(speed_walking), int(max_public_transport_rides)
         refuse_unusual(
             max_time_cycling=(max_time_cycling, HOURS),
             max_time_driving=(max_time_driving, HOURS),
@@ -80,10 +82,9 @@ class RegionalTask:
             breakdown=(breakdown, False),
         )
 
-    def pace(self, longest: int | None = None) -> Pace:
-        """How one walks, as long as a walk may last, or the seconds that are said."""
-        limit = min(self.max_time_walking, self.max_time) if longest is None else longest
-        return Pace(float(limit), self.speed_walking / 3.6, DETOUR)
+    def pace(self) -> Pace:
+        """How one walks, as long as a walk may last."""
+        return Pace(float(min(self.max_time_walking, self.max_time)), self.speed_walking / 3.6, DETOUR)
 
 
 def refuse_unusual(**arguments: tuple[object, object]) -> None:
@@ -111,13 +112,8 @@ def times_of(departure: datetime.datetime | None, window: datetime.timedelta) ->
 
 
 def percentiles_of(given: Sequence[int]) -> list[int]:
-    """The percentiles as they are given."""
     percentiles = [int(number) for number in given]
-    if (
-        not percentiles
-        or len(set(percentiles)) > MOST_PERCENTILES
-        or any(number != whole for number, whole in zip(given, percentiles))
-    ):
+    if not 1 <= len(set(percentiles)) <= MOST_PERCENTILES or percentiles != list(given):
         allowed = f"one to {MOST_PERCENTILES} whole numbers"
         raise NotAvailable("percentiles", f"{list(given)!r} isn't supported", allowed)
     if not all(1 <= number <= 100 for number in percentiles):
@@ -132,16 +128,7 @@ def seconds_of(argument: str, given: datetime.timedelta, most: datetime.timedelt
     return int(given.total_seconds())
 
 
-def speed_of(given: float) -> float:
-    """A walking speed, kilometres an hour."""
-    if not 0.1 <= given <= 50:
-        raise NotAvailable("speed_walking", f"{given!r} isn't supported", "0.1 to 50 kilometres an hour")
-    return float(given)
-
-
-def rides_of(given: int) -> int:
-    """How many vehicles a journey may take."""
-    if not 1 <= given <= MOST_RIDES:
-        instead = f"1 to {MOST_RIDES}; transport_modes=[TransportMode.WALK] takes none"
-        raise NotAvailable("max_public_transport_rides", f"{given!r} isn't supported", instead)
-    return int(given)
+def refuse_outside(argument: str, given: float, least: float, most: float, more: str) -> None:
+    """Refuses a number that isn't from the least to the most."""
+    if not least <= given <= most:
+        raise NotAvailable(argument, f"{given!r} isn't supported", f"{least:g} to {most:g}{more}")

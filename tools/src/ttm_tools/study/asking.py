@@ -1,138 +1,100 @@
 """The parts of windows, computed by a network in memory: `ttm --ask` reads the feed of a day once."""
 
+import contextlib
 import os
-import signal
 import time
-from concurrent.futures import FIRST_COMPLETED, Future, ThreadPoolExecutor, wait
-from dataclasses import dataclass
+from concurrent.futures import Future, ThreadPoolExecutor
+from dataclasses import dataclass, replace
 from pathlib import Path
-from types import TracebackType
-from typing import Iterator, Sequence
+from typing import Callable, Sequence
 
 from ..conversation import Answer
 from ..engine import EngineFault, Run, program_at
-from ..faults import say
-from ..files import Interrupted
 from ..network import MIDNIGHT, Processes, command_of
 from .cutting import Part, Shape
-from .running import SECONDS_BETWEEN_LOOKS, Failed, ends_gently, missing_of, shown, tell_ending
-from .stages import log, settle
+from .running import Failed, Pool, failed_of, missing_of
+from .stages import settle
 from .ttm import aside_of, fault_of, with_origins
 
-OF_THE_NETWORK = ("footpaths",)  # files that `ttm` reads once; the others are of a question
+OF_THE_NETWORK = ("--feed", "--date", "--walk", "--back", "--ahead", "--footpaths")  # the others are of a question
 
 
 def kept_arguments(run: Run) -> list[str]:
     """The words of the network, which all questions of its day share."""
-    files = {name: path for name, path in run.files.items() if name in OF_THE_NETWORK}
+    files = {name: path for name, path in run.files.items() if name == "footpaths"}
     back, ahead, paths = run.back, run.ahead, run.scenarios
     kept = Run(run.feed, run.date, MIDNIGHT, 4, run.walk, scenarios=paths, back=back, ahead=ahead, files=files)
     return kept.arguments()
 
 
 def question_of(run: Run) -> list[str]:
-    """The words of a question."""
-    numbers = {"trips": run.trips, "workers": run.workers, "tries": run.tries}
-    lists = {"share": ",".join(map(str, run.shares)), "within": ",".join(map(str, run.limits))}
-    files = {name: path for name, path in run.files.items() if name not in OF_THE_NETWORK}
-    named: dict[str, object] = {"from": run.window[0], "to": run.window[1], **numbers, **lists, **files}
-    return [word for name, value in named.items() for word in (f"--{name}", str(value))]
+    arguments = replace(run, scenarios=()).arguments()
+    pairs = zip(arguments[::2], arguments[1::2])
+    return [word for pair in pairs if pair[0] not in OF_THE_NETWORK for word in pair]
 
 
 @dataclass(frozen=True)
 class PartQuestion:
-    """A part to compute, and its arguments."""
-
     part: Part
     arguments: list[str]
 
 
-class KeptNetwork:
+class Asked:
+    """A question that a thread asks: the matrix of its answer gets its name at the `end`."""
+
+    def __init__(self, part: Part, future: "Future[Answer]", stop: Callable[[], None]) -> None:
+        self.part, self.future, self.stop, self.begin = part, future, stop, time.monotonic()
+
+    def is_over(self) -> bool:
+        return self.future.done()
+
+    def end(self) -> str | None:
+        """Names the matrix where there is one; else gives the line of the answer."""
+        try:
+            answer = self.future.result()
+        except EngineFault as fault:
+            answer = Answer(fault.ended, fault.line.encode("utf-8", "replace"))
+        if answer.status != 0:
+            return fault_of(answer.body, answer.status)
+        aside = aside_of(self.part.matrix)
+        aside.write_bytes(answer.body)
+        settle(aside)
+        os.replace(aside, self.part.matrix)
+        return None
+
+
+class KeptNetwork(Pool, contextlib.AbstractContextManager["KeptNetwork"]):
     """The network of a day: its processes begin in the study's folder with the first question, and end with the
     block.
     """
 
     def __init__(self, run: Run, study: Path) -> None:
-        self.run, self.study = run, study
+        super().__init__(run, (), 1, 1)
+        self.study, self.question = study, run
         self.processes: Processes | None = None
-        self.seconds: dict[str, float] = {}  # that the part of a matrix took
-        self.is_ending = False  # whether no more parts begin, since somebody pressed Ctrl-C
 
-    def __enter__(self) -> "KeptNetwork":
-        return self
-
-    def __exit__(
-        self, kind: type[BaseException] | None, fault: BaseException | None, trace: TracebackType | None
-    ) -> None:
+    def __exit__(self, *_: object) -> None:
         if self.processes is not None:
             self.processes.close()
 
-    def ask(self, question: PartQuestion) -> Answer:
-        """The network's answer; after Ctrl-C no more questions are sent."""
-        if self.is_ending or self.processes is None:
-            raise Interrupted(signal.SIGINT)
-        begin = time.monotonic()
-        answer = self.processes.ask(question.arguments)
-        self.seconds[str(question.part.matrix)] = time.monotonic() - begin
-        return answer
-
     def run_parts(self, run: Run, parts: Sequence[Part], shape: Shape) -> list[Failed]:
-        """Asks for the parts of a window that aren't done; one that fails is reported at once, and the others go on."""
+        """Asks for the parts of a window that aren't done, as `run_parts` runs them."""
         missing = missing_of(parts)
         if missing and self.processes is None:
             command = command_of(program_at(self.run.program), kept_arguments(self.run))
             self.processes = Processes(command, shape.at_once, self.study)
-        questions = [
-            PartQuestion(part, question_of(with_origins(run, part.origins_name, shape.threads))) for part in missing
-        ]
-        with ends_gently(self.end):
-            failed = [part for part in shown(self.answered(questions, shape.at_once), len(missing)) if part is not None]
-        if self.is_ending:
-            raise Interrupted(signal.SIGINT)
-        return failed
+        self.question, self.at_once, self.threads = run, shape.at_once, shape.threads
+        self.waiting = list(reversed(missing))
+        with ThreadPoolExecutor(shape.at_once) as self.executor:
+            return failed_of(self)
 
-    def end(self) -> None:
-        """Has no more parts begin."""
-        self.is_ending = True
+    def begun(self, part: Part) -> Asked:
+        arguments = question_of(with_origins(self.question, part.origins_name, self.threads))
+        return Asked(part, self.executor.submit(self.ask, PartQuestion(part, arguments)), self.__exit__)
 
-    def answered(self, questions: Sequence[PartQuestion], at_once: int) -> Iterator[Failed | None]:
-        """What became of each part, as answers come; all processes end where this is left."""
-        for question in questions:
-            question.part.begin()
-        with ThreadPoolExecutor(at_once) as pool:
-            begun = {pool.submit(self.ask, question): question.part for question in questions}
-            waiting, is_reported = set(begun), False
-            try:
-                while waiting:
-                    over, waiting = wait(waiting, SECONDS_BETWEEN_LOOKS, FIRST_COMPLETED)
-                    if self.is_ending and not is_reported:
-                        is_reported = True
-                        tell_ending(sum(future.running() for future in waiting))
-                    yield from (self.ended(begun[future], future) for future in over if not is_left(future))
-            except BaseException:
-                pool.shutdown(wait=False, cancel_futures=True)
-                self.__exit__(None, None, None)
-                raise
+    def ask(self, question: PartQuestion) -> Answer:
+        assert self.processes is not None
+        return self.processes.ask(question.arguments)
 
-    def ended(self, part: Part, future: "Future[Answer]") -> Failed | None:
-        """Notes a part that has its answer."""
-        try:
-            answer = future.result()
-        except EngineFault as fault:
-            answer = Answer(fault.ended, fault.line.encode("utf-8", "replace"))
-        if answer.status != 0:
-            message = fault_of(answer.body, answer.status)
-            say(f"part {part.number}: {message}")
-            return Failed(part, message)
-        aside = aside_of(part.matrix)
-        aside.write_bytes(answer.body)
-        settle(aside)
-        os.replace(aside, part.matrix)
-        part.finish()
-        log(part.study, "part", part.folder.name, round(self.seconds[str(part.matrix)], 3))
-        return None
-
-
-def is_left(future: "Future[Answer]") -> bool:
-    """Whether a part was never begun."""
-    return isinstance(future.exception(), Interrupted)
+    def tell(self) -> None:
+        """Says nothing while parts go on: the network is read already."""

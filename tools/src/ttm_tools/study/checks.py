@@ -12,6 +12,7 @@ from ..prepare.check import check
 from ..prepare.losses import Hints, refuse_day
 from ..gtfs.feeds import read_feed
 from ..records import rows, shown
+from .counted import refuse_unknown
 from .stages import room
 from .settings import Study
 
@@ -39,7 +40,8 @@ def check_points(study: Study) -> None:
     origins = names_of({path: read[path].identifiers for path in (*settings.files, *settings.origins)})
     if study.opportunities.people:
         check_names(study.at(study.opportunities.people), origins, OF_ORIGINS)
-    check_map_origins(study, origins)
+    if study.results.maps or study.results.page:
+        check_shown(study, origins, "map_origins")
 
 
 def check_stops(study: Study, feed: str) -> None:
@@ -53,7 +55,8 @@ def check_stops(study: Study, feed: str) -> None:
         check_origins(named, stops)
     if study.opportunities.people:
         check_names(study.at(study.opportunities.people), origins, "origin of the study")
-    check_map_origins(study, origins)
+    if study.results.maps or study.results.page:
+        check_shown(study, origins, "map_origins")
 
 
 def check_runs(study: Study, folder: str, days: Sequence[datetime.date]) -> None:
@@ -77,10 +80,7 @@ def check_columns(study: Study, own: Sequence[str]) -> None:
     """Looks at the columns of opportunities and people that a study names."""
     settings = study.opportunities
     found = [*own, *(called(name, study.at(path)) for path in settings.files for name in columns_of(study.at(path)))]
-    for name in (*settings.columns, *([settings.column] if settings.column else [])):
-        if name not in found:
-            there = ", ".join(map(shown, found)) or "no columns of numbers"
-            raise BadInput(study.path, f"[opportunities] names a column {shown(name)}; there are {there}")
+    refuse_unknown(study, found)
     groups = columns_of(study.at(settings.people)) if settings.people else []
     for name in settings.groups:
         if name not in groups:
@@ -100,9 +100,9 @@ def check_origins(path: str, stops: Collection[str]) -> None:
             raise BadInput(path, f"{shown(name)} is not a stop of the feed", record=number)
 
 
-def check_map_origins(study: Study, origins: Collection[str]) -> None:
-    """Refuses an origin of a map that is none of the study."""
-    shows = study.results.maps or study.results.page
-    lost = next((origin for origin in study.results.map_origins if origin not in origins), None) if shows else None
-    if lost is not None:
-        raise BadInput(study.path, f"map_origins of [results]: {lost} is not an origin of the study")
+def check_shown(study: Study, origins: Collection[str], *keys: str) -> None:
+    """Refuses a place of [results] that is shown and that is no origin of the study."""
+    for key in keys:
+        lost = next((place for place in getattr(study.results, key) if place not in origins), None)
+        if lost is not None:
+            raise BadInput(study.path, f"{key} of [results]: {lost} is not an origin of the study")

@@ -49,17 +49,21 @@ def counted_columns(study: Study, tables: Sequence[str], own: Sequence[str]) -> 
     """The columns that are counted, in the order of the files; of the points' own file, which is the first, those that
     say something of a destination, or that are named.
     """
-    settings = study.opportunities
-    named = (*settings.columns, *([settings.column] if settings.column else []))
+    named = study.opportunities.named
     found = [called(name, path) for path in tables for name in columns_of(path)]
-    lost = next((name for name in named if name not in found), None)
-    if lost is not None:
-        there = ", ".join(map(shown, found)) or "no columns of numbers"
-        raise BadInput(study.path, f"[opportunities] names a column {shown(lost)}; there are {there}")
-    if settings.columns:
+    refuse_unknown(study, found)
+    if study.opportunities.columns:
         return [name for name in found if name in named]
     idle = set(columns_or_none(tables[0])) - set(own) if study.points.all and tables else set()
     return [name for name in found if name not in idle or name in named]
+
+
+def refuse_unknown(study: Study, found: Sequence[str]) -> None:
+    """Refuses a column of [opportunities] that isn't found."""
+    lost = next((name for name in study.opportunities.named if name not in found), None)
+    if lost is not None:
+        there = ", ".join(map(shown, found)) or "no columns of numbers"
+        raise BadInput(study.path, f"[opportunities] names a column {shown(lost)}; there are {there}")
 
 
 def all_points(study: Study) -> list[str]:
@@ -80,16 +84,10 @@ def sentences_on_lost(whole: Counts, chosen: Counts, what: str) -> list[str]:
 
 
 def counts_stage(
-    study: Study,
-    stops_sum: str | None,
-    tables: Sequence[str],
-    columns: Sequence[str],
-    known: Sequence[str],
-    stops: Sequence[str],
+    study: Study, stops_sum: str | None, tables: list[str], columns: list[str], known: list[str], stops: list[str]
 ) -> Stage:
     """What there is at each place at which journeys end, in one table; a table may say something of other places."""
     kind = OF_POINTS if study.points.all else "stop of the feed"
-    sources = Sources(study.at, study.opportunities.files)
     given = list(map(study.at, study.opportunities.files))
     own = {os.path.relpath(path, study.folder): sum_of(path) for path in tables if path not in given}
 
@@ -101,15 +99,12 @@ def counts_stage(
         lost = sentences_on_lost(whole, counts, f"{NOT_COUNTED} places where no journey ends")
         return [f"{COUNTED}: {', '.join(map(shown, counts.names))} at {len(stops):,} places", *lost]
 
-    facts = {"stops": stops_sum, "columns": list(columns), "ends": list(stops), "own": own, "inputs": sources.sums}
-    same = sources.refuse_changed
-    return Stage("counted", facts, [COUNTED], make, refuse_changed=same, stated=sources.stated)
+    facts = {"stops": stops_sum, "columns": columns, "ends": stops, "own": own}
+    return Sources(study.at, study.opportunities.files).stage("counted", facts, [COUNTED], make)
 
 
 def people_stage(study: Study, origins: Record, path: str) -> Stage:
-    """Who lives at each origin."""
     groups = study.opportunities.groups
-    sources = Sources(study.at, [study.opportunities.people or ""])
 
     def make() -> list[str]:
         names = origins_in(str(study.folder / ORIGINS))
@@ -120,9 +115,8 @@ def people_stage(study: Study, origins: Record, path: str) -> Stage:
         lost = sentences_on_lost(whole, counts, f"{NOT_COUNTED} points that are left out")
         return [f"{PEOPLE}: {', '.join(map(shown, counts.names))} at {len(names):,} origins", *lost]
 
-    facts = {"origins": origins.outputs, "groups": groups, "inputs": sources.sums}
-    same = sources.refuse_changed
-    return Stage("people", facts, [PEOPLE], make, refuse_changed=same, stated=sources.stated)
+    facts = {"origins": origins.outputs, "groups": groups}
+    return Sources(study.at, [study.opportunities.people]).stage("people", facts, [PEOPLE], make)
 
 
 def write_counts(path: Path, stops: Sequence[str], counts: Counts) -> None:

@@ -1,20 +1,19 @@
 """The parts of a study's origins: how many, from what a run of few origins takes, and what each of them depends on."""
 
 import contextlib
-import json
 import math
 import re
 import resource
 import socket
 from dataclasses import asdict, dataclass, replace
 from pathlib import Path
-from typing import Any, Collection, Sequence
+from typing import Collection, Sequence
 
 from ..files import is_running, output, remove, sum_of
 from ..parts import parts_of, write_stops
 from .counted import ORIGINS
 from .inputs import Inputs
-from .stages import as_text, key_of, settle, write_settled
+from .stages import as_text, facts_in, key_of, room, settle, write_settled
 from .ttm import Report, report_of, with_origins
 from .settings import PartSettings
 
@@ -70,13 +69,9 @@ class Part:
         return self.folder / "matrix.csv"
 
     @property
-    def origins_file(self) -> Path:
-        return self.folder / "origins.csv"
-
-    @property
     def origins_name(self) -> str:
-        """The same from the study's folder on, as a run there names it."""
-        return str(self.origins_file.relative_to(self.study))
+        """The file of its origins from the study's folder on, as a run there names it."""
+        return str(self.folder.relative_to(self.study) / "origins.csv")
 
     @property
     def errors_file(self) -> Path:
@@ -91,7 +86,7 @@ class Part:
         for path in self.folder.glob(f".part.*.{socket.gethostname()}.*"):
             if not is_running(int(path.name.split(".")[2])):
                 remove(path)
-        with output(str(self.origins_file)) as file:
+        with output(str(self.study / self.origins_name)) as file:
             write_stops(file, self.origins)
 
     def finish(self) -> None:
@@ -100,16 +95,9 @@ class Part:
         write_settled(self.folder / "key", as_text(facts))
         settle(self.folder)
 
-    def noted(self) -> dict[str, Any]:
-        try:
-            key: dict[str, Any] = dict(json.loads((self.folder / "key").read_text(encoding="utf-8")))
-            return key
-        except (OSError, ValueError, TypeError):
-            return {}
-
     def is_done(self) -> bool:
         """Whether the matrix is there, and is that of this part."""
-        noted = self.noted()
+        noted = facts_in(self.folder / "key")
         try:
             return noted.get("key") == self.key and noted.get("bytes") == self.matrix.stat().st_size
         except OSError:
@@ -117,7 +105,7 @@ class Part:
 
     def is_whole(self) -> bool:
         """Whether it is done, and its bytes have the sum that was noted."""
-        return self.is_done() and self.noted().get("sum") == sum_of(self.matrix)
+        return self.is_done() and facts_in(self.folder / "key").get("sum") == sum_of(self.matrix)
 
 
 def study_key(inputs: Inputs, version: Sequence[str]) -> str:
@@ -188,33 +176,25 @@ def shape_of(settings: PartSettings, costs: Costs, origins: int, workers: int, k
     return Shape(parts, at_once, threads)
 
 
-def cut_of(settings: PartSettings, inputs: Inputs, key: str, workers: int, room: Path) -> tuple[list[Part], Shape]:
-    """The parts as they were cut before, or as they are cut now; parts of another study are removed."""
-    origins, noted_in = inputs.origins(), inputs.folder / CUT
+def cut_of(settings: PartSettings, inputs: Inputs, key: str, workers: int) -> Shape:
+    """How the origins were cut before, or are cut now."""
+    origins, noted = inputs.origins(), facts_in(inputs.folder / CUT)
     facts = key_of([key, origins, asdict(settings) | {"keep": False}])
-    try:
-        noted = json.loads(noted_in.read_text(encoding="utf-8"))
-        known = noted["key"] == facts and noted["workers"] == workers
-        shape = Shape(**noted["shape"]) if noted["key"] == facts else None
-    except (OSError, ValueError, KeyError, TypeError):
-        known, shape = False, None
-    if shape is None or not known:
-        costs = costs_of(inputs, origins, room)
+    shape = shape_noted(inputs.folder) if noted.get("key") == facts else None
+    if shape is None or noted.get("workers") != workers:
+        with room(inputs.folder) as folder:
+            costs = costs_of(inputs, origins, folder)
         shape = shape_of(settings, costs, len(origins), workers, shape.parts if shape else None)
         noted = {"key": facts, "workers": workers, "shape": asdict(shape), "costs": asdict(costs)}
-        write_settled(noted_in, as_text(noted))
-    parts = parts_for(origins, shape.parts, key, study=inputs.folder)
-    (inputs.folder / PARTS).mkdir(exist_ok=True)
-    remove_others(inputs.folder, FIRST, {part.folder.name for part in parts})
-    return parts, shape
+        write_settled(inputs.folder / CUT, as_text(noted))
+    return shape
 
 
-def parts_noted(study: Path) -> int:
-    """How many parts there were."""
+def shape_noted(study: Path) -> Shape | None:
     try:
-        return int(json.loads((study / CUT).read_text(encoding="utf-8"))["shape"]["parts"])
-    except (OSError, ValueError, KeyError, TypeError):
-        return 1
+        return Shape(**facts_in(study / CUT)["shape"])
+    except (KeyError, TypeError):
+        return None
 
 
 def remove_others(study: Path, window: str, names: Collection[str] = ()) -> None:

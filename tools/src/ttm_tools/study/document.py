@@ -8,7 +8,7 @@ from pathlib import Path
 from typing import Iterable, Sequence
 from urllib.parse import quote
 
-from ..escaping import markdown, printed
+from ..escaping import markdown as plain, printed
 
 STYLE = """\
 body { font: 16px/1.5 sans-serif; margin: 0; color: #222; }
@@ -78,7 +78,7 @@ class Document:
     def table(self, caption: str, header: Sequence[str], rows: Sequence[Sequence[str]]) -> None:
         """A table; on a narrow screen it is moved to the side, and by keys as well."""
         lines = [header, ["---"] * len(header), *rows]
-        self.paragraph_of_markdown(caption)
+        self.markdown.append(plain(caption))
         self.markdown.append("\n".join("| " + " | ".join(map(cell, line)) + " |" for line in lines))
         head = "".join(f'<th scope="col">{html.escape(name)}</th>' for name in header)
         body = "".join("<tr>" + "".join(map(data, row)) + "</tr>" for row in rows)
@@ -87,9 +87,6 @@ class Document:
         self.body.append(
             f'<div class="wide" role="region" aria-label="{label}" tabindex="0"><table{kind}>{inner}</table></div>'
         )
-
-    def paragraph_of_markdown(self, text: str) -> None:
-        self.markdown.append(plain(text))
 
     def link(self, text: str, path: str) -> None:
         self.markdown.append(f"{plain(text)} [{plain(path)}]({quote(path)})")
@@ -110,11 +107,6 @@ class Document:
         look = '<meta name="viewport" content="width=device-width, initial-scale=1">'
         begin = f"{head}{look}<style>\n{STYLE}\n</style></head><body>\n<main>\n<h1>{title}</h1>"
         return "\n".join([begin, *self.body, "</main>\n</body></html>"]) + "\n"
-
-
-def plain(text: str) -> str:
-    """A text that Markdown shows as it is."""
-    return markdown(text)
 
 
 def cell(text: str) -> str:

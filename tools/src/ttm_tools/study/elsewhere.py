@@ -2,6 +2,7 @@
 parallel, and waited for.
 """
 
+import functools
 import signal
 import time
 from dataclasses import dataclass
@@ -12,9 +13,9 @@ from ..faults import one_line, say
 from ..files import Interrupted, remove
 from ..threads import processors
 from .cutting import PARTS, Part
-from .hosts import by_parallel
+from .hosts import Hosts
 from .running import Failed, ends_gently, shown
-from .slurm import end_of, job_that_goes_on, submit
+from .slurm import is_over, job_that_goes_on, submit
 from .task import write_task
 
 SECONDS_BETWEEN_LOOKS = 2.0
@@ -60,14 +61,14 @@ def run_elsewhere(run: Run, parts: Sequence[Part], key: str, version: Sequence[s
     job = job_that_goes_on(missing[0].study) if means.slurm and missing else None
     if job is not None:
         say(f"parts: job {job} of this study continues: waiting for it")
-        wait(missing, end_of(job))
+        wait(missing, functools.partial(is_over, job))
         missing = still(missing)
     for part in missing:
         remove(part.errors_file)
     if missing and means.slurm:
-        wait(missing, end_of(submit(missing, means.arguments)))
+        wait(missing, functools.partial(is_over, submit(missing, means.arguments)))
     elif missing:
-        with by_parallel(missing, means.hosts or ":", means.arguments) as work, ends_gently(work.end):
+        with Hosts(missing, means.hosts or ":", means.arguments) as work, ends_gently(work.end):
             wait(missing, work.is_over, work.may_come)
         if work.is_ending:
             raise Interrupted(signal.SIGINT)
@@ -78,7 +79,6 @@ def run_elsewhere(run: Run, parts: Sequence[Part], key: str, version: Sequence[s
 
 
 def still(parts: Sequence[Part]) -> list[Part]:
-    """The parts that aren't done."""
     return [part for part in parts if not part.is_done()]
 
 

@@ -5,7 +5,7 @@ import csv
 import os
 import signal
 import subprocess
-from typing import Any, Iterator, Sequence
+from typing import Any, Sequence
 
 from ..faults import needs_program, say
 from .cutting import PARTS, Part
@@ -22,10 +22,13 @@ def command(folder: str) -> str:
     return f"""sh -c 'cd "$(printf "{name}")" && exec sh {SCRIPT} {{}}'"""
 
 
-class Hosts:
-    """GNU parallel at work on some parts. It has a session of its own, so that Ctrl-C reaches this process alone."""
+class Hosts(contextlib.AbstractContextManager["Hosts"]):
+    """GNU parallel at work on some parts. It has a session of its own, so that Ctrl-C reaches this process alone; what
+    runs is ended with the block.
+    """
 
     def __init__(self, missing: Sequence[Part], hosts: str, options: Sequence[str]) -> None:
+        needs_program("parallel", "parallel")
         own = ["parallel", "--sshlogin", hosts, "--joblog", LOG, *options]
         study = missing[0].study
         called = [*own, command(str(study.resolve())), ":::", *[str(part.number) for part in missing]]
@@ -60,19 +63,7 @@ class Hosts:
             return {self.missing[int(row["Seq"]) - 1].number for row in ended if row["Exitval"] == "0"}
         return set()
 
-    def stop(self) -> None:
-        """Ends what runs."""
+    def __exit__(self, *_: object) -> None:
         if self.process.poll() is None:
             self.process.terminate()
             self.process.wait()
-
-
-@contextlib.contextmanager
-def by_parallel(missing: Sequence[Part], hosts: str, options: Sequence[str]) -> Iterator[Hosts]:
-    """Runs the parts on hosts by GNU parallel, and ends what runs where this is left."""
-    needs_program("parallel", "parallel")
-    work = Hosts(missing, hosts, options)
-    try:
-        yield work
-    finally:
-        work.stop()

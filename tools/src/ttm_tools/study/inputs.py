@@ -5,7 +5,6 @@ points, walks, origins, opportunities. All paths of what is made are from that f
 import shlex
 from dataclasses import asdict, dataclass, replace
 from pathlib import Path
-from typing import Any
 
 from ..engine import Run
 from ..faults import BadInput
@@ -16,8 +15,7 @@ from ..opening.paths import inside
 from ..plans import make as plans
 from ..points import study as points
 from ..prepare.clip import Clip
-from ..records import shown
-from .checks import HINTS, check_points, check_runs, check_stops
+from .checks import HINTS, check_origins, check_points, check_runs, check_stops
 from .counted import (
     OPPORTUNITIES,
     ORIGINS,
@@ -28,12 +26,11 @@ from .counted import (
     own_columns,
     people_stage,
 )
-from .gridding import grid_stage, with_grid
 from .run import dates_of, days_of, name_of, run_of, shown_names
 from .sources import Sources
 from .stages import Folder, Record, Stage, room
-from .walking import FOOTPATHS, POINTS, points_stage, walks_stage
-from .settings import FeedSettings, Study
+from .walking import FOOTPATHS, POINTS, grid_stage, points_stage, walks_stage, with_grid
+from .settings import Study
 
 FEED, PLANNED, SCENARIOS = "inputs/feed", "inputs/planned", "inputs/scenarios"
 DESTINATIONS = f"{POINTS}/destinations.csv"
@@ -53,7 +50,6 @@ class Inputs:
     folder: Path  # the study's
 
     def at(self, name: str) -> str:
-        """A file of the study's folder, as it is opened."""
         return str(self.folder / name)
 
     def origins(self) -> list[str]:
@@ -69,21 +65,26 @@ class Inputs:
         """The scenario files by the names of their scenarios."""
         return {name_of(path): path for path in self.scenarios}
 
-    @property
-    def outputs(self) -> dict[str, str]:
-        """The sums of all files that were made."""
-        return {name: was for record in self.records.values() for name, was in record.outputs.items()}
+    def outputs_of(self, stage: str) -> dict[str, str]:
+        """The sums of the files that a stage made, where there was one."""
+        return self.records[stage].outputs if stage in self.records else {}
 
     @property
     def sums(self) -> dict[str, str]:
         """The sums of all files that the run reads, by their names in the folder."""
         named = {*self.scenarios, *map(str, self.run.files.values())}
-        known = self.outputs.items()
+        known = sums_of(self.records).items()
         return {name: was for name, was in known if name in named or name.startswith(f"{self.feed}/")}
 
     @property
     def stops_sum(self) -> str:
-        return self.outputs[f"{self.feed}/stops.txt"]
+        return sums_of(self.records)[f"{self.feed}/stops.txt"]
+
+
+def sums_of(records: dict[str, Record], folder: str = "") -> dict[str, str]:
+    """The sums of all files that stages made in a folder."""
+    known = [sums for record in records.values() for sums in record.outputs.items()]
+    return {name: was for name, was in known if name.startswith(folder)}
 
 
 class Maker:
@@ -97,25 +98,16 @@ class Maker:
         self.sources: dict[str, str] = {}
 
     def at(self, name: str) -> str:
-        """A file of the study's folder, as it is opened."""
         return str(self.folder.at(name))
 
-    def reads(self, *given: str | None) -> Sources:
-        """Files and folders that the study's file names, with their sums."""
-        sources = Sources(self.study.at, [path for path in given if path])
-        self.sources |= {name: was for name, was in sources.stated.items() if name not in self.study.generated}
-        return sources
-
-    def do(self, stage: Stage) -> Record:
+    def do(self, stage: Stage) -> None:
         self.sources |= {name: was for name, was in stage.stated.items() if name not in self.study.generated}
         self.records[stage.name] = self.folder.do(stage)
-        return self.records[stage.name]
 
     @property
     def feed_sums(self) -> dict[str, str]:
         """The sums of the feed's files as it is by now."""
-        known = {name: was for record in self.records.values() for name, was in record.outputs.items()}
-        return {name: was for name, was in known.items() if name.startswith(f"{self.feed}/")}
+        return sums_of(self.records, f"{self.feed}/")
 
     @property
     def stops_sum(self) -> str | None:
@@ -135,7 +127,7 @@ class Maker:
     def grid(self) -> None:
         """The cells of a grid, which are points from here on."""
         if self.study.points.grid is not None:
-            self.do(grid_stage(self.study, self.at(self.feed), self.stops_sum, self.reads))
+            self.do(grid_stage(self.study, self.at(self.feed), self.stops_sum))
             self.study = with_grid(self.study)
             check_points(self.study)
 
@@ -199,7 +191,6 @@ def make_inputs(study: Study, folder: Folder, program: str) -> Inputs:
 def feed_stage(maker: Maker) -> Stage:
     """The feed, made ready or as it is."""
     study, settings = maker.study, maker.study.feed
-    sources = maker.reads(*settings.files, settings.area)
     paths = [study.at(path) for path in settings.files]
     area = study.at(settings.area) if settings.area else None
     dates, days, out = dates_of(study), days_of(study), maker.at(FEED)
@@ -220,13 +211,9 @@ def feed_stage(maker: Maker) -> Stage:
         check_runs(study, out, dates[1:])
         return sentences
 
-    depends = {"wish": facts_of(settings), "days": [str(day) for day in [*dates, *days]], "inputs": sources.sums}
-    return Stage("feed", depends, [FEED], make, refuse_changed=sources.refuse_changed)
-
-
-def facts_of(settings: FeedSettings) -> dict[str, Any]:
-    """The settings of the feed, whatever its files are called."""
-    return {key: value for key, value in asdict(settings).items() if key not in ("files", "area")}
+    wish = asdict(replace(settings, files=(), area=None))  # whatever its files are called
+    depends = {"wish": wish, "days": [str(day) for day in [*dates, *days]]}
+    return Sources(study.at, [*settings.files, settings.area]).stage("feed", depends, [FEED], make)
 
 
 def taken(path: str, study: Path) -> list[str]:
@@ -242,14 +229,12 @@ def taken(path: str, study: Path) -> list[str]:
 
 def plan_stage(maker: Maker) -> Stage:
     """The feed that has the trips of all scenarios of a plan, and their files."""
-    plan, feed = maker.study.at(maker.study.scenarios.plan or ""), maker.at(maker.feed)
-    sources = maker.reads(maker.study.scenarios.plan)
+    study, named, feed = maker.study, maker.study.scenarios.plan or "", maker.at(maker.feed)
 
     def make() -> list[str]:
-        return plans.make(feed, plan, maker.at(PLANNED), called=PLANNED).lines
+        return plans.make(feed, study.at(named), maker.at(PLANNED), called=PLANNED).lines
 
-    depends = {"feed": maker.feed_sums, "inputs": sources.sums}
-    return Stage("plan", depends, [PLANNED], make, refuse_changed=sources.refuse_changed)
+    return Sources(study.at, [named]).stage("plan", {"feed": maker.feed_sums}, [PLANNED], make)
 
 
 def origins_stage(maker: Maker) -> Stage:
@@ -257,24 +242,21 @@ def origins_stage(maker: Maker) -> Stage:
     study, feed = maker.study, maker.at(maker.feed)
     named = study.at(study.run.origins) if study.run.origins else None
     given = maker.at(f"{POINTS}/origins.csv") if study.points.all else named
-    sources = maker.reads(study.run.origins)
 
     def make() -> list[str]:
         known = origins_of_feed(feed)
         origins = origins_in(given) if given else known
         if not origins:
             raise BadInput(given or f"{feed}/stops.txt", "no origins")
-        among = set(known)
-        lost = next(((number, stop) for number, stop in enumerate(origins, 2) if stop not in among), None)
-        if lost is not None:
-            raise BadInput(given or feed, f"{shown(lost[1])} is not a stop of the feed", record=lost[0])
+        if given:
+            check_origins(given, set(known))
         with open(maker.at(ORIGINS), "wb") as file:
             write_stops(file, origins)
         return [f"{ORIGINS}: {len(origins):,} origins"]
 
     own = maker.records["points"].outputs if study.points.all else {}
-    depends = {"stops": maker.stops_sum, "points": own, "inputs": sources.sums}
-    return Stage("origins", depends, [ORIGINS], make, refuse_changed=sources.refuse_changed)
+    depends = {"stops": maker.stops_sum, "points": own}
+    return Sources(study.at, [study.run.origins]).stage("origins", depends, [ORIGINS], make)
 
 
 def scenarios_stage(maker: Maker) -> Stage:
@@ -286,13 +268,10 @@ def scenarios_stage(maker: Maker) -> Stage:
     if twice is not None:
         raise BadInput(study.path, f"two scenario files are called {twice}")
 
-    sources = maker.reads(*study.scenarios.files)
-
     def make() -> list[str]:
         with many_written_aside(maker.at(SCENARIOS)) as folder:
             for path in paths:
                 copy_file(path, folder / path.name)
         return [f"{SCENARIOS}: {', '.join(names)}"]
 
-    depends = {"names": names, "inputs": sources.sums}
-    return Stage("scenarios", depends, [SCENARIOS], make, refuse_changed=sources.refuse_changed)
+    return Sources(study.at, study.scenarios.files).stage("scenarios", {"names": names}, [SCENARIOS], make)

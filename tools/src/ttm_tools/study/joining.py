@@ -1,5 +1,6 @@
 """The matrix of a whole study from those of its parts, block by block: never whole in memory."""
 
+import itertools
 from bisect import bisect_right
 from typing import Mapping, Sequence
 
@@ -26,21 +27,16 @@ class Joined(Matrix):
         self.path, self.layout = first.path, first.layout
         self.called = dict(shown_as or {name: name for name in first.scenarios})
         self.scenarios, self.shares = list(self.called), first.shares
-        self.all = first.scenarios
         self.names: dict[tuple[str, Share], list[str]] = {}
         self.begins = [0]
         for part, matrix in zip(parts, self.parts):
-            self.take(part, matrix)
-
-    def take(self, part: Part, matrix: CsvMatrix) -> None:
-        """Takes the rows of a part, which has just its origins in each scenario and share."""
-        if (matrix.layout, matrix.scenarios, matrix.shares) != (self.layout, self.all, self.shares):
-            raise BadInput(matrix.path, f"has other columns, scenarios or percentiles than {self.path}")
-        for key in [(scenario, share) for scenario in self.scenarios for share in self.shares]:
-            if matrix.origins(self.called[key[0]], key[1]) != list(part.origins):
-                raise BadInput(matrix.path, "has other origins than its part")
-            self.names.setdefault(key, []).extend(part.origins)
-        self.begins.append(self.begins[-1] + len(part.origins))
+            if (matrix.layout, matrix.scenarios, matrix.shares) != (self.layout, first.scenarios, self.shares):
+                raise BadInput(matrix.path, f"has other columns, scenarios or percentiles than {self.path}")
+            for scenario, share in itertools.product(self.scenarios, self.shares):
+                if matrix.origins(self.called[scenario], share) != list(part.origins):
+                    raise BadInput(matrix.path, "has other origins than its part")
+                self.names.setdefault((scenario, share), []).extend(part.origins)
+            self.begins.append(self.begins[-1] + len(part.origins))
 
     def origins(self, scenario: str, share: Share) -> list[str]:
         return self.names.get((scenario, share), [])

@@ -14,6 +14,7 @@ CLOCK = re.compile(r"([01][0-9]|2[0-3]):[0-5][0-9]")
 WINDOW_NAME = re.compile(r"[\w-]{1,40}")
 MOST_DATES, MOST_WINDOWS = 31, 96
 SEVERAL_DATES = f"1 to {MOST_DATES} dates in brackets, ascending"
+SEVERAL_WINDOWS = f"1 to {MOST_WINDOWS} tables of name, from and to in brackets"
 
 
 @dataclass(frozen=True)
@@ -25,12 +26,23 @@ class Window:
     last: str
 
 
-def setting(kind: Kind[Any], what: str, example: str, default: Any = MISSING, instead: str | None = None) -> Any:
-    """A field of a table: its kind, its meaning, and how the template writes it; without a default it is needed, where
-    another field doesn't replace it.
-    """
-    metadata = {"kind": kind, "meaning": what, "example": example, "instead": instead}
-    return field(metadata=metadata) if default is MISSING else field(default=default, metadata=metadata)
+def setting(kind: Kind[Any], what: str, example: str, default: Any = None, instead: str | None = None) -> Any:
+    """A field of a table: its kind, its meaning, how the template writes it, and its default."""
+    return field(default=default, metadata={"kind": kind, "meaning": what, "example": example, "instead": instead})
+
+
+def several(kind: Kind[Any], what: str, example: str) -> Any:
+    """A field that has no values by default."""
+    return setting(kind, what, example, ())
+
+
+def needed(kind: Kind[Any], what: str, example: str, instead: str | None = None) -> Any:
+    """A field that has no default: it is needed, where another field doesn't replace it."""
+    return setting(kind, what, example, MISSING, instead)
+
+
+def flag(what: str, default: bool = False) -> Any:
+    return setting(kinds.FLAG, what, str(not default).lower(), default)
 
 
 def texts_or_none(value: Any) -> tuple[str, ...]:
@@ -92,22 +104,12 @@ def is_box(value: Any) -> bool:
 
 
 FILE = Kind("a path, relative to this file's folder", "is not text", kinds.NAME.convert)
-FILES = Kind(
-    "paths in brackets, relative to this file's folder",
-    "is neither text nor a list of texts",
-    texts_or_none,
-    is_shown=False,
-)
-TEXTS = Kind("texts in brackets", "is neither text nor a list of texts", texts_or_none, is_shown=False)
+NO_TEXTS = "is neither text nor a list of texts"
+FILES = Kind("paths in brackets, relative to this file's folder", NO_TEXTS, texts_or_none, is_shown=False)
+TEXTS = Kind("texts in brackets", NO_TEXTS, texts_or_none, is_shown=False)
 DATE = Kind("YYYY-MM-DD, or YYYYMMDD in quotes", "is not a date", day_in)
 DATES = Kind(SEVERAL_DATES, "is invalid", days_in)
-WINDOWS = Kind(
-    f"1 to {MOST_WINDOWS} tables of name, from and to in brackets",
-    "names too many windows",
-    windows_in,
-    is_shown=False,
-    of_tables=True,
-)
+WINDOWS = Kind(SEVERAL_WINDOWS, "names too many windows", windows_in, is_shown=False, of_tables=True)
 MINUTE = Kind("HH:MM in quotes, 00:00 to 23:59", "is not a time", minute_in)
 BOX = Kind(
     "[west, south, east, north] in degrees", "is invalid", lambda value: tuple(map(float, taken_if(is_box)(value)))

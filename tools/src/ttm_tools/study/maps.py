@@ -1,37 +1,37 @@
-"""The maps of a study: access, what each scenario changes, and travel times from named places."""
+"""The maps of a study: access, what each scenario changes, travel times from named places; and the areas that are
+reached from some, as GeoJSON.
+"""
 
 import functools
 from dataclasses import dataclass
 from pathlib import Path
-from typing import Any, Callable
+from typing import Any, Sequence
 
 from ..faults import quantity
-from ..files import many_written_aside, write_picture
+from ..files import many_written_aside, output, write_picture
 from ..naming import file_names
 from ..views.lines import planned_of
 from ..measures.opportunities import columns_of
+from ..points.shown import points_in
+from ..views import isochrones
 from ..views.isochrones import AreaGround, Walking
 from ..views.maps import Areas, Sheet, figure_of, figure_of_isochrones, picture_of
 from ..views.nearest import Nearest
 from ..views.pictures import PictureOptions
-from .areas import ground_for, streets_of
 from .counted import COUNTED
 from .results import STOPS, Records, StudyMatrix
 from .sources import Sources
 from .stages import Stage
 
-MAPS = "maps"
+MAPS, AREAS = "maps", "isochrones"
 
 
 @dataclass(frozen=True)
 class StudyMap:
-    """A map."""
-
     file: str
     kind: str  # times, access or difference
     scenario: str
     origin: str | None = None
-    name: str | None = None  # of the origin, as a file may be called
     nearest: str | None = None  # of what the nearest are looked for
 
     @property
@@ -40,75 +40,52 @@ class StudyMap:
 
 
 def maps_of(whole: StudyMatrix) -> list[StudyMap]:
-    """All maps of a study."""
-    base = whole.inputs.base
-    drawn = [StudyMap(f"{MAPS}/access.png", "access", base)]
-    drawn += [StudyMap(f"{MAPS}/access_{name}.png", "difference", scenario) for scenario, name in whole.others.items()]
-    ends = ["", *(f"_{name}" for name in whole.others.values())]
-    for origin, stop in file_names(list(whole.study.results.map_origins), ends).items():
-        drawn.append(StudyMap(f"{MAPS}/times_{stop}.png", "times", base, origin))
-        for scenario, name in whole.others.items():
-            drawn.append(StudyMap(f"{MAPS}/times_{stop}_{name}.png", "difference", scenario, origin))
-    return drawn + maps_of_nearest(whole) + maps_of_areas(whole)
-
-
-def maps_of_nearest(whole: StudyMatrix) -> list[StudyMap]:
-    """Maps of the time to the first count of the nearest, of each thing that is counted."""
-    if not whole.study.results.nearest:
-        return []
-    base, drawn = whole.inputs.base, list[StudyMap]()
-    names = columns_of(whole.at(COUNTED)) if "counted" in whole.inputs.records else [STOPS]
-    ends = ["", *(f"_{name}" for name in whole.others.values())]
-    for what, column in file_names(names, ends).items():
-        drawn.append(StudyMap(f"{MAPS}/nearest_{column}.png", "nearest", base, nearest=what))
-        for scenario, name in whole.others.items():
-            drawn.append(StudyMap(f"{MAPS}/nearest_{column}_{name}.png", "difference", scenario, nearest=what))
+    settings = whole.study.results
+    drawn = with_others(whole, "access", "access")
+    for origin, stop in names_of_maps(whole, settings.map_origins).items():
+        drawn += with_others(whole, "times", f"times_{stop}", origin=origin)
+    counted = columns_of(whole.at(COUNTED)) if "counted" in whole.inputs.records else [STOPS]
+    for what, column in names_of_maps(whole, counted if settings.nearest else []).items():
+        drawn += with_others(whole, "nearest", f"nearest_{column}", nearest=what)
+    for origin, stop in names_of_maps(whole, settings.isochrones).items():
+        drawn += with_others(whole, "isochrones", f"isochrones_{stop}", "isochrones", origin=origin)
     return drawn
 
 
-def maps_of_areas(whole: StudyMatrix) -> list[StudyMap]:
-    """Maps of the areas that are reached from each named place, in each scenario."""
-    drawn, base = list[StudyMap](), whole.inputs.base
-    ends = ["", *(f"_{name}" for name in whole.others.values())]
-    for origin, stop in file_names(list(whole.study.results.isochrones), ends).items():
-        names = {base: "", **{scenario: f"_{name}" for scenario, name in whole.others.items()}}
-        drawn += [
-            StudyMap(f"{MAPS}/isochrones_{stop}{end}.png", "isochrones", name, origin) for name, end in names.items()
-        ]
-    return drawn
+def names_of_maps(whole: StudyMatrix, named: Sequence[str]) -> dict[str, str]:
+    """What the maps of each of some places, or of things that are counted, are called."""
+    return file_names(list(named), ["", *(f"_{name}" for name in whole.others.values())])
+
+
+def with_others(whole: StudyMatrix, kind: str, file: str, other: str = "difference", **more: str) -> list[StudyMap]:
+    """A map of the base, and one of each other scenario."""
+    others = whole.others.items()
+    drawn = [StudyMap(f"{MAPS}/{file}_{name}.png", other, scenario, **more) for scenario, name in others]
+    return [StudyMap(f"{MAPS}/{file}.png", kind, whole.inputs.base, **more), *drawn]
 
 
 def maps_stages(whole: StudyMatrix, known: Records) -> list[Stage]:
-    return [maps_stage(whole)] if whole.study.results.maps else []
-
-
-def maps_stage(whole: StudyMatrix) -> Stage:
+    if not whole.study.results.maps:
+        return []
     drawn = maps_of(whole)
 
     def make() -> list[str]:
         with many_written_aside(whole.at(MAPS)) as folder:
             walked = functools.cache(lambda: ground_for(whole))
             for picture in drawn:
-                draw(whole, picture, folder, walked)
+                is_area = picture.kind == "isochrones"
+                figure = areas_drawn(whole, picture, *walked()) if is_area else classes_drawn(whole, picture)
+                write_picture(str(folder / Path(picture.file).name), figure)
         return [f"{MAPS}: {quantity(len(drawn), 'picture')}"]
 
-    study, inputs = whole.study, whole.inputs
-    options = [study.about.note, whole.unit, list(study.results.map_origins), whole.scenarios]
-    counted = inputs.records["counted"].outputs if "counted" in inputs.records and study.results.nearest else {}
-    facts: dict[str, Any] = {**whole.depends, "words": options, "run": inputs.sums, "counted": counted}
-    facts["nearest"] = list(study.results.nearest[:1])
-    settings, walks = study.results, [study.walk_limit, study.walks.speed, study.walks.detour, study.walks.near]
-    sources = streets_of(whole) if settings.isochrones else Sources(study.at, [])
-    facts["isochrones"] = (
-        [settings.isochrones, settings.isochrone_bands, walks, sources.sums] if settings.isochrones else []
-    )
-    return Stage("maps", facts, [MAPS], make, refuse_changed=sources.refuse_changed)
-
-
-def draw(whole: StudyMatrix, drawn: StudyMap, folder: Path, walked: Callable[[], tuple[AreaGround, Walking]]) -> None:
-    """Draws one map into a folder."""
-    figure = areas_drawn(whole, drawn, walked()) if drawn.kind == "isochrones" else classes_drawn(whole, drawn)
-    write_picture(str(folder / Path(drawn.file).name), figure)
+    study, inputs, settings = whole.study, whole.inputs, whole.study.results
+    options = [study.about.note, whole.unit, list(settings.map_origins), whole.scenarios, list(settings.nearest[:1])]
+    facts: dict[str, Any] = {**whole.depends, "words": options, "run": inputs.sums}
+    facts["counted"] = inputs.outputs_of("counted") if settings.nearest else {}
+    if settings.isochrones:
+        facts["isochrones"] = [settings.isochrones, settings.isochrone_bands, study.pace]
+    streets = [study.walks.streets] if settings.isochrones else []
+    return [Sources(study.at, streets).stage("maps", facts, [MAPS], make)]
 
 
 def options_of(whole: StudyMatrix, drawn: StudyMap) -> PictureOptions:
@@ -128,10 +105,10 @@ def sheet_of(whole: StudyMatrix, drawn: StudyMap) -> Sheet:
     return Sheet(None, whole.study.about.note, edits=own, planned=planned)
 
 
-def areas_drawn(whole: StudyMatrix, drawn: StudyMap, walked: tuple[AreaGround, Walking]) -> Any:
+def areas_drawn(whole: StudyMatrix, drawn: StudyMap, ground: AreaGround, walking: Walking) -> Any:
     """The areas that are reached from a place."""
     matrix, stops = whole.open()
-    areas = Areas(drawn.origin or "", options_of(whole, drawn), *walked)
+    areas = Areas(drawn.origin or "", options_of(whole, drawn), ground, walking)
     return figure_of_isochrones(matrix, stops, whole.at(whole.inputs.feed), sheet_of(whole, drawn), areas)
 
 
@@ -145,3 +122,37 @@ def classes_drawn(whole: StudyMatrix, drawn: StudyMap) -> Any:
     picture = picture_of(drawn.kind, matrix, stops, drawn.origin, options_of(whole, drawn), sought)
     base = whole.inputs.base if drawn.is_difference else None
     return figure_of(picture, matrix, stops, whole.at(whole.inputs.feed), sheet_of(whole, drawn), base)
+
+
+def ground_for(whole: StudyMatrix) -> tuple[AreaGround, Walking]:
+    """Where the places of the matrix lie, and how one walks on from them."""
+    study, (matrix, stops) = whole.study, whole.open()
+    there = stops.of(matrix.stops)
+    walking = Walking(study.walks.speed, study.walks.detour, study.walk_limit)
+    streets = study.at(study.walks.streets) if study.walks.streets else None
+    points = points_in(whole.at(whole.inputs.feed))
+    return isochrones.ground_on_foot(there, points, walking, streets, study.walks.near), walking
+
+
+def areas_stages(whole: StudyMatrix, known: Records) -> list[Stage]:
+    """A file for each origin, with all scenarios and bands."""
+    study, inputs, settings = whole.study, whole.inputs, whole.study.results
+    names = file_names(list(settings.isochrones), ("",))
+    if not names:
+        return []
+
+    def make() -> list[str]:
+        matrix, _ = whole.open()
+        ground, walking = ground_for(whole)
+        Path(whole.at(AREAS)).mkdir()
+        for origin, name in names.items():
+            shares = [matrix.share(study.share)]
+            bands = isochrones.Bands(origin, matrix.compared, shares, settings.isochrone_bands, walking)
+            found = isochrones.isochrones_of(matrix, ground, bands, whole.counts(matrix))
+            with output(whole.at(f"{AREAS}/{name}.geojson")) as file:
+                isochrones.write_geojson(file, found, origin)
+        return [f"{AREAS}: {quantity(len(names), 'file')}"]
+
+    options = [list(settings.isochrones), list(settings.isochrone_bands), study.pace]
+    facts = {**whole.depends, "words": options, "counted": inputs.outputs_of("counted")}
+    return [Sources(study.at, [study.walks.streets]).stage(AREAS, facts, [AREAS], make)]

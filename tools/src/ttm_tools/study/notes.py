@@ -13,8 +13,8 @@ from ..opening.paths import regular
 from ..opening.texts import read_json
 from .results import StudyMatrix
 from .stages import Record, as_text, logged, sum_of_tools, write_settled
-from .ttm import Version, facts_of
-from .windows import inputs_of, matrix_of
+from .ttm import facts_of
+from .windows import Machine, inputs_of, matrix_of
 
 NOTES, FORM = "study.json", 1
 PACKAGES = ("numpy", "pandas", "h5py", "matplotlib", "scipy", "osmium", "jinja2")
@@ -33,7 +33,7 @@ def versions(ttm: Sequence[str], program: str) -> dict[str, Any]:
     return known
 
 
-def write_notes(whole: StudyMatrix, records: dict[str, Record], version: Version, parts: int) -> None:
+def write_notes(whole: StudyMatrix, records: dict[str, Record], machine: Machine, parts: int) -> None:
     """Writes what was done, unless that stands there already."""
     study, inputs = whole.study, whole.inputs
     all_records = {**inputs.records, **records}
@@ -53,7 +53,7 @@ def write_notes(whole: StudyMatrix, records: dict[str, Record], version: Version
             name: {"key": record.key, "told": record.lines, "files": record.outputs}
             for name, record in all_records.items()
         },
-        "versions": versions(version.lines, version.sum),
+        "versions": versions(machine.lines, machine.sum),
     }
     try:
         there = read_notes(study.folder)

@@ -6,9 +6,9 @@ from ..files import output
 from ..measures.opportunities import columns_of
 from ..points.study import POINTS
 from ..views.page.make import PageSettings, page_of
-from .areas import streets_of
 from .counted import COUNTED, PEOPLE
 from .results import Records, StudyMatrix
+from .sources import Sources
 from .stages import Stage
 
 PAGE = "page.html"
@@ -17,11 +17,9 @@ SEED = 1  # of the draw of origins where there is no room for all
 
 
 def page_stages(whole: StudyMatrix, known: Records) -> list[Stage]:
-    return [page_stage(whole)] if whole.study.results.page else []
-
-
-def page_stage(whole: StudyMatrix) -> Stage:
     study, inputs = whole.study, whole.inputs
+    if not study.results.page:
+        return []
 
     def make() -> list[str]:
         page = page_of(whole.whole(), settings_of(whole))
@@ -31,18 +29,14 @@ def page_stage(whole: StudyMatrix) -> Stage:
         sentence = f"{len(ground.places.identifiers):,} places, travel times from {len(ground.rows):,} of them"
         return [f"{PAGE}: {sentence}", *page.frame.sentences]
 
-    counts = [inputs.records[name].outputs for name in ("counted", "people") if name in inputs.records]
     texts: list[Any] = [study.title, study.about.note, whole.unit, study.within, list(study.cutoffs)]
-    walks = [study.walk_limit, study.walks.speed, study.walks.detour, study.walks.near]
-    texts += [list(study.results.nearest), walks]
-    sources = streets_of(whole)
+    texts += [list(study.results.nearest), study.pace]
+    counts = [inputs.outputs_of("counted"), inputs.outputs_of("people")]
     facts = {"texts": texts, "counts": counts, "run": inputs.sums, "words": inputs.run.arguments()}
-    facts["streets"] = sources.sums
-    return Stage("page", {**whole.depends, **facts}, [PAGE], make, refuse_changed=sources.refuse_changed)
+    return [Sources(study.at, [study.walks.streets]).stage("page", {**whole.depends, **facts}, [PAGE], make)]
 
 
 def settings_of(whole: StudyMatrix) -> PageSettings:
-    """What the page is to show."""
     study, inputs = whole.study, whole.inputs
     counted = [whole.at(COUNTED)] if "counted" in inputs.records else []
     people = [whole.at(PEOPLE)] if "people" in inputs.records else []
@@ -55,18 +49,13 @@ def settings_of(whole: StudyMatrix) -> PageSettings:
         edits=list(map(whole.at, inputs.edits.values())),
         opportunities=counted,
         people=people,
-        scenarios=[],
         base=inputs.base,
-        share=None,
         cutoffs=cutoffs,
-        origins=None,
         seed=SEED,
         unit=whole.unit,
         title=study.title,
         note=" ".join(text for text in (study.about.question, study.about.note) if text) or None,
         arguments=" ".join(inputs.run.arguments()),
-        tiles=None,
-        attribution=None,
         within=study.within,
         nearest=list(study.results.nearest) if counted else [],
         walk=study.walk_limit,

@@ -10,20 +10,21 @@ from ..measures.access_table import read_access
 from ..points.grid import OUTSIDE
 from ..points.study import UNREACHED
 from ..records import records as records_in, shown
-from .areas import AREAS
 from .counted import NOT_COUNTED
 from .document import Document
-from .maps import StudyMap, maps_of
+from .maps import AREAS, maps_of
 from .page import PAGE
-from .results import ACCESS_TABLE, EQUITY_TABLE, Records, StudyMatrix
+from .results import ACCESS_TABLE, Records, StudyMatrix
 from .stages import Stage
-from .window_report import write_windows
+from .window_results import write_windows
 from .settings import Study
 
 MARKDOWN, HTML, TOLD = "report.md", "report.html", "inputs/told.txt"
 FEW = 10  # origins that lose, and that gain most, which the report names
 MOST_DECIMALS = 6
+MISSED = (OUTSIDE, UNREACHED, NOT_COUNTED)  # signs of people, jobs or points that the figures miss
 OF_PEOPLE = {
+    "equity": "Access by groups of people",
     "bands": "People by number of opportunities",
     "equity_nearest": "Time to the nearest, by group of people",
     "bands_nearest": "People by minutes to the nearest",
@@ -78,18 +79,14 @@ def report_of(whole: StudyMatrix, records: Records) -> Document:
         lines = Path(whole.at(path)).read_text(encoding="utf-8").splitlines()
         document.code(lines)
         warnings += [line for line in lines if line.startswith("warning") and line not in warnings]
-    warnings += [line for record in inputs.records.values() for line in record.lines if is_warning(line)]
+    lines = [line for record in inputs.records.values() for line in record.lines]
+    warnings += [line for line in lines if any(sign in line for sign in MISSED)]
     document.paragraph("Warnings: " + ("; ".join(warnings) if warnings else "none."))
     document.heading("What is proved, and what isn't")
     for text in PROVED:
         document.paragraph(text)
     document.code(list(whole.version))
     return document
-
-
-def is_warning(line: str) -> bool:
-    """Whether a line on the inputs names people, jobs or points that the figures miss."""
-    return any(sign in line for sign in (OUTSIDE, UNREACHED, NOT_COUNTED))
 
 
 def file_names_of(study: Study) -> list[str]:
@@ -115,13 +112,12 @@ def write_figures(document: Document, whole: StudyMatrix, records: Records) -> N
             write_changes(document, whole, f"compare_{name}.csv")
     if "equity" in records:
         document.heading("How access is distributed among people", 3)
-        header, *lines = all_rows(whole.at(EQUITY_TABLE))
-        document.table(f"Access by groups of people ({EQUITY_TABLE})", [as_phrase(column) for column in header], lines)
     for name, caption in OF_PEOPLE.items():
         if name in records:
-            header, *lines = all_rows(whole.at(f"{name}.csv"))
-            of = f"; {percent_of(study)}" if "percent" in header else ""
-            document.table(f"{caption} ({name}.csv){of}", [as_phrase(column) for column in header], lines)
+            header, *lines = [list(map(shown, fields)) for _, fields in records_in(whole.at(f"{name}.csv"))]
+            where = "in cells" if study.points.grid is not None and not study.points.origins else "at the origins"
+            of = f"; percentages are of the people {where}" if "percent" in header else ""
+            document.table(f"{caption} ({name}.csv){of}", list(map(as_phrase, header)), lines)
             for path in (output for output in records[name].outputs if output.endswith(".png")):
                 document.picture(path, f"{caption}: {shown(Path(path).stem)}")
     write_windows(document, whole, records)
@@ -133,19 +129,9 @@ def write_figures(document: Document, whole: StudyMatrix, records: Records) -> N
         document.heading("Maps", 3)
         document.paragraph("The pictures are also files in the folder maps.")
         for picture in maps_of(whole):
-            document.picture(picture.file, f"{picture.kind}, {shown(picture.scenario)}" + told_of(picture))
-
-
-def percent_of(study: Study) -> str:
-    """Of whom percentages are."""
-    is_grid = study.points.grid is not None and not study.points.origins
-    return f"percentages are of the people {'in cells' if is_grid else 'at the origins'}"
-
-
-def told_of(drawn: StudyMap) -> str:
-    """From where, or to what, a map shows travel times."""
-    from_there = f", from {shown(drawn.origin)}" if drawn.origin else ""
-    return from_there + (f", the nearest {shown(drawn.nearest)}" if drawn.nearest else "")
+            start = f", from {shown(picture.origin)}" if picture.origin else ""
+            end = f", the nearest {shown(picture.nearest)}" if picture.nearest else ""
+            document.picture(picture.file, f"{picture.kind}, {shown(picture.scenario)}{start}{end}")
 
 
 def means(whole: StudyMatrix) -> Iterator[list[str]]:
@@ -171,11 +157,6 @@ def texts_apart(numbers: Sequence[float]) -> list[str]:
     return texts
 
 
-def all_rows(path: str) -> list[list[str]]:
-    """The header of a table, and its rows."""
-    return [[shown(field) for field in fields] for _, fields in records_in(path)]
-
-
 def as_phrase(name: str) -> str:
     """The name of a column as words, between which a line may end."""
     return name.replace("_", " ")
@@ -189,8 +170,8 @@ def write_changes(document: Document, whole: StudyMatrix, path: str) -> None:
         wanted = (fields for _, fields in records_in(whole.at(path)) if is_change(fields[place], sign))
         found = list(itertools.islice(wanted, FEW))
         if found:
-            rows = [[shown(field) for field in fields] for fields in found]
-            document.table(f"Who {what} most ({path} has all)", [as_phrase(column) for column in header], rows)
+            rows = [list(map(shown, fields)) for fields in found]
+            document.table(f"Who {what} most ({path} has all)", list(map(as_phrase, header)), rows)
 
 
 def is_change(text: str, sign: str) -> bool:

@@ -2,8 +2,8 @@
 module, in the order in which they are made. What runs and the table of docs/reference/study-file.md come from them.
 """
 
-import importlib
 from dataclasses import dataclass
+from pkgutil import resolve_name
 from typing import TYPE_CHECKING, Callable
 
 if TYPE_CHECKING:
@@ -20,11 +20,8 @@ class StudyResult:
     function: str
 
     def stages(self) -> "Callable[[StudyMatrix, Records], list[Stage]]":
-        module, name = self.function.split(".")
-        function: "Callable[[StudyMatrix, Records], list[Stage]]" = getattr(
-            importlib.import_module(f".{module}", __package__), name
-        )
-        return function
+        found: "Callable[[StudyMatrix, Records], list[Stage]]" = resolve_name(f"{__package__}.{self.function}")
+        return found
 
 
 RESULTS = (
@@ -52,7 +49,7 @@ RESULTS = (
         " `COLUMN_maps.png`",
         "window_results.window_stages",
     ),
-    StudyResult("`isochrones/STOP.geojson`", "areas, of each scenario", "areas.areas_stages"),
+    StudyResult("`isochrones/STOP.geojson`", "areas, of each scenario", "maps.areas_stages"),
     StudyResult(
         "`maps/`",
         "`access.png`, `times_STOP.png`, `nearest_COLUMN.png`; with `_NAME`, what a scenario changes",

@@ -1,7 +1,7 @@
 """Tables of a study: access, its spread over people, winners and losers. `result_list` has all results."""
 
+import functools
 from dataclasses import dataclass, field
-from pathlib import Path
 from typing import Any, Callable, Sequence
 
 import numpy as np
@@ -9,10 +9,10 @@ import numpy as np
 from ..gtfs.fields import Floats
 from ..gtfs.stops import Stops
 from ..files import many_written_aside, output, write_picture
-from ..matrices import Matrix, Share, capped, open_matrix, pair_of
+from ..matrices import Matrix, capped, open_matrix, pair_of
 from ..measures.access import Decay, access, nearest
 from ..measures.access_table import AccessTable, AccessKind, read_access
-from ..measures.comparison import Comparison, compare
+from ..measures.comparison import compare
 from ..measures.opportunities import Counts, columns_of, read_counts
 from ..naming import file_names
 from ..points.shown import shown_of
@@ -26,7 +26,7 @@ from .joining import MATRIX
 from .stages import Record, Stage
 from .settings import Study
 
-ACCESS_TABLE, EQUITY_TABLE, EQUITY_PAGE = "access.csv", "equity.csv", "equity.md"
+ACCESS_TABLE = "access.csv"
 Records = dict[str, Record]
 PAIRS = "_pairs"  # behind a scenario's name, the file of its pairs
 STOPS, POINTS = "stops", "points"  # what is counted where nothing else is named
@@ -45,7 +45,6 @@ class StudyMatrix:
     version: Sequence[str] = ()  # lines of the program's
 
     def at(self, name: str) -> str:
-        """A file of the study's folder, as it is opened."""
         return self.inputs.at(name)
 
     @property
@@ -106,34 +105,21 @@ class Measurement:
     heads: tuple[str, str]
     limits: Sequence[float]
     options: list[Any]  # of the study's file, on which the numbers depend
-    measure: Callable[[Matrix, str, Share, Counts], Floats]
-
-    @property
-    def table(self) -> str:
-        return f"{self.kind}.csv"
+    measure: Callable[..., Floats]
 
     def of(self, matrix: Matrix, counts: Counts) -> list[Measured]:
         """The numbers of all scenarios."""
-
-        def measure(scenario: str, share: Share) -> Floats:
-            return self.measure(matrix, scenario, share, counts)
-
+        measure = functools.partial(self.measure, matrix, numbers=counts.numbers)
         return [measured(matrix, scenario, matrix.shares, measure) for scenario in matrix.scenarios]
 
 
 def measurements_of(study: Study) -> list[Measurement]:
-    """What a study measures."""
     settings, cutoffs, limits = study.results, study.cutoffs, study.results.nearest
     decay = Decay(settings.decay, settings.decay_value)
-
-    def of_access(matrix: Matrix, scenario: str, share: Share, counts: Counts) -> Floats:
-        return access(matrix, scenario, share, counts.numbers, decay, cutoffs)
-
-    def of_nearest(matrix: Matrix, scenario: str, share: Share, counts: Counts) -> Floats:
-        return nearest(matrix, scenario, share, counts.numbers, limits)
-
-    options = [settings.decay, settings.decay_value]
-    kinds = [Measurement("access", ACCESS, cutoffs, [*options, list(cutoffs)], of_access)] if settings.access else []
+    of_access = functools.partial(access, decay=decay, cutoffs=cutoffs)
+    of_nearest = functools.partial(nearest, counts=limits)
+    options = [decay.kind, decay.value, list(cutoffs)]
+    kinds = [Measurement("access", ACCESS, cutoffs, options, of_access)] if settings.access else []
     return kinds + ([Measurement("nearest", NEAREST, limits, [list(limits)], of_nearest)] if limits else [])
 
 
@@ -147,29 +133,29 @@ def nearest_stages(whole: StudyMatrix, known: Records) -> list[Stage]:
 
 def table_stage(whole: StudyMatrix, of: Measurement) -> Stage:
     """The table of what is measured: all scenarios, shares, opportunities and limits."""
-    counted = whole.inputs.records.get("counted")
+    path = f"{of.kind}.csv"
 
     def make() -> list[str]:
         matrix, _ = whole.open()
         counts = whole.counts(matrix)
         found = of.of(matrix, counts)
-        with output(whole.at(of.table)) as file:
+        with output(whole.at(path)) as file:
             write_access(file, found, counts.names, of.limits, Form(of.heads))
-        return [f"{of.table}: {', '.join(map(shown, counts.names))}"]
+        return [f"{path}: {', '.join(map(shown, counts.names))}"]
 
     options = [*of.options, whole.study.results.max_minutes]
-    facts = {"matrix": whole.sum, "words": options, "counted": counted.outputs if counted else None}
-    return Stage(of.kind, facts, [of.table], make)
+    facts = {"matrix": whole.sum, "words": options, "counted": whole.inputs.outputs_of("counted")}
+    return Stage(of.kind, facts, [path], make)
 
 
 def people_stages(whole: StudyMatrix, known: Records) -> list[Stage]:
     """How access is spread over people, and how many are within bands."""
-    return stages_of_people(whole, known.get("access"), PeopleTables("", whole.study.results.bands))
+    return stages_of_people(whole, known.get("access"), "", whole.study.results.bands)
 
 
 def nearest_people_stages(whole: StudyMatrix, known: Records) -> list[Stage]:
     """The same of the time to the nearest."""
-    return stages_of_people(whole, known.get("nearest"), PeopleTables("_nearest", whole.study.results.nearest_bands))
+    return stages_of_people(whole, known.get("nearest"), "_nearest", whole.study.results.nearest_bands)
 
 
 def compare_stages(whole: StudyMatrix, known: Records) -> list[Stage]:
@@ -177,78 +163,60 @@ def compare_stages(whole: StudyMatrix, known: Records) -> list[Stage]:
     return [compare_stage(whole, scenario, name) for scenario, name in others]
 
 
-@dataclass(frozen=True)
-class PeopleTables:
-    """What the tables for people are called behind their kind, and their bands."""
-
-    end: str
-    bands: Sequence[float]
-
-    @property
-    def bands_name(self) -> str:
-        """What the table by band is called, and the folder of its pictures."""
-        return f"bands{self.end}"
-
-
-def stages_of_people(whole: StudyMatrix, table: Record | None, names: PeopleTables) -> list[Stage]:
-    """The stages that count people by a table of access, or of the nearest."""
-    people = whole.inputs.records.get("people")
-    if table is None or people is None:
+def stages_of_people(whole: StudyMatrix, table: Record | None, end: str, limits: Sequence[float]) -> list[Stage]:
+    """The stages that count people by a table of access, or of the nearest; what they are called ends alike."""
+    if table is None or "people" not in whole.inputs.records:
         return []
-    return [equity_stage(whole, table, people, names.end), *bands_stages(whole, table, people, names)]
+    (path,) = table.outputs
+    depends = {"access": table.outputs, "people": whole.inputs.outputs_of("people")}
+    stages = [equity_stage(whole, path, end, depends)]
+    return [*stages, bands_stage(whole, path, f"bands{end}", limits, depends)] if limits else stages
 
 
-def equity_stage(whole: StudyMatrix, access: Record, people: Record, end: str) -> Stage:
+def read_people(whole: StudyMatrix, path: str) -> tuple[AccessTable, Counts]:
+    """A table by origin, and who lives there."""
+    table = read_access(whole.at(path))
+    return table, read_counts([whole.at(PEOPLE)], table.origins, f"origin of {path}")
+
+
+def equity_stage(whole: StudyMatrix, path: str, end: str, depends: dict[str, Any]) -> Stage:
     """How access, or the time to the nearest, is spread over people."""
-    (read,) = access.outputs
     csv, page = f"equity{end}.csv", f"equity{end}.md"
 
     def make() -> list[str]:
-        table = read_access(whole.at(read))
-        counts = read_counts([whole.at(PEOPLE)], table.origins, f"origin of {read}")
+        table, people = read_people(whole, path)
         options = equity.EquityOptions(whole.inputs.base, LOSE, table.kinds)
-        for path, form in ((csv, tables.CSV), (page, tables.MARKDOWN)):
-            with output(whole.at(path)) as file:
-                equity.write_equity(file, equity.measured(table, counts, options), form)
-        return [f"{csv}: {', '.join(map(shown, counts.names))}"]
+        for name, form in ((csv, tables.CSV), (page, tables.MARKDOWN)):
+            with output(whole.at(name)) as file:
+                equity.write_equity(file, equity.measured(table, people, options), form)
+        return [f"{csv}: {', '.join(map(shown, people.names))}"]
 
-    depends = {"access": access.outputs, "base": whole.inputs.base, "people": people.outputs}
-    return Stage(f"equity{end}", depends, [csv, page], make)
+    return Stage(f"equity{end}", {**depends, "base": whole.inputs.base}, [csv, page], make)
 
 
-def bands_stages(whole: StudyMatrix, access: Record, people: Record, names: PeopleTables) -> list[Stage]:
+def bands_stage(whole: StudyMatrix, path: str, name: str, limits: Sequence[float], depends: dict[str, Any]) -> Stage:
     """How many people are within bands of access, or of the time to the nearest; of each thing a picture, too."""
-    if not names.bands:
-        return []
-    (read,), csv = access.outputs, f"{names.bands_name}.csv"
-    pictures = [names.bands_name] if whole.study.results.maps else []
+    csv, pictures = f"{name}.csv", [name] if whole.study.results.maps else []
 
     def make() -> list[str]:
-        table = read_access(whole.at(read))
-        counts = read_counts([whole.at(PEOPLE)], table.origins, f"origin of {read}")
+        table, people = read_people(whole, path)
         with output(whole.at(csv)) as file:
-            bands.write_bands(file, table, bands.bands_of(table, table.kinds, counts, names.bands), tables.CSV)
+            bands.write_bands(file, table, bands.bands_of(table, table.kinds, people, limits), tables.CSV)
         for folder in pictures:
-            draw_bands(whole, folder, table, counts, names.bands)
-        return [f"{csv}: {', '.join(map(shown, counts.names))}"]
+            draw_bands(whole, folder, table, people, limits)
+        return [f"{csv}: {', '.join(map(shown, people.names))}"]
 
-    options = [whole.study.share, whole.study.within]
-    depends = {"access": access.outputs, "people": people.outputs, "bands": list(names.bands), "words": options}
-    return [Stage(names.bands_name, depends, [csv, *pictures], make)]
+    facts = {**depends, "bands": list(limits), "words": [whole.study.share, whole.study.within]}
+    return Stage(name, facts, [csv, *pictures], make)
 
 
 def draw_bands(whole: StudyMatrix, folder: str, table: AccessTable, people: Counts, limits: Sequence[float]) -> None:
     """Draws the bars of each thing that is counted."""
-    with many_written_aside(whole.at(folder)) as aside:
-        for name, path in bands_pictures(folder, table).items():
-            figure = bands.figure_of(table, [whole.kind_drawn(table.kinds, name, table.of_times)], people, limits)
-            write_picture(str(aside / Path(path).name), figure)
-
-
-def bands_pictures(folder: str, table: AccessTable) -> dict[str, str]:
-    """The pictures of each thing that is counted."""
     names = list(dict.fromkeys(kind.opportunity for kind in table.kinds))
-    return {name: f"{folder}/{file}.png" for name, file in file_names(names).items()}
+    with many_written_aside(whole.at(folder)) as aside:
+        for name, file in file_names(names).items():
+            figure = bands.figure_of(table, [whole.kind_drawn(table.kinds, name, table.of_times)], people, limits)
+            write_picture(str(aside / f"{file}.png"), figure)
 
 
 def compare_stage(whole: StudyMatrix, scenario: str, name: str) -> Stage:
@@ -260,7 +228,7 @@ def compare_stage(whole: StudyMatrix, scenario: str, name: str) -> Stage:
         matrix, stops = whole.open()
         pair = pair_of(matrix, whole.inputs.base, scenario, study.share)
         place = matrix.limit(study.within)[0]
-        comparison: Comparison = compare(pair, settings.differs, with_pairs=settings.pairs)
+        comparison = compare(pair, settings.differs, with_pairs=settings.pairs)
         with output(whole.at(by_origin)) as file:
             write_origins(file, pair, place, comparison, stops)
         if settings.pairs:

@@ -3,7 +3,7 @@
 import datetime
 import itertools
 from pathlib import Path
-from typing import Sequence
+from typing import Any, Sequence
 
 from ..dates import day_of
 from ..engine import Run
@@ -28,21 +28,9 @@ def shown_names(scenarios: Sequence[str], runs_all: bool) -> dict[str, str]:
 
 def run_of(study: Study, feed: str, files: dict[str, str], scenarios: Sequence[str]) -> Run:
     """The arguments of a run of `ttm`."""
-    settings = study.run
-    return Run(
-        feed,
-        settings.date,
-        (settings.first, settings.last),
-        trips=settings.trips,
-        walk=settings.walk,
-        shares=settings.shares,
-        limits=settings.limits,
-        scenarios=scenarios,
-        tries=settings.tries,
-        back=settings.back,
-        ahead=settings.ahead,
-        files=files,
-    )
+    settings, alike = study.run, ("trips", "walk", "shares", "limits", "tries", "back", "ahead")
+    own: dict[str, Any] = {name: getattr(settings, name) for name in alike}
+    return Run(feed, settings.date, (settings.first, settings.last), scenarios=scenarios, files=files, **own)
 
 
 def dates_of(study: Study) -> list[datetime.date]:

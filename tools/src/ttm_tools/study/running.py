@@ -8,7 +8,7 @@ import threading
 import time
 from dataclasses import dataclass
 from types import FrameType
-from typing import Callable, Generator, Iterator, Sequence
+from typing import TYPE_CHECKING, Callable, Generator, Iterator, Sequence
 
 from .. import progress
 from ..engine import Run
@@ -17,6 +17,9 @@ from ..files import Interrupted
 from .cutting import Part
 from .stages import log
 from .ttm import Running, with_origins
+
+if TYPE_CHECKING:
+    from .asking import Asked
 
 SECONDS_BETWEEN_LOOKS = 0.02
 SECONDS_BETWEEN_LINES = 60.0
@@ -34,10 +37,14 @@ def run_parts(run: Run, parts: Sequence[Part], at_once: int, threads: int) -> li
     """Computes the parts that aren't done; one that fails is reported at once, and the others go on. After the first
     Ctrl-C no more parts begin, and those that run are kept.
     """
-    missing = missing_of(parts)
-    failed, pool = list[Failed](), Pool(run, missing, at_once, threads)
+    return failed_of(Pool(run, missing_of(parts), at_once, threads))
+
+
+def failed_of(pool: "Pool") -> list[Failed]:
+    """What fails of the parts that wait in a pool, once none of them waits any more."""
+    failed, total = list[Failed](), len(pool.waiting)
     with ends_gently(pool.end), contextlib.closing(ends_of(pool)) as ended:
-        for outcome in shown(ended, len(missing)):
+        for outcome in shown(ended, total):
             if outcome is not None:
                 failed.append(outcome)
                 say(f"part {outcome.part.number}: {outcome.message}")
@@ -68,7 +75,7 @@ class Pool:
         self.run, self.at_once, self.threads = run, at_once, threads
         self.waiting = list(reversed(missing))
         self.said = time.monotonic()
-        self.running: dict[int, tuple[Part, Running]] = {}
+        self.running: dict[int, tuple[Part, Running | Asked]] = {}
         self.is_ending = False  # whether no more parts begin, since somebody pressed Ctrl-C
         self.has_said_so = False
 
@@ -80,12 +87,16 @@ class Pool:
         """Begins as many runs as there is room for."""
         while self.waiting and len(self.running) < self.at_once and not self.is_ending:
             part = self.waiting.pop()
-            self.running[part.number] = (part, begun(self.run, part, self.threads))
+            part.begin()
+            self.running[part.number] = (part, self.begun(part))
         if self.is_ending and self.running and not self.has_said_so:
             self.has_said_so = True
             tell_ending(len(self.running))
 
-    def over(self) -> list[tuple[Part, Running]]:
+    def begun(self, part: Part) -> "Running | Asked":
+        return Running(with_origins(self.run, part.origins_name, self.threads), part.matrix, part.study)
+
+    def over(self) -> "list[tuple[Part, Running | Asked]]":
         """The runs that are over, after a while."""
         numbers = [number for number, (_, process) in self.running.items() if process.is_over()]
         if numbers:
@@ -139,12 +150,7 @@ def ends_of(pool: Pool) -> Generator[Failed | None, None, None]:
         pool.stop()
 
 
-def begun(run: Run, part: Part, threads: int) -> Running:
-    part.begin()
-    return Running(with_origins(run, part.origins_name, threads), part.matrix, part.study)
-
-
-def ended(part: Part, running: Running) -> Failed | None:
+def ended(part: Part, running: "Running | Asked") -> Failed | None:
     """Notes a part whose run is over."""
     message = running.end()
     if message is not None:

@@ -2,12 +2,12 @@
 they are left out.
 """
 
-from dataclasses import dataclass, field
+from dataclasses import dataclass, field, is_dataclass
 from pathlib import Path
-from typing import Any
+from typing import Any, get_type_hints
 
-from ..opening.kinds import FLAG, TEXT, ascending, number, whole
-from .kinds import BOX, DATE, DATES, FILE, FILES, MINUTE, TEXTS, WINDOWS, Window, setting
+from ..opening.kinds import TEXT, ascending, number, whole
+from .kinds import BOX, DATE, DATES, FILE, FILES, MINUTE, TEXTS, WINDOWS, Window, flag, needed, setting, several
 from .result_settings import ResultSettings
 
 
@@ -24,41 +24,36 @@ class About:
 class FeedSettings:
     """The timetable."""
 
-    files: tuple[str, ...] = setting(FILES, "published feeds, zip files or folders; several are merged", '["feed.zip"]')
-    ready: bool = setting(
-        FLAG, "the feed is one folder that ttm reads; only trips on the date are checked", "true", False
-    )
-    repair: bool = setting(FLAG, "repair errors by the rules of ttm-tools prepare; false refuses them", "false", True)
-    allow_loss: bool = setting(
-        FLAG, "continue if a repair removes much of a file, or if no trip runs on the date", "true", False
-    )
-    same_clock: bool = setting(FLAG, "merge feeds of several time zones", "true", False)
+    files: tuple[str, ...] = needed(FILES, "published feeds, zip files or folders; several are merged", '["feed.zip"]')
+    ready: bool = flag("the feed is one folder that ttm reads; only trips on the date are checked")
+    repair: bool = flag("repair errors by the rules of ttm-tools prepare; false refuses them", True)
+    allow_loss: bool = flag("continue if a repair removes much of a file, or if no trip runs on the date")
+    same_clock: bool = flag("merge feeds of several time zones")
     box: tuple[float, float, float, float] | None = setting(
-        BOX, "stops inside are kept; without it, all", "[7.5, 47.4, 7.8, 47.7]", None
+        BOX, "stops inside are kept; without it, all", "[7.5, 47.4, 7.8, 47.7]"
     )
-    area: str | None = setting(FILE, "GeoJSON polygons: stops inside are kept", '"region.geojson"', None)
-    routes: tuple[str, ...] = setting(TEXTS, "identifiers of the routes to keep; without it, all", '["L1"]', ())
-    agencies: tuple[str, ...] = setting(
-        TEXTS, "identifiers of the agencies whose routes to keep; without it, all", '["city"]', ()
+    area: str | None = setting(FILE, "GeoJSON polygons: stops inside are kept", '"region.geojson"')
+    routes: tuple[str, ...] = several(TEXTS, "identifiers of the routes to keep; without it, all", '["L1"]')
+    agencies: tuple[str, ...] = several(
+        TEXTS, "identifiers of the agencies whose routes to keep; without it, all", '["city"]'
     )
-    only_days: bool = setting(FLAG, "keep only trips of services that run on the days of the study", "true", False)
+    only_days: bool = flag("keep only trips of services that run on the days of the study")
 
 
 @dataclass(frozen=True)
 class RunSettings:
     """The arguments of ttm: docs/reference/options.md."""
 
-    date: str = setting(DATE, "the day of the departures", "2026-05-04", instead="dates")
-    first: str = setting(MINUTE, "the first departure of the window", '"07:30"', instead="windows")
-    last: str = setting(MINUTE, "the last departure: there is one each minute", '"08:29"', instead="windows")
-    dates: tuple[str, ...] = setting(
-        DATES, "several days, instead of date: a matrix for each", "[2026-05-04, 2026-05-09]", ()
+    date: str = needed(DATE, "the day of the departures", "2026-05-04", instead="dates")
+    first: str = needed(MINUTE, "the first departure of the window", '"07:30"', instead="windows")
+    last: str = needed(MINUTE, "the last departure: there is one each minute", '"08:29"', instead="windows")
+    dates: tuple[str, ...] = several(
+        DATES, "several days, instead of date: a matrix for each", "[2026-05-04, 2026-05-09]"
     )
-    windows: tuple[Window, ...] = setting(
+    windows: tuple[Window, ...] = several(
         WINDOWS,
         "several windows, instead of from and to: a matrix for each",
         '[{ name = "peak", from = "07:00", to = "08:59" }]',
-        (),
     )
     trips: int = setting(whole(1, 8), "the maximum number of vehicles of a journey", "4", 4)
     walk: int = setting(whole(0, 7200, "seconds"), "the longest walk; 0 for none", "600", 600)
@@ -69,13 +64,10 @@ class RunSettings:
         ascending(0, 4294967295, "seconds"), "limits within which access counts", "[1800]", (1800,)
     )
     cutoffs: tuple[float, ...] | None = setting(
-        ascending(0, 10000, "minutes", False), "the same in minutes, instead of limits", "[30]", None
+        ascending(0, 10000, "minutes", False), "the same in minutes, instead of limits", "[30]"
     )
     origins: str | None = setting(
-        FILE,
-        "a file with the column stop_id: where journeys begin; without it, all stops, or points",
-        '"few.csv"',
-        None,
+        FILE, "a file with the column stop_id: where journeys begin; without it, all stops, or points", '"few.csv"'
     )
     back: int = setting(whole(0, 6, "days"), "service days before the date that count", "1", 1)
     ahead: int = setting(whole(0, 6, "days"), "service days after the date that count", "1", 1)
@@ -86,16 +78,16 @@ class RunSettings:
 class WalkSettings:
     """Walks between stops, and to points."""
 
-    none: bool = setting(FLAG, "only the walks of the feed's transfers", "true", False)
-    limit: int | None = setting(whole(1, 7200, "seconds"), "the longest walk; without it, walk of [run]", "600", None)
+    none: bool = flag("only the walks of the feed's transfers")
+    limit: int | None = setting(whole(1, 7200, "seconds"), "the longest walk; without it, walk of [run]", "600")
     speed: float = setting(number(0.01, 100, "m/s"), "the walking speed", "1.33", 1.33)
     detour: float = setting(number(1, 100), "length of a walk, as a multiple of the straight line", "1.3", 1.3)
     streets: str | None = setting(
-        FILE, "a file of OpenStreetMap: walks along its ways; without it, straight lines", '"town.osm.pbf"', None
+        FILE, "a file of OpenStreetMap: walks along its ways; without it, straight lines", '"town.osm.pbf"'
     )
     near: float = setting(number(0, 10000, "metres"), "the greatest distance of a stop from a way", "100", 100.0)
     table: str | None = setting(
-        FILE, "walks of your own: from_stop_id, to_stop_id, seconds; decimals are rounded up", '"walks.csv"', None
+        FILE, "walks of your own: from_stop_id, to_stop_id, seconds; decimals are rounded up", '"walks.csv"'
     )
 
 
@@ -103,24 +95,20 @@ class WalkSettings:
 class PointSettings:
     """Points such as cells, homes or schools, instead of stops: docs/howto/points.md."""
 
-    files: tuple[str, ...] = setting(FILES, "points at which journeys begin and end", '["cells.csv"]', ())
-    origins: tuple[str, ...] = setting(FILES, "points at which journeys only begin", '["homes.csv"]', ())
-    destinations: tuple[str, ...] = setting(FILES, "points at which journeys only end", '["schools.csv"]', ())
-    leave_out: bool = setting(FLAG, "leave out points without a stop in reach", "true", False)
+    files: tuple[str, ...] = several(FILES, "points at which journeys begin and end", '["cells.csv"]')
+    origins: tuple[str, ...] = several(FILES, "points at which journeys only begin", '["homes.csv"]')
+    destinations: tuple[str, ...] = several(FILES, "points at which journeys only end", '["schools.csv"]')
+    leave_out: bool = flag("leave out points without a stop in reach")
     grid: float | None = setting(
         number(10, 100000, "metres"),
         "the width of square cells, which are the points where no file names any; without it, none",
         "250",
-        None,
     )
     grid_area: str | None = setting(
-        FILE,
-        "polygons that the cells cover; without it, wherever a stop is within a walk",
-        '"region.geojson"',
-        None,
+        FILE, "polygons that the cells cover; without it, wherever a stop is within a walk", '"region.geojson"'
     )
-    grid_people: tuple[str, ...] = setting(
-        FILES, "points or polygons whose numbers to sum into the cells", '["addresses.csv"]', ()
+    grid_people: tuple[str, ...] = several(
+        FILES, "points or polygons whose numbers to sum into the cells", '["addresses.csv"]'
     )
 
     @property
@@ -138,45 +126,43 @@ class PointSettings:
 class OpportunitySettings:
     """What travellers reach."""
 
-    files: tuple[str, ...] = setting(
-        FILES,
-        "tables with stop_id (or id) and columns of numbers; points have theirs in their files",
-        '["jobs.csv"]',
-        (),
+    files: tuple[str, ...] = several(
+        FILES, "tables with stop_id (or id) and columns of numbers; points have theirs in their files", '["jobs.csv"]'
     )
-    columns: tuple[str, ...] = setting(
-        TEXTS, "the columns to count in tables and page; without it, all", '["jobs", "schools"]', ()
+    columns: tuple[str, ...] = several(
+        TEXTS, "the columns to count in tables and page; without it, all", '["jobs", "schools"]'
     )
     column: str | None = setting(
-        TEXT, "the column that ttm counts as access; without it, the only one, else 1 for each stop", '"jobs"', None
+        TEXT, "the column that ttm counts as access; without it, the only one, else 1 for each stop", '"jobs"'
     )
     people: str | None = setting(
-        FILE, "a table with stop_id (or id) and numbers of residents by origin, for equity", '"people.csv"', None
+        FILE, "a table with stop_id (or id) and numbers of residents by origin, for equity", '"people.csv"'
     )
-    groups: tuple[str, ...] = setting(TEXTS, "the columns of people that count; without it, all", '["residents"]', ())
+    groups: tuple[str, ...] = several(TEXTS, "the columns of people that count; without it, all", '["residents"]')
+
+    @property
+    def named(self) -> tuple[str, ...]:
+        return (*self.columns, *([self.column] if self.column else []))
 
 
 @dataclass(frozen=True)
 class ScenarioSettings:
     """What is compared with the feed as it is: scenario files of ttm, or a plan of ttm-tools scenarios."""
 
-    files: tuple[str, ...] = setting(FILES, "scenario files, named as their scenarios", '["no13.csv"]', ())
-    plan: str | None = setting(FILE, "a plan of new lines, headways and speeds", '"plan.toml"', None)
+    files: tuple[str, ...] = several(FILES, "scenario files, named as their scenarios", '["no13.csv"]')
+    plan: str | None = setting(FILE, "a plan of new lines, headways and speeds", '"plan.toml"')
 
 
 @dataclass(frozen=True)
 class PartSettings:
     """How the run is cut into parts. The results are the same."""
 
-    count: int | None = setting(whole(1, 9999), "the number of parts; without it, by minutes and memory", "40", None)
+    count: int | None = setting(whole(1, 9999), "the number of parts; without it, by minutes and memory", "40")
     minutes: float = setting(number(0.1, 10000, "minutes"), "the approximate processor time of a part", "5", 5.0)
     memory: int | None = setting(
-        whole(64, 10_000_000, "MB"),
-        "memory of all parts that run at once; without it, most of what is free",
-        "6000",
-        None,
+        whole(64, 10_000_000, "MB"), "memory of all parts that run at once; without it, most of what is free", "6000"
     )
-    keep: bool = setting(FLAG, "keep the parts' matrices after joining", "true", False)
+    keep: bool = flag("keep the parts' matrices after joining")
 
 
 @dataclass(frozen=True)
@@ -195,6 +181,11 @@ class DayWindow:
     def day(self) -> str:
         """The day as people write it."""
         return f"{self.date[:4]}-{self.date[4:6]}-{self.date[6:]}"
+
+    @property
+    def head(self) -> tuple[str, str, str, str]:
+        """What stands in front of each line of a table, in the order of `column_list.WINDOWS`."""
+        return self.day, self.window.name, self.window.first, self.window.last
 
     @property
     def label(self) -> str:
@@ -225,11 +216,6 @@ class Study:
         return str((self.folder if path in self.generated else self.path.parent) / path)
 
     @property
-    def counts_people(self) -> bool:
-        """Whether it says who lives where: in a file, or in the cells of its grid."""
-        return bool(self.opportunities.people or self.points.grid and self.opportunities.groups)
-
-    @property
     def title(self) -> str:
         return self.about.title or self.path.stem
 
@@ -258,20 +244,18 @@ class Study:
         return self.results.cutoffs or tuple(limit / 60 for limit in self.run.limits)
 
     @property
+    def pace(self) -> list[float]:
+        """How one walks, as numbers on which walks depend."""
+        return [self.walk_limit, self.walks.speed, self.walks.detour, self.walks.near]
+
+    @property
     def walk_limit(self) -> int:
         """The longest walk that is made, in seconds."""
         return self.walks.limit or max(1, self.run.walk)
 
 
 TABLES: dict[str, type[Any]] = {
-    "feed": FeedSettings,
-    "run": RunSettings,
-    "walks": WalkSettings,
-    "points": PointSettings,
-    "opportunities": OpportunitySettings,
-    "scenarios": ScenarioSettings,
-    "results": ResultSettings,
-    "parts": PartSettings,
+    name: kind for name, kind in get_type_hints(Study).items() if is_dataclass(kind) and kind is not About
 }
 NAMES = {"first": "from", "last": "to"}  # fields whose names are words of Python, as the file has them
 NEEDED = ("feed", "run")

@@ -3,7 +3,7 @@
 import subprocess
 from itertools import groupby
 from pathlib import Path
-from typing import Callable, Sequence
+from typing import Sequence
 
 from ..faults import BadInput, needs_program, one_line, say
 from .cutting import PARTS, Part
@@ -26,7 +26,7 @@ def job_that_goes_on(study: Path) -> str | None:
     """The array of this study that a command before submitted, and that still has tasks."""
     needs_program("squeue", "slurm-client")
     job = (study / JOB).read_text(encoding="utf-8").strip() if (study / JOB).is_file() else ""
-    return job if job and is_queued(job) else None
+    return job if job and not is_over(job) else None
 
 
 def submit(missing: Sequence[Part], options: Sequence[str]) -> str:
@@ -44,14 +44,9 @@ def submit(missing: Sequence[Part], options: Sequence[str]) -> str:
     return job
 
 
-def end_of(job: str) -> Callable[[], bool]:
-    """Reports whether a job is over."""
-    return lambda: not is_queued(job)
-
-
-def is_queued(job: str) -> bool:
-    """Whether a job has tasks that wait or run; one that Slurm no longer knows has none."""
+def is_over(job: str) -> bool:
+    """Whether a job has no tasks that wait or run; one that Slurm no longer knows has none."""
     ran = subprocess.run(["squeue", "--noheader", f"--jobs={job}"], capture_output=True, text=True)
     if ran.returncode != 0 and "Invalid job id" not in ran.stderr:
-        return True  # the controller doesn't answer at the moment
-    return bool(ran.stdout.strip())
+        return False  # the controller doesn't answer at the moment
+    return not ran.stdout.strip()

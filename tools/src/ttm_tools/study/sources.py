@@ -2,12 +2,12 @@
 
 from dataclasses import dataclass
 from pathlib import Path
-from typing import Callable, Iterable, Mapping
+from typing import Any, Callable, Iterable, Mapping, Sequence
 
 from ..faults import BadInput
 from ..files import sum_of
 from ..opening.paths import regular
-from .stages import files_in
+from .stages import Stage, files_in
 
 Signature = tuple[int, int, int]  # inode, bytes, and when it was written
 CHANGED = "changed while the study read it; the same command reads it again"
@@ -41,8 +41,8 @@ def source_of(path: Path, stated: str, name: str) -> Source:
 class Sources:
     """Files and folders that a stage reads, by the paths that the study's file gives."""
 
-    def __init__(self, at: Callable[[str], str], given: Iterable[str]) -> None:
-        self.at, self.given = at, list(dict.fromkeys(given))
+    def __init__(self, at: Callable[[str], str], given: Iterable[str | None]) -> None:
+        self.at, self.given = at, list(dict.fromkeys(path for path in given if path))
         self.files = [source_of(*source) for source in self.listed()]
 
     def listed(self) -> list[tuple[Path, str, str]]:
@@ -55,15 +55,11 @@ class Sources:
                 listed.append((file, str(Path(given) / more), str(Path(path.name) / more)))
         return listed
 
-    @property
-    def sums(self) -> list[list[str]]:
-        """The sums by the names of the files, wherever these lie: what outputs depend on."""
-        return [[file.name, file.sum] for file in self.files]
-
-    @property
-    def stated(self) -> dict[str, str]:
-        """The sums by the paths that the study's file gives."""
-        return {file.stated: file.sum for file in self.files}
+    def stage(self, name: str, depends: dict[str, Any], outputs: Sequence[str], make: Callable[[], list[str]]) -> Stage:
+        """A stage that reads these files. Its outputs depend on their sums and names, wherever they lie."""
+        facts = {**depends, "inputs": [[file.name, file.sum] for file in self.files]}
+        stated = {file.stated: file.sum for file in self.files}
+        return Stage(name, facts, outputs, make, refuse_changed=self.refuse_changed, stated=stated)
 
     def refuse_changed(self) -> None:
         """Refuses files that aren't as they were when their sums were taken."""

@@ -27,8 +27,6 @@ PACKAGE = Path(__file__).resolve().parents[1]
 
 @dataclass(frozen=True)
 class Stage:
-    """A step of a study."""
-
     name: str
     depends: dict[str, Any]  # all that its outputs depend on: arguments, and sums of files
     outputs: Sequence[str]  # files, by names with a suffix, and folders, from the study's folder on
@@ -36,7 +34,7 @@ class Stage:
     of_tools: bool = True  # whether other tools may make other outputs: done anew, then
     keeps_task: bool = False  # whether other machines still compute what is needed
     refuse_changed: Callable[[], None] = lambda: None  # says what isn't as it was when its sum was taken
-    stated: dict[str, str] = field(default_factory=dict)  # sums of files from outside that it reads
+    stated: dict[str, str] = field(default_factory=dict)  # sums of files from outside, by the study's file's paths
 
     @property
     def key(self) -> str:
@@ -54,13 +52,8 @@ class Record:
     lines: list[str]  # what was reported
     seconds: float
 
-    @property
-    def facts(self) -> dict[str, Any]:
-        return {"key": self.key, "outputs": self.outputs, "lines": self.lines, "seconds": self.seconds}
-
 
 def key_of(facts: Any) -> str:
-    """The sum of some facts."""
     return hashlib.sha256(json.dumps(facts, sort_keys=True, ensure_ascii=True).encode()).hexdigest()
 
 
@@ -97,6 +90,14 @@ def as_text(facts: Any) -> str:
     return json.dumps(facts, indent=2, ensure_ascii=False) + "\n"
 
 
+def facts_in(path: Path) -> dict[str, Any]:
+    """What was written in a study's folder by `as_text`; nothing where it isn't there, or isn't whole."""
+    try:
+        return dict(json.loads(path.read_text(encoding="utf-8")))
+    except (OSError, ValueError, TypeError):
+        return {}
+
+
 class Folder:
     """The folder of a study: what is in it, and which of its stages are done."""
 
@@ -127,16 +128,12 @@ class Folder:
     def record(self, name: str) -> Record | None:
         """What is known of a stage; nothing where it wasn't done to its end."""
         try:
-            read = json.loads((self.path / RECORDS / f"{name}.json").read_text(encoding="utf-8"))
-            return Record(**read)
-        except (OSError, ValueError, TypeError):
+            return Record(**facts_in(self.path / RECORDS / f"{name}.json"))
+        except TypeError:
             return None
 
-    def is_done(self, stage: Stage, key: str) -> bool:
-        """Whether a stage was done from just this, and nothing was changed since."""
-        record = self.record(stage.name)
-        if record is None or record.key != key:
-            return False
+    def is_done(self, stage: Stage, record: Record) -> bool:
+        """Whether nothing was changed since a stage was done."""
         there = {str(file.relative_to(self.path)) for name in stage.outputs for file in files_in(self.at(name))}
         return there == set(record.outputs) and all(
             self.at(name).is_file() and sum_of(self.at(name)) == was for name, was in record.outputs.items()
@@ -187,7 +184,7 @@ class Folder:
         """Does a stage, unless it was done."""
         key = stage.key
         found = self.record(stage.name)
-        if found is not None and self.is_done(stage, key):
+        if found is not None and found.key == key and self.is_done(stage, found):
             return found
         say(f"{stage.name} ..")
         self.refuse_foreign(stage)
@@ -199,7 +196,7 @@ class Folder:
             settle(file)
         sums = {str(file.relative_to(self.path)): sum_of(file) for file in files}
         record = Record(key, sums, lines, round(time.monotonic() - begin, 3))
-        write_settled(self.path / RECORDS / f"{stage.name}.json", as_text(record.facts))
+        write_settled(self.path / RECORDS / f"{stage.name}.json", as_text(vars(record)))
         self.at(f"{RECORDS}/{stage.name}.begun").unlink()
         log(self.path, "stage", stage.name, record.seconds)
         for line in lines:

@@ -25,31 +25,25 @@ def read_study(path: str) -> Study:
             raise top.fault(f"no table [{name}], which is needed")
     about = Entry(path, {key: value for key, value in top.values.items() if key not in TABLES}, top.lines)
     read: dict[str, Any] = {name: settings_of(TABLES[name], entry) for name, entry in entries.items()}
-    study = with_first(in_seconds(Study(Path(os.path.abspath(path)), settings_of(About, about), **read, text=text)))
+    study = completed(Study(Path(os.path.abspath(path)), settings_of(About, about), **read, text=text))
     for name, entry in entries.items():
         tell_lost_files(study, TABLES[name], entry)
     agree(study, {name: entries.get(name, Entry(path, {}, LineNumbers(1))) for name in TABLES})
     return study
 
 
-def in_seconds(study: Study) -> Study:
-    """The same with limits in seconds, as `ttm` has them, where they were named in minutes."""
+def completed(study: Study) -> Study:
+    """The same with limits in seconds, as `ttm` has them, and the first date and window of several as its own."""
     run, results = study.run, study.results
     if run.cutoffs is not None:
         run = replace(run, limits=tuple(round(60 * cutoff) for cutoff in run.cutoffs))
     if results.cutoff is not None:
         results = replace(results, within=round(60 * results.cutoff))
-    return replace(study, run=run, results=results)
-
-
-def with_first(study: Study) -> Study:
-    """The same whose date and window are the first of several."""
-    run = study.run
     if run.dates:
         run = replace(run, date=run.dates[0])
     if run.windows:
         run = replace(run, first=run.windows[0].first, last=run.windows[0].last)
-    return replace(study, run=run)
+    return replace(study, run=run, results=results)
 
 
 def names_of(kind: type[Any]) -> list[str]:
@@ -132,22 +126,17 @@ def agree_on_points(study: Study, run: Entry, walks: Entry, points: Entry) -> No
 
 def agree_on_results(study: Study, results: Entry, opportunities: Entry) -> None:
     settings = study.results
-    for key, value, among in (
-        ("share", settings.share, study.run.shares),
-        ("within", settings.within, study.run.limits),
-    ):
+    for key, name in (("share", "shares"), ("within", "limits")):
+        value, among = getattr(settings, key), getattr(study.run, name)
         if value is not None and value not in among:
-            name = "shares" if key == "share" else "limits"
             raise results.fault(f"is not among {name} of [run]", key, str(value), ", ".join(map(str, among)))
     if settings.max_minutes is not None and study.within > 60 * settings.max_minutes:
-        allowed = f"at least {study.within / 60:g}"
-        raise results.fault(
-            "ends before the limit of tables and maps", "max_minutes", str(settings.max_minutes), allowed
-        )
-    if (settings.bands or settings.nearest_bands) and not (settings.access and study.counts_people):
-        raise results.fault(
-            "needs access, and people of [opportunities]", "bands" if settings.bands else "nearest_bands"
-        )
+        message, allowed = "ends before the limit of tables and maps", f"at least {study.within / 60:g}"
+        raise results.fault(message, "max_minutes", str(settings.max_minutes), allowed)
+    has_people = study.opportunities.people or study.points.grid and study.opportunities.groups  # of cells
+    if (settings.bands or settings.nearest_bands) and not (settings.access and has_people):
+        key = "bands" if settings.bands else "nearest_bands"
+        raise results.fault("needs access, and people of [opportunities]", key)
     if settings.nearest_bands and not settings.nearest:
         raise results.fault("needs nearest", "nearest_bands")
     needs_value = bool(DECAYS[settings.decay].value)

@@ -3,7 +3,6 @@ parts/run.json, and `parts/one_part.sh NUMBER` is `ttm-tools study --part NUMBER
 decides what a whole part is.
 """
 
-import json
 import os
 import shlex
 import sys
@@ -16,7 +15,7 @@ from ..faults import BadInput
 from ..files import remove
 from ..parts import origins_in
 from .cutting import FIRST, PARTS, Part, parts_for
-from .stages import PACKAGE, TASK, Folder, as_text, write_settled
+from .stages import PACKAGE, TASK, Folder, as_text, facts_in, write_settled
 from .ttm import Running, facts_of, found_program, version_of, with_origins
 
 SCRIPT = f"{PARTS}/one_part.sh"
@@ -38,21 +37,13 @@ def write_task(run: Run, parts: Sequence[Part], key: str, version: Sequence[str]
     os.chmod(study / SCRIPT, 0o755)
 
 
-def task_known(study: Path) -> dict[str, Any]:
-    """What to compute in a study's folder; nothing if no study needs it any more."""
-    try:
-        return dict(json.loads((study / TASK).read_text(encoding="utf-8")))
-    except (OSError, ValueError):
-        return {}
-
-
 def one_part(folder: Path, number: int) -> None:
     """Computes a part where a study's folder says so; what goes wrong is noted next to it."""
     if not folder.is_dir():
         raise BadInput(folder, "is not the folder of a study")
     study = Folder(folder.resolve())
     with study.shown_in_faults():
-        known = task_known(study.path)
+        known = facts_in(study.at(TASK))
         if not known:
             raise BadInput(folder, f"is not the folder of a study with parts to compute: no {TASK}")
         run = Run(**known["run"])
@@ -84,7 +75,7 @@ def computed(run: Run, part: Part, known: dict[str, Any]) -> str | None:
     except BaseException:
         running.stop()
         raise
-    if message is None and task_known(part.study) != known:
+    if message is None and facts_in(part.study / TASK) != known:
         remove(part.matrix)
         return "the study's inputs were written again meanwhile"
     if message is None:

@@ -33,14 +33,9 @@ def lines_of_table(kind: type[Any]) -> Iterator[str]:
         yield f"{mark}{NAMES.get(field.name, field.name)} = {field.metadata['example']}"
 
 
-def first_of(kind: type[Any]) -> str:
-    """The purpose of a table."""
-    return " ".join((kind.__doc__ or "").split())
-
-
 def template() -> str:
-    """The whole file."""
     lines = [HEAD, *lines_of_table(About)]
     for name, kind in TABLES.items():
-        lines += ["", f"[{name}]", f"# {first_of(kind)}", *lines_of_table(kind)]
+        purpose = " ".join((kind.__doc__ or "").split())
+        lines += ["", f"[{name}]", f"# {purpose}", *lines_of_table(kind)]
     return "\n".join(lines) + "\n"

@@ -32,14 +32,6 @@ def die_with_parent() -> None:
         ctypes.CDLL(None).prctl(DIES, signal.SIGKILL)
 
 
-@dataclass(frozen=True)
-class Version:
-    """What a program says of itself, and the sum of its bytes."""
-
-    lines: list[str]
-    sum: str
-
-
 def found_program() -> str:
     """The path of `ttm`, which holds from any folder."""
     found = program_at(None)
@@ -79,10 +71,8 @@ class Report:
     @property
     def facts(self) -> list[str]:
         """The lines that are the same on each machine, without the program's name."""
-        return [line.removeprefix("ttm: ") for line in self.lines if not self.is_of_the_machine(line)]
-
-    def is_of_the_machine(self, line: str) -> bool:
-        return line.removeprefix("ttm: ").startswith(OF_THE_MACHINE)
+        lines = [line.removeprefix("ttm: ") for line in self.lines]
+        return [line for line in lines if not line.startswith(OF_THE_MACHINE)]
 
 
 def report_of(run: Run, folder: Path) -> Report:

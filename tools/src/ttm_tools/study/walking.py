@@ -1,43 +1,39 @@
-"""Walks between stops, and points as stops with walks to and from them: two stages before the run."""
+"""Stages before the run: walks between stops, points as stops with walks to and from them, and cells as points."""
 
-from typing import TYPE_CHECKING, Any, Callable
+from dataclasses import replace
+from typing import TYPE_CHECKING
 
-from ..faults import quantity
-from ..gtfs.stops import Stops, read_stops
+from ..gtfs.stops import read_stops
 from ..plans.nearness import sentences_on_nearer
-from ..points import read_points, study as points
-from ..records import Rounded, write_rows
-from ..walks import Pace, Walks, read_walks, summary as walks_summary, walks_of
+from ..points import grid as grids, read_points, study as points
+from ..records import write_rows
+from ..walks import Pace, footpaths_of, walks_of
+from .sources import Sources
 from .stages import Stage
 from .settings import Study
 
 if TYPE_CHECKING:
     from .inputs import Maker
 
-POINTS, FOOTPATHS = "inputs/points", "inputs/footpaths.csv"
+POINTS, FOOTPATHS, GRID = "inputs/points", "inputs/footpaths.csv", "inputs/grid.csv"
 
 
 def walks_stage(maker: "Maker") -> Stage:
     """Walks between the stops."""
     study, settings, feed = maker.study, maker.study.walks, maker.at(maker.feed)
     path = maker.at(FOOTPATHS)
-    sources = maker.reads(settings.streets, settings.table)
 
     def make() -> list[str]:
-        stops, rounded = read_stops(feed), Rounded()
-        if settings.table:
-            rows = read_walks(study.at(settings.table), stops, rounded)
-            sentence = f"{quantity(rounded.count, 'time')} with decimals rounded up"
-        else:
-            found = walker(study)(stops, None)
-            rows, sentence = found.rows(), walks_summary(found, "stops", settings.near)
+        table, streets = (study.at(named) if named else None for named in (settings.table, settings.streets))
+        pace = Pace(study.walk_limit, settings.speed, settings.detour)
+        rows, sentence = footpaths_of(read_stops(feed), table, pace, streets, settings.near)
         with open(path, "wb") as file:
             write_rows(file, ["from_stop_id", "to_stop_id", "seconds"], rows)
         nearer = sentences_on_nearer(feed, path, study.run.walk)
-        return [f"{FOOTPATHS}: {quantity(len(rows), 'footpath')}; {sentence}", *sentences_on_limits(study), *nearer]
+        return [f"{FOOTPATHS}: {sentence}", *sentences_on_limits(study), *nearer]
 
-    depends = {"stops": maker.stops_sum, "walk": study.run.walk, **walk_facts(study), "streets": sources.sums}
-    return Stage("walks", depends, [FOOTPATHS], make, refuse_changed=sources.refuse_changed)
+    depends = {"stops": maker.stops_sum, "walk": study.run.walk, "pace": study.pace}
+    return Sources(study.at, [settings.streets, settings.table]).stage("walks", depends, [FOOTPATHS], make)
 
 
 def sentences_on_limits(study: Study) -> list[str]:
@@ -47,34 +43,55 @@ def sentences_on_limits(study: Study) -> list[str]:
     return [limits] if limit < run else []
 
 
-def walk_facts(study: Study) -> dict[str, Any]:
-    """How one walks."""
-    settings = study.walks
-    return {"pace": [study.walk_limit, settings.speed, settings.detour, settings.near]}
-
-
-def walker(study: Study) -> Callable[[Stops, int | None], Walks]:
-    """What makes walks between places."""
-    settings = study.walks
-    pace = Pace(study.walk_limit, settings.speed, settings.detour)
-    streets = study.at(settings.streets) if settings.streets else None
-    return lambda stops, first: walks_of(stops, pace, streets, settings.near, first)
-
-
 def points_stage(maker: "Maker") -> Stage:
     """The feed with points as stops, and the walks to and from them."""
     study, settings, feed, out = maker.study, maker.study.points, maker.at(maker.feed), maker.at(POINTS)
+    walks, near = study.walks, study.walks.near
     begins = [path in (*settings.files, *settings.origins) for path in settings.all]
     ends = [path in (*settings.files, *settings.destinations) for path in settings.all]
     paths = [study.at(path) for path in settings.all]
-    sources = maker.reads(*settings.all, study.walks.streets)
 
     def make() -> list[str]:
-        files, limit, near = [read_points(path) for path in paths], study.walk_limit, study.walks.near
+        files, limit = [read_points(path) for path in paths], study.walk_limit
+        pace, streets = Pace(limit, walks.speed, walks.detour), study.at(walks.streets) if walks.streets else None
         options = points.PointsOptions(feed, out, files, begins, ends, limit, settings.leave_out, near, POINTS)
-        sentences = [*points.make(options, walker(study)), *sentences_on_limits(study)]
+        sentences = points.make(options, lambda stops, first: walks_of(stops, pace, streets, near, first))
+        sentences += sentences_on_limits(study)
         return [*sentences, *sentences_on_nearer(f"{out}/{points.FEED}", f"{out}/footpaths.csv", study.run.walk)]
 
-    facts = {"begins": begins, "ends": ends, "leave_out": settings.leave_out, "inputs": sources.sums}
-    depends = {"feed": maker.feed_sums, "walk": study.run.walk, **walk_facts(study), **facts}
-    return Stage("points", depends, [POINTS], make, refuse_changed=sources.refuse_changed)
+    facts = {"begins": begins, "ends": ends, "leave_out": settings.leave_out}
+    depends = {"feed": maker.feed_sums, "walk": study.run.walk, "pace": study.pace, **facts}
+    return Sources(study.at, [*settings.all, study.walks.streets]).stage("points", depends, [POINTS], make)
+
+
+def with_grid(study: Study) -> Study:
+    """The same study, whose cells are points of a file that it makes: at both ends of journeys, or at the end that no
+    file names. Groups of people are columns of the cells where no file of people is named.
+    """
+    settings, opportunities = study.points, study.opportunities
+    if settings.grid is None:
+        return study
+    place = "destinations" if settings.origins else "origins" if settings.destinations else "files"
+    settings = replace(settings, **{place: (*getattr(settings, place), GRID)})
+    if opportunities.groups and opportunities.people is None:
+        opportunities = replace(opportunities, people=GRID)
+    return replace(study, points=settings, opportunities=opportunities, generated=(*study.generated, GRID))
+
+
+def grid_stage(study: Study, feed: str, stops_sum: str | None) -> Stage:
+    """The cells with the numbers of people, jobs and the like that lie in them."""
+    settings = study.points
+    width = settings.grid or 0.0
+    pace = Pace(study.walk_limit, study.walks.speed, study.walks.detour)
+
+    def make() -> list[str]:
+        area = study.at(settings.grid_area) if settings.grid_area else None
+        cells = grids.grid_over(area, width) if area else grids.grid_near(read_stops(feed), width, pace.metres)
+        filled, sentences = grids.filled(cells, [study.at(path) for path in settings.grid_people])
+        with open(study.folder / GRID, "wb") as file:
+            write_rows(file, ["id", "name", "lat", "lon", "width", *filled.columns], points.point_lines(filled))
+        return [f"{GRID}: {len(filled.identifiers):,} cells of {width:g} metres", *sentences]
+
+    has_area = settings.grid_area is not None
+    facts = {"stops": stops_sum, "width": width, "metres": pace.metres, "area": has_area}
+    return Sources(study.at, [settings.grid_area, *settings.grid_people]).stage("grid", facts, [GRID], make)

@@ -1,5 +1,5 @@
 """What is made of the matrices of all windows and days: access and its spread over people by window, and pictures of
-them by time of day.
+them by time of day; and what a study's report says of them.
 """
 
 from pathlib import Path
@@ -8,16 +8,16 @@ from typing import Any, BinaryIO, Iterator, Sequence
 import numpy as np
 
 from ..column_list import WINDOWS as WINDOW_COLUMNS, names_of
-from ..gtfs.fields import Floats
 from ..files import many_written_aside, output, write_picture
 from ..measures.access_table import AccessTable, AccessKind
 from ..measures.opportunities import Counts, columns_of, read_counts
 from ..naming import file_names
-from ..records import shown, write_rows
+from ..records import records as records_in, shown, write_rows
 from ..views import equity
 from ..views.access import ACCESS, NEAREST, Measured, decimal, long_rows
 from ..views.windows import WindowColumn, FigureLabels, figure_by_time, figure_of_heat, figure_of_maps
 from .counted import COUNTED, PEOPLE
+from .document import Document
 from .joining import MATRIX
 from .results import LOSE, POINTS, STOPS, Measurement, Records, StudyMatrix, measurements_of
 from .stages import Stage
@@ -26,14 +26,15 @@ from .settings import DayWindow
 
 HEADS = names_of(WINDOW_COLUMNS)
 EACH = "origins"  # whom the means count where no people are named: each origin once
-PICTURES, KINDS = f"{WINDOWS}/pictures", ("time", "heat", "maps")
+PICTURES = f"{WINDOWS}/pictures"
+KINDS = {  # of pictures, and what each shows
+    "time": "mean access and that of the tenth that has the least, by time of day",
+    "heat": "each place by window",
+    "maps": "maps by window",
+}
 DECIMALS = 6
-
-
-def files_of(of: Measurement) -> tuple[str, str]:
-    """The table by origin, and that by people."""
-    end = "" if of.heads == ACCESS else f"_{of.kind}"
-    return f"{WINDOWS}/{of.kind}.csv", f"{WINDOWS}/equity{end}.csv"
+EQUITY = f"{WINDOWS}/equity.csv"
+COLUMNS = ["date", "window", "group", "scenario", "people", "mean", "least_tenth"]  # of the report
 
 
 def window_stages(whole: StudyMatrix, known: Records) -> list[Stage]:
@@ -42,19 +43,14 @@ def window_stages(whole: StudyMatrix, known: Records) -> list[Stage]:
 
 
 def path_of(whole: StudyMatrix, question: DayWindow) -> str:
-    """The matrix of a window."""
     return MATRIX if question == whole.study.questions[0] else matrix_of(question)
-
-
-def head_of(question: DayWindow) -> list[object]:
-    """What stands in front of each line of a window."""
-    return [question.day, question.window.name, question.window.first, question.window.last]
 
 
 def tables_stage(whole: StudyMatrix, of: Measurement) -> Stage:
     """The table by origin, and that by people; of access the pictures, too."""
-    study, records = whole.study, whole.inputs.records
-    by_origin, by_people = files_of(of)
+    study = whole.study
+    by_origin = f"{WINDOWS}/{of.kind}.csv"
+    by_people = EQUITY if of.heads == ACCESS else f"{WINDOWS}/equity_{of.kind}.csv"
     pictures = [PICTURES] if study.results.maps and of.heads == ACCESS else []
 
     def make() -> list[str]:
@@ -68,15 +64,8 @@ def tables_stage(whole: StudyMatrix, of: Measurement) -> Stage:
             draw_all(whole, tables)
         return [f"{', '.join([by_origin, by_people, *pictures])}: {len(tables)} windows"]
 
-    settings = study.results
-    options = [
-        settings.decay,
-        settings.decay_value,
-        list(of.limits),
-        settings.unit,
-        [question.label for question in study.questions],
-    ]
-    sums = {name: records[name].outputs for name in ("counted", "people") if name in records}
+    options = [*of.options, study.results.unit, [question.label for question in study.questions]]
+    sums = [whole.inputs.outputs_of("counted"), whole.inputs.outputs_of("people")]
     facts: dict[str, Any] = {**whole.depends, "words": options, "windows": whole.windows, "sums": sums}
     return Stage(f"windows_{of.kind}", facts, [by_origin, by_people, *pictures], make)
 
@@ -90,7 +79,7 @@ def lines_of(whole: StudyMatrix, of: Measurement, tables: dict[DayWindow, Access
         found = of.of(matrix, counts)
         tables[question] = table_of(path, found, counts, of)
         texts = [decimal(limit) for limit in of.limits]
-        yield from ([*head_of(question), *line] for line in long_rows(found, counts.names, texts, True))
+        yield from ([*question.head, *line] for line in long_rows(found, counts.names, texts, True))
 
 
 def table_of(path: str, found: Sequence[Measured], counts: Counts, of: Measurement) -> AccessTable:
@@ -117,7 +106,7 @@ def write_spread(out: BinaryIO, tables: dict[DayWindow, AccessTable], whole: Stu
     for question, table in tables.items():
         options = equity.EquityOptions(whole.inputs.base, LOSE, table.kinds)
         header, *rows = equity.rows_of(equity.measured(table, people_of(whole, table.origins), options))
-        lines += [[*head_of(question), *row] for row in rows]
+        lines += [[*question.head, *row] for row in rows]
     write_rows(out, [*HEADS, *header], lines)
 
 
@@ -149,7 +138,7 @@ def draw_all(whole: StudyMatrix, tables: dict[DayWindow, AccessTable]) -> None:
         for name, paths in pictures_of(whole).items():
             kind = whole.kind_drawn(first.kinds, name)
             number = first.kinds.index(kind)
-            columns = [column_of(question, table.numbers[:, number]) for question, table in tables.items()]
+            columns = [WindowColumn(*question.head, table.numbers[:, number]) for question, table in tables.items()]
             labels = FigureLabels(kind.label, shown(name), shown(people.names[0]), places)
             figures = [
                 figure_by_time(columns, first.scenarios, people.numbers[:, 0], labels),
@@ -160,6 +149,32 @@ def draw_all(whole: StudyMatrix, tables: dict[DayWindow, AccessTable]) -> None:
                 write_picture(str(folder / Path(path).name), figure)
 
 
-def column_of(question: DayWindow, numbers: Floats) -> WindowColumn:
-    window = question.window
-    return WindowColumn(question.day, window.name, window.first, window.last, numbers)
+def write_windows(document: Document, whole: StudyMatrix, records: Records) -> None:
+    """The windows with their matrices, access in each of them, and pictures."""
+    questions = whole.study.questions
+    if not questions:
+        return
+    document.heading("By time of day", 3)
+    rows = [[*question.head, shown(path_of(whole, question))] for question in questions]
+    document.table("Windows, each with its matrix", ["Day", "Window", "From", "To", "Matrix"], rows)
+    document.paragraph(f"Comparisons, maps and the page are those of the first: {questions[0].label}.")
+    if "windows_access" not in records:
+        return
+    for kind in kinds_drawn(whole):
+        caption = f"{kind.label}: mean of the people, and of the tenth that has the least ({EQUITY} has all)"
+        lines = list(lines_reported(whole.at(EQUITY), [kind.opportunity, kind.percentile, kind.cutoff]))
+        document.table(caption, [name.replace("_", " ") for name in COLUMNS], lines)
+    if PICTURES in {path.rpartition("/")[0] for path in records["windows_access"].outputs}:
+        for name, paths in pictures_of(whole).items():
+            for path, what in zip(paths, KINDS.values()):
+                document.picture(path, f"{shown(name)}: {what}")
+
+
+def lines_reported(path: str, kind: list[str]) -> Iterator[list[str]]:
+    """The lines of a kind in a table, as the report has them."""
+    table = records_in(path)
+    _, header = next(table)
+    first, places = len(HEADS), [header.index(name) for name in COLUMNS]
+    for _, fields in table:
+        if fields[first : first + len(kind)] == kind:
+            yield [shown(fields[place]) for place in places]

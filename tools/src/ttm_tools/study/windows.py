@@ -1,24 +1,26 @@
-"""The windows and days of a study: a matrix for each. That of the first is the study's own; the others come from a
-network that is kept for each day.
+"""The matrices of a study, one for each of its windows and days: that of the first is the study's own; the others come
+from a network that is kept for each day.
 """
 
 import functools
 import itertools
 from dataclasses import dataclass, replace
+from typing import Callable, Sequence
 
+from ..engine import Run
 from .asking import KeptNetwork
-from .cutting import cut_of, parts_for, remove_others, remove_windows, study_key
+from .cutting import FIRST, PARTS, Part, Shape, cut_of, parts_for, remove_others, remove_windows, study_key
 from .elsewhere import Means, run_elsewhere
 from .inputs import Inputs
-from .joining import join_parts
-from .running import refuse_failed
+from .joining import CSV, MATRIX, join_parts
+from .running import Failed, refuse_failed, run_parts
 from .sources import refuse_other_sums
-from .stages import Folder, Record, Stage, room
-from .ttm import Version
+from .stages import Folder, Record, Stage
 from .settings import DayWindow, Study
 
 WINDOWS = "windows"  # their folder
-FORM = 1  # of how the parts are joined
+FORM = 1  # of how the parts are joined: the rows are ttm's, so other tools don't change them
+Runner = Callable[[Run, Sequence[Part], Shape], list[Failed]]
 
 
 def matrix_of(question: DayWindow) -> str:
@@ -34,9 +36,10 @@ def inputs_of(inputs: Inputs, question: DayWindow) -> Inputs:
 
 @dataclass(frozen=True)
 class Machine:
-    """What computes the matrices of a study: the version of `ttm`, and by which means it runs."""
+    """What computes the matrices of a study: a version of `ttm`, by some means."""
 
-    version: Version
+    lines: list[str]  # what the program says of itself
+    sum: str  # of its bytes
     means: Means
 
 
@@ -48,43 +51,44 @@ def make_windows(study: Study, inputs: Inputs, folder: Folder, machine: Machine)
         own = list(questions)
         with KeptNetwork(inputs_of(inputs, own[0]).run, folder.path) as network:
             for question in own:
-                stage = window_stage(study, inputs, question, machine, network)
+                stage = matrix_stage(study, inputs, machine, network.run_parts, question)
                 records[stage.name] = folder.do(stage)
                 if not study.parts.keep:
                     remove_others(folder.path, question.name)
     return records
 
 
-def window_stage(study: Study, inputs: Inputs, question: DayWindow, machine: Machine, network: KeptNetwork) -> Stage:
-    """The matrix of a window, by as many parts of the origins as that of the first."""
-    version, means = machine.version, machine.means
-    task = inputs_of(inputs, question)
-    key = study_key(task, version.lines)
+def run_here(run: Run, parts: Sequence[Part], shape: Shape) -> list[Failed]:
+    return run_parts(run, parts, shape.at_once, shape.threads)
+
+
+def matrix_stage(
+    study: Study, inputs: Inputs, machine: Machine, runner: Runner = run_here, question: DayWindow | None = None
+) -> Stage:
+    """The matrix of a study, or that of another window, by as many parts of the origins."""
+    means = machine.means
+    task, path = (inputs_of(inputs, question), matrix_of(question)) if question else (inputs, MATRIX)
+    with_csv = study.results.csv and question is None
+    key = study_key(task, machine.lines)
 
     def make() -> list[str]:
-        with room(inputs.folder) as folder:
-            first, shape = cut_of(study.parts, inputs, study_key(inputs, version.lines), means.at_once, folder)
-        origins = [origin for part in first for origin in part.origins]
-        parts = parts_for(origins, len(first), key, question.name, inputs.folder)
+        shape = cut_of(study.parts, inputs, study_key(inputs, machine.lines), means.at_once)
+        window = question.name if question else FIRST
+        parts = parts_for(inputs.origins(), shape.parts, key, window, inputs.folder)
+        (inputs.folder / PARTS).mkdir(exist_ok=True)
+        remove_others(inputs.folder, FIRST, {part.folder.name for part in parts})
         if means.is_elsewhere:
-            failed = run_elsewhere(task.run, parts, key, version.lines, means)
+            failed = run_elsewhere(task.run, parts, key, machine.lines, means)
         else:
-            failed = network.run_parts(task.run, parts, shape)
+            failed = runner(task.run, parts, shape)
         refuse_failed(failed, len(parts))
-        return join_parts(
-            parts, False, inputs.shown_as, inputs.destinations, means.threads, inputs.at(matrix_of(question))
-        )
+        shown_as, shown = inputs.shown_as, inputs.destinations
+        return join_parts(parts, with_csv, shown_as, shown, means.threads, inputs.at(path))
 
-    depends = {"study": key, "origins": inputs.records["origins"].outputs, "form": FORM}
+    depends = {"study": key, "origins": inputs.outputs_of("origins"), "form": FORM}
     depends |= {"shown": inputs.destinations, "shown_as": inputs.shown_as}
-    known = {**inputs.sums, str(inputs.run.program): version.sum}
+    depends |= {} if question else {"csv": with_csv}
+    name, outputs = f"matrix_{question.name}" if question else "matrix", [path, *([CSV] if with_csv else [])]
+    known = {**inputs.sums, str(inputs.run.program): machine.sum}
     same = functools.partial(refuse_other_sums, inputs.folder, known)
-    return Stage(
-        f"matrix_{question.name}",
-        depends,
-        [matrix_of(question)],
-        make,
-        of_tools=False,
-        keeps_task=True,
-        refuse_changed=same,
-    )
+    return Stage(name, depends, outputs, make, of_tools=False, keeps_task=True, refuse_changed=same)

@@ -1,6 +1,5 @@
 """All of a study, from its file to its folder, in order: what is done isn't done again."""
 
-import functools
 import re
 from dataclasses import replace
 from pathlib import Path
@@ -11,23 +10,21 @@ from ..files import is_running, remove, sum_of
 from ..matrices import BASE, TODAY, open_matrix
 from ..naming import sentences_on_names
 from ..views.page.document import LEAFLET, leaflet_files
-from .cutting import FIRST, PARTS, cut_of, parts_noted, remove_others, remove_parts, study_key, trial
-from .elsewhere import Means, run_elsewhere
-from .gridding import with_grid
-from .inputs import Inputs, make_inputs
-from .joining import CSV, MATRIX, join_parts
+from .checks import check_shown
+from .cutting import FIRST, PARTS, remove_others, remove_parts, shape_noted, study_key, trial
+from .elsewhere import Means
+from .inputs import Inputs, make_inputs, sums_of
+from .joining import MATRIX
 from .notes import write_notes
 from .report import TOLD, day_shown
 from .result_list import make_results
 from .results import StudyMatrix, names_of_scenarios
-from .running import refuse_failed, run_parts
-from .sources import refuse_other_sums
 from .stages import RECORDS, Folder, Record, Stage, held, log, refuse_folder, room
-from .ttm import Version, found_program, version_of
-from .windows import Machine, make_windows
+from .ttm import found_program, version_of
+from .walking import with_grid
+from .windows import Machine, make_windows, matrix_stage
 from .settings import Study
 
-FORM = 1  # of how the parts are joined: the rows are ttm's, so other tools don't change them
 OF_ONE_ORIGIN = ("origins: ", "rows: ", "cells: ", "bytes of ")  # what the report of a trial says of itself
 RUNS_IN, NO_CHANGE = "runs in scenario ", "warning: this scenario changes nothing on the days of the study"
 ASIDE = re.compile(r"\.part\.([0-9]+)\..*")
@@ -48,28 +45,25 @@ def make_in(folder: Folder, study: Study, program: str, means: Means) -> None:
     """Makes all of a study in its folder, which is held."""
     path = folder.path
     folder.at(RECORDS).mkdir(exist_ok=True)
-    version = Version(version_of(program), sum_of(program))
-    machine = Machine(version, means)
+    machine = Machine(version_of(program), sum_of(program), means)
     log(path, "command", "began", 0.0)
     sweep(path, inside_parts=False)
     inputs = make_inputs(study, folder, program)
     study = with_grid(study)
     refuse_settings(study, inputs)
     say(*sentences_on_names(names_of_scenarios(list(inputs.edits), inputs.base)))
-    records = days_listed(study, inputs, folder, version)
+    records = days_listed(study, inputs, folder, machine.lines)
     records["matrix"] = folder.do(matrix_stage(study, inputs, machine))
     if not study.parts.keep:
         remove_others(path, FIRST)
     windows = make_windows(study, inputs, folder, machine)
-    records |= windows
     if not study.parts.keep:
         remove_parts(path)
-    sum_of_matrix = records["matrix"].outputs[MATRIX]
-    sums = {name: was for record in windows.values() for name, was in record.outputs.items()}
-    scenarios = open_matrix(inputs.at(MATRIX)).scenarios
-    whole = StudyMatrix(study, inputs, sum_of_matrix, scenarios, sums, version.lines)
-    records = make_results(whole, folder, records)
-    write_notes(whole, records, version, parts_noted(path))
+    sum_of_matrix, scenarios = records["matrix"].outputs[MATRIX], open_matrix(inputs.at(MATRIX)).scenarios
+    whole = StudyMatrix(study, inputs, sum_of_matrix, scenarios, sums_of(windows), machine.lines)
+    records = make_results(whole, folder, {**records, **windows})
+    shape = shape_noted(path)
+    write_notes(whole, records, machine, shape.parts if shape else 1)
     sweep(path, inside_parts=True)
 
 
@@ -89,11 +83,7 @@ def refuse_settings(study: Study, inputs: Inputs) -> None:
         leaflet_files(LEAFLET)
     if not (study.results.maps or study.results.page or study.results.isochrones):
         return
-    origins = set(inputs.origins())
-    for key, named in (("map_origins", study.results.map_origins), ("isochrones", study.results.isochrones)):
-        lost = next((stop for stop in named if stop not in origins), None)
-        if lost is not None:
-            raise BadInput(study.path, f"{key} of [results]: {lost} is not an origin of the study")
+    check_shown(study, set(inputs.origins()), "map_origins", "isochrones")
     if not read_stops(inputs.at(inputs.feed)).placed.any():
         raise BadInput(
             f"{inputs.feed}/stops.txt",
@@ -101,12 +91,12 @@ def refuse_settings(study: Study, inputs: Inputs) -> None:
         )
 
 
-def days_listed(study: Study, inputs: Inputs, folder: Folder, version: Version) -> dict[str, Record]:
+def days_listed(study: Study, inputs: Inputs, folder: Folder, version: list[str]) -> dict[str, Record]:
     """What `ttm` says of each day of the study: that of the first one first."""
-    records = {"days": folder.do(days_stage(inputs, study_key(inputs, version.lines), "days", TOLD))}
+    records = {"days": folder.do(days_stage(inputs, study_key(inputs, version), "days", TOLD))}
     for date in study.run.dates[1:]:
         own = replace(inputs, run=replace(inputs.run, date=date))
-        stage = days_stage(own, study_key(own, version.lines), f"days_{date}", day_shown(date))
+        stage = days_stage(own, study_key(own, version), f"days_{date}", day_shown(date))
         records[stage.name] = folder.do(stage)
     return records
 
@@ -130,48 +120,19 @@ def beside_today(inputs: Inputs, lines: list[str]) -> list[str]:
     """
     if inputs.base != TODAY:
         return lines
-    sentences, name, whole = (
-        list[str](),
-        "",
-        next((name_shown for name_shown, own in inputs.shown_as.items() if own == BASE), None),
-    )
+    sentences, name = list[str](), ""
+    whole = next((name_shown for name_shown, own in inputs.shown_as.items() if own == BASE), None)
     for line in lines:
         name = line.removeprefix(RUNS_IN).partition(":")[0] if line.startswith(RUNS_IN) else name
         if line != NO_CHANGE:
             sentences.append(line)
         elif name == TODAY and whole not in (None, TODAY):
-            sentences.append(
-                f"warning: scenario {whole} changes nothing compared with {TODAY} on the days of the study"
-            )
-    if whole is None:
-        count = len(inputs.run.scenarios) + 1
-        sentences.append(f"{BASE} has the trips of all scenarios; its rows, one in {count} of the run, aren't shown")
-    else:
-        sentences.append(f"the rows of {whole} are those of {BASE}, as its file removes nothing")
-    return sentences
-
-
-def matrix_stage(study: Study, inputs: Inputs, machine: Machine) -> Stage:
-    """The matrix, by parts of the origins."""
-    with_csv, version, means = study.results.csv, machine.version, machine.means
-    key = study_key(inputs, version.lines)
-
-    def make() -> list[str]:
-        with room(inputs.folder) as folder:
-            parts, shape = cut_of(study.parts, inputs, key, means.at_once, folder)
-        if means.is_elsewhere:
-            failed = run_elsewhere(inputs.run, parts, key, version.lines, means)
-        else:
-            failed = run_parts(inputs.run, parts, shape.at_once, shape.threads)
-        refuse_failed(failed, len(parts))
-        path = inputs.at(MATRIX)
-        return join_parts(parts, with_csv, inputs.shown_as, inputs.destinations, means.threads, path)
-
-    depends = {"study": key, "origins": inputs.records["origins"].outputs, "csv": with_csv}
-    depends |= {"shown": inputs.destinations, "shown_as": inputs.shown_as, "form": FORM}
-    outputs, known = [MATRIX, *([CSV] if with_csv else [])], {**inputs.sums, str(inputs.run.program): version.sum}
-    same = functools.partial(refuse_other_sums, inputs.folder, known)
-    return Stage("matrix", depends, outputs, make, of_tools=False, keeps_task=True, refuse_changed=same)
+            sentence = f"scenario {whole} changes nothing compared with {TODAY} on the days of the study"
+            sentences.append(f"warning: {sentence}")
+    if whole is not None:
+        return [*sentences, f"the rows of {whole} are those of {BASE}, as its file removes nothing"]
+    count = len(inputs.run.scenarios) + 1
+    return [*sentences, f"{BASE} has the trips of all scenarios; its rows, one in {count} of the run, aren't shown"]
 
 
 def sweep(folder: Path, inside_parts: bool) -> None:

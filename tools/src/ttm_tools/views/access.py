@@ -17,8 +17,6 @@ ACCESS, NEAREST = ("cutoff", "accessibility"), ("nearest", "seconds")  # the las
 
 @dataclass(frozen=True)
 class Form:
-    """The columns of a table."""
-
     heads: tuple[str, str]  # ACCESS or NEAREST
     shape: str = LONG  # or WIDE
     with_scenario: bool = True
@@ -40,16 +38,14 @@ def origins_of(matrix: Matrix, scenario: str) -> list[str]:
     first = matrix.origins(scenario, matrix.shares[0])
     for share in matrix.shares:
         if matrix.origins(scenario, share) != first:
-            raise BadInput(
-                matrix.path, f"{shown(scenario)} has other origins for the percentile {share}: is it truncated?"
-            )
+            message = f"{shown(scenario)} has other origins for the percentile {share}: is it truncated?"
+            raise BadInput(matrix.path, message)
     return first
 
 
 def measured(
     matrix: Matrix, scenario: str, shares: Sequence[Share], measure: Callable[[str, Share], Floats]
 ) -> Measured:
-    """What a measure gives for each share of a scenario."""
     origins = origins_of(matrix, scenario)
     return Measured(scenario, origins, list(shares), np.stack([measure(scenario, share) for share in shares]))
 

@@ -13,9 +13,8 @@ from ..records import shown
 from .access import decimal
 from .equity import significant
 from .tables import write_table
-from .texts import text_alone
+from .texts import figure_with, text_alone
 
-INCHES = 10.0
 BAR = 0.34  # inches of a bar with its room
 AROUND = 1.7  # inches of title and key
 
@@ -45,28 +44,19 @@ def bands_of(
 
 
 def write_bands(out: BinaryIO, table: AccessTable, bands: Iterator[Band], form: str) -> None:
-    """Writes a line for each."""
-    rows = [
-        [
-            *astuple(band.kind),
-            band.group,
-            band.scenario,
-            decimal(band.limit),
-            significant(band.people),
-            significant(band.percent),
-        ]
-        for band in bands
-    ]
+    rows = []
+    for band in bands:
+        named = [*astuple(band.kind), band.group, band.scenario, decimal(band.limit)]
+        rows.append([*named, significant(band.people), significant(band.percent)])
     write_table(out, names_of(BANDS_OF_NEAREST if table.of_times else BANDS), rows, form)
 
 
 def labels_of(table: AccessTable, limits: Sequence[float], unit: str) -> list[str]:
     """What the parts of a bar are called, the least access, or the longest way, last."""
     texts = [f"{limit:,.10g}" for limit in limits]
+    between = [f"{low} to {high}{' min' * table.of_times}" for low, high in zip(texts, texts[1:])]
     if table.of_times:
-        between = [f"{low} to {high} min" for low, high in zip(texts, texts[1:])]
         return [f"up to {texts[0]} min", *between, f"more than {texts[-1]} min, or not reached"]
-    between = [f"{low} to {high}" for low, high in zip(texts, texts[1:])]
     return [f"{texts[-1]} {unit} or more", *reversed(between), f"less than {texts[0]}"]
 
 
@@ -81,19 +71,15 @@ def figure_of(table: AccessTable, kinds: Sequence[AccessKind], people: Counts, l
     """A bar for each group and scenario, of one kind."""
     if len(kinds) > 1:
         there = some([kind.label for kind in kinds])
-        raise BadInput(
-            table.path, f"a picture shows one of {there}: choose it with --opportunity, --percentile, --cutoff"
-        )
+        how = "choose it with --opportunity, --percentile, --cutoff"
+        raise BadInput(table.path, f"a picture shows one of {there}: {how}")
     from matplotlib import colormaps
-    from matplotlib.figure import Figure
 
     found = list(bands_of(table, kinds, people, limits))
     rows = list(dict.fromkeys((band.group, band.scenario) for band in found))
     labels = labels_of(table, limits, shown(kinds[0].opportunity))
     high = AROUND + BAR * (len(rows) + len(people.names))
-    figure = Figure(figsize=(INCHES, high), dpi=135, facecolor="white")
-    title = f"People by band: {table.label_of(kinds[0])}"
-    figure.text(0.02, 1 - 0.15 / high, title, fontsize=13, fontweight="bold", va="top", parse_math=False)
+    figure = figure_with(f"People by band: {table.label_of(kinds[0])}", high)
     axes = figure.add_axes((0.24, 0.55 / high, 0.72, 1 - (AROUND - 0.2) / high))
     for row, (group, scenario) in enumerate(rows):
         inside = [band.percent for band in found if (band.group, band.scenario) == (group, scenario)]

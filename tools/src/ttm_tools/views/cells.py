@@ -1,6 +1,6 @@
 """Cells on a map: squares, oblongs, or areas with the shape of their file, in kilometres."""
 
-from typing import Any
+from typing import Any, Sequence
 
 import numpy as np
 import numpy.typing as npt
@@ -24,13 +24,7 @@ class Cells:
         self.are_there: npt.NDArray[np.bool_] = ~np.isnan(self.sides[:, 0])
         self.are_there[list(self.areas)] = True
 
-    def corners(self) -> Floats:
-        """The corners of all areas."""
-        corners: Floats = np.concatenate([np.zeros((0, 2)), *(path.vertices for path in self.areas.values())])
-        return corners
-
     def draw(self, axes: Any, chosen: npt.NDArray[np.intp], points: Floats, colour: str, order: float) -> None:
-        """Draws the cells of some places in a colour."""
         how: dict[str, Any] = {"facecolors": colour, "edgecolors": "face", "linewidths": 0.2, "zorder": order}
         areas = [self.areas[place] for place in chosen.tolist() if place in self.areas]
         oblong = np.array([place for place in chosen.tolist() if place not in self.areas], dtype=np.intp)
@@ -42,9 +36,10 @@ class Cells:
 
 
 def path_of(area: Area, projection: Projection) -> Path:
-    """An area as a path; its holes go round the other way, so they stay empty."""
-    rings = [ring for polygon in area for ring in polygon]
+    return path_along([np.stack(projection.kilometres(*ring.T), axis=1) for polygon in area for ring in polygon])
+
+
+def path_along(rings: Sequence[Floats]) -> Path:
+    """Closed rings as a path; holes go round the other way, so they stay empty."""
     codes = [[Path.MOVETO, *[Path.LINETO] * (len(ring) - 2), Path.CLOSEPOLY] for ring in rings]
-    corners = np.concatenate(rings)
-    kilometres = np.stack([projection.east(corners[:, 0]), projection.north(corners[:, 1])], axis=1)
-    return Path(kilometres, np.concatenate(codes))
+    return Path(np.concatenate(rings), np.concatenate(codes))

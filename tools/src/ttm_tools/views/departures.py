@@ -5,12 +5,11 @@ from typing import Any, Sequence
 import numpy as np
 
 from ..records import shown
-from .texts import text_alone
+from .texts import figure_with, text_alone
 from .journeys import ExplainOptions, Found
 
 COLOURS = ("#332288", "#cc6677", "#117733", "#88ccee", "#aa4499", "#ddcc77")
 MARKS = ("o", "s", "^", "D", "v", "P")
-INCHES = (10, 5)
 MOST_TICKS = 9
 
 
@@ -19,11 +18,8 @@ def figure_of(options: ExplainOptions, found: Sequence[Found]) -> Any:
     """The picture of some scenarios: a mark for each departure, a dashed line at the cell, a ring at the departure
     whose journey is reported, and crosses above for departures after which nobody gets there.
     """
-    from matplotlib.figure import Figure
-
-    figure = Figure(figsize=INCHES, dpi=135, facecolor="white")
-    title = f"Duration by departure: from {options.stop(options.origin)} to {options.stop(options.destination)}"
-    figure.text(0.02, 0.97, title, fontsize=13, fontweight="bold", va="top", parse_math=False)
+    ends = f"from {options.stop(options.origin)} to {options.stop(options.destination)}"
+    figure = figure_with(f"Duration by departure: {ends}", 5.0)
     axes = figure.add_axes((0.07, 0.12, 0.9, 0.76))
     most = max((time for of in found for time in of.durations if time is not None), default=60) / 60
     for place, of in enumerate(found):
@@ -41,12 +37,8 @@ def draw_scenario(axes: Any, options: ExplainOptions, found: Found, place: int, 
     """One scenario, with the departures that lead nowhere at a height above all others."""
     colour, mark = COLOURS[place % len(COLOURS)], MARKS[place % len(MARKS)]
     minutes = np.array([np.nan if time is None else time / 60 for time in found.durations])
-    title = (
-        f"{shown(found.name)}: {options.share} % achieve {found.cell / 60:.1f} minutes"
-        if found.cell is not None
-        else None
-    )
-    label = title or f"{shown(found.name)}: not reached"
+    cell = "not reached" if found.cell is None else f"{options.share} % achieve {found.cell / 60:.1f} minutes"
+    label = f"{shown(found.name)}: {cell}"
     axes.plot(minutes, color=colour, marker=mark, markersize=3.5, linewidth=0.9, label=label)
     if found.cell is not None:
         axes.axhline(found.cell / 60, color=colour, linestyle="dashed", linewidth=0.8)

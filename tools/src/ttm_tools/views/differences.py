@@ -36,9 +36,10 @@ class OriginChoice:
     least: int = 1  # by which access differs
 
 
-def write_pairs(
-    out: BinaryIO, pair: Pair, changes: Changes, stops: Stops | None, choice: OriginChoice = OriginChoice()
-) -> None:
+ALL = OriginChoice()
+
+
+def write_pairs(out: BinaryIO, pair: Pair, changes: Changes, stops: Stops | None, choice: OriginChoice = ALL) -> None:
     """A line for each pair that differs, losers first."""
     write_rows(out, compared(by_pair=True, has_names=stops is not None), [])
     origins, destinations = ends_as_texts(pair.origins, stops), ends_as_texts(pair.matrix.stops, stops)
@@ -67,12 +68,7 @@ def chosen_origins(first: Sums, second: Sums, counts: npt.NDArray[np.int64], cho
 
 
 def write_origins(
-    out: BinaryIO,
-    pair: Pair,
-    place: int,
-    comparison: Comparison,
-    stops: Stops | None,
-    choice: OriginChoice = OriginChoice(),
+    out: BinaryIO, pair: Pair, place: int, comparison: Comparison, stops: Stops | None, choice: OriginChoice = ALL
 ) -> None:
     """A line for each origin with a pair that differs or with other access, losers first."""
     first, second = pair.access(place)
@@ -96,13 +92,6 @@ def summary(pair: Pair, comparison: Comparison, limit: float, place: int | None,
     if place is not None:
         first, second = pair.access(place)
         change = second - first
-        sentences.append(
-            f"access: of {len(change):,} origins {sides_of(first, second, least).sentence()}"
-            f"{by_how_much(least)}; in all {int(change.sum()):+,}"
-        )
+        sides, by_how_much = sides_of(first, second, least).sentence(), f" (by {least:,} or more)" if least > 1 else ""
+        sentences.append(f"access: of {len(change):,} origins {sides}{by_how_much}; in all {int(change.sum()):+,}")
     return sentences
-
-
-def by_how_much(least: int) -> str:
-    """The threshold of access, where there is one."""
-    return f" (by {least:,} or more)" if least > 1 else ""

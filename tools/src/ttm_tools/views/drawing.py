@@ -36,6 +36,11 @@ LETTERS: dict[str, Any] = {
     "zorder": 6,
     "path_effects": [withStroke(linewidth=2.5, foreground="white")],
 }
+STYLES: dict[str, tuple[Any, ...]] = {  # of the lines that a scenario changes: label, colour, width, dashes
+    "taken": ("removed trips", "#222222", 2.0),
+    "changed": ("changed trips", "#882255", 1.6),
+    "added": ("added trips", "#117733", 2.4, (0, (4, 1.5))),
+}
 Pieces = npt.NDArray[np.int32]
 MapPoints = npt.NDArray[np.float64]  # kilometres east and north, NaN where a stop has no place
 
@@ -52,48 +57,37 @@ class MapLines:
 
 
 def running(pieces: Pieces) -> MapLines:
-    """The lines on which vehicles run."""
     return MapLines(pieces, "where vehicles run", FAINT, 0.9 if len(pieces) < MANY_LINES else 0.5)
-
-
-def taken_out(pieces: Pieces) -> MapLines:
-    return MapLines(pieces, "removed trips", "#222222", 2.0)
-
-
-def changed(pieces: Pieces) -> MapLines:
-    """Where trips give way to others."""
-    return MapLines(pieces, "changed trips", "#882255", 1.6)
-
-
-def added(pieces: Pieces) -> MapLines:
-    return MapLines(pieces, "added trips", "#117733", 2.4, (0, (4, 1.5)))
 
 
 @text_alone
 def draw(picture: Picture, stops: Stops, lines: Sequence[MapLines], note: str, width: int = 1350) -> Figure:
     """The picture of these stops, which are those of the matrix, as a figure of this width in pixels."""
     projection = Projection(stops.latitudes, stops.longitudes)
-    points = np.stack([projection.east(stops.longitudes), projection.north(stops.latitudes)], axis=1)
-    cells = Cells(stops, projection)
-    figure, axes = empty_map(limits_of(np.concatenate([points[stops.placed], cells.corners()])), width)
+    points, cells = points_of(stops, projection), Cells(stops, projection)
+    corners = [path.vertices for path in cells.areas.values()]
+    figure, axes = empty_map(limits_of(np.concatenate([points[stops.placed], *corners])), width)
     write_head(figure, picture)
     if cells.are_there.any():
-        lines = [replace(kind, colour=over_squares(kind.colour)) for kind in lines]
+        lines = over_squares(lines)
     for number, kind in enumerate(lines):
         draw_lines(axes, kind, 1 + number / 10)
     draw_cells(axes, picture, points, cells)
     draw_stops(axes, picture, np.where(cells.are_there[:, None], np.nan, points))
     draw_names(axes, picture, stops, points)
     draw_scale(axes)
-    place = axes.get_position()
-    draw_key(figure, (place.x1 + EDGE / INCHES, place.y1), shaped(picture, cells), points, lines)
+    draw_key(figure, shaped(picture, cells), points, lines)
     write_notes(figure, picture, f"{note} In brackets: number of {picture.what}.".strip())
     return figure
 
 
-def over_squares(colour: str) -> str:
-    """The colour of lines over what is filled."""
-    return OVER_SQUARES if colour == FAINT else colour
+def points_of(stops: Stops, projection: Projection) -> MapPoints:
+    return np.stack(projection.kilometres(stops.longitudes, stops.latitudes), axis=1)
+
+
+def over_squares(lines: Sequence[MapLines]) -> list[MapLines]:
+    """Lines in their colours over what is filled."""
+    return [replace(kind, colour=OVER_SQUARES) if kind.colour == FAINT else kind for kind in lines]
 
 
 def write_head(figure: Figure, picture: Picture) -> None:
@@ -112,9 +106,7 @@ def write_notes(figure: Figure, picture: Picture, note: str) -> None:
 
 
 def limits_of(points: MapPoints) -> tuple[float, float, float, float]:
-    """Where the map begins and ends, in kilometres (left, right, bottom, top): no strip, and with room below for the
-    scale.
-    """
+    """Where the map ends, in kilometres (left, right, bottom, top): no strip, and with room for the scale below."""
     (left, bottom), (right, top) = points.min(axis=0).tolist(), points.max(axis=0).tolist()
     side = max(right - left, top - bottom, LEAST_SIDE)
     wide, high = (max(1.08 * length, 0.5 * side) for length in (right - left, top - bottom))
@@ -205,9 +197,7 @@ def draw_stops(axes: Any, picture: Picture, points: MapPoints) -> None:
 
 
 def draw_names(axes: Any, picture: Picture, stops: Stops, points: MapPoints) -> None:
-    """A star and a name at the origin, and names at those stops that lose most, as far as the names don't cover one
-    another.
-    """
+    """A star and a name at the origin, and names at stops that lose most, as far as they don't cover one another."""
     wished = [*([picture.origin] if picture.origin is not None else []), *picture.named]
     if picture.origin is not None and not math.isnan(points[picture.origin, 0]):
         axes.scatter(*points[picture.origin], s=260, edgecolors="white", linewidths=0.9, zorder=5, **STAR)
@@ -241,22 +231,21 @@ def draw_scale(axes: Any) -> None:
     axes.annotate("N", place, (0, -24), textcoords="offset points", arrowprops=arrow, **LETTERS)
 
 
-def draw_key(
-    figure: Figure, corner: tuple[float, float], picture: Picture, points: MapPoints, lines: Sequence[MapLines]
-) -> None:
+def draw_key(figure: Figure, picture: Picture, points: MapPoints, lines: Sequence[MapLines]) -> None:
     """The classes with how many stops each has; one without stops is left out."""
     counts = np.bincount(picture.classes[drawn(picture, points)], minlength=len(picture.marks)).tolist()
     handles = [handle(mark, f"{mark.label}  ({count:,})") for mark, count in zip(picture.marks, counts) if count]
-    if picture.origin is not None:
-        star = {"linestyle": "none", "markeredgecolor": "white", "markersize": 15}
-        handles.append(Line2D([], [], label="origin", **star, **STAR))
+    write_key(figure, picture.key, handles, lines, picture.origin is not None)
+
+
+def write_key(figure: Figure, title: str, classes: list[Any], lines: Sequence[MapLines], has_star: bool) -> None:
+    """Writes a key below a title: of classes, of the origin's star, and of lines."""
+    star = Line2D([], [], label="origin", linestyle="none", markersize=15, markeredgecolor="white", **STAR)
+    handles = [*classes, *[star] * has_star]
     for kind in lines:
         handles.append(Line2D([], [], color=kind.colour, linewidth=2.0, linestyle=kind.style, label=kind.label))
-    write_key(figure, corner, handles, picture.key)
-
-
-def write_key(figure: Figure, corner: tuple[float, float], handles: Sequence[Any], title: str) -> None:
-    """Writes a key below a title."""
+    map_place = figure.axes[0].get_position()
+    corner = (map_place.x1 + EDGE / INCHES, map_place.y1)
     place = {"loc": "upper left", "bbox_to_anchor": corner, "borderaxespad": 0, "alignment": "left"}
     how = {"frameon": False, "fontsize": 9.5, "title_fontsize": 10.5, "labelspacing": 0.75}
     key = figure.legend(handles=handles, title=wrapped(title, 32), **how, **place)

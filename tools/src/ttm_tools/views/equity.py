@@ -15,16 +15,15 @@ from ..measures.nearness import Nearness, nearness
 from ..measures.opportunities import Counts
 from ..records import shown
 from .tables import write_table
-from .texts import text_alone
+from .texts import figure_with, text_alone
 
 COLOURS = ("#000000", "#0072b2", "#d55e00", "#009e73", "#cc79a7", "#e69f00", "#56b4e9")  # after Okabe and Ito
-INCHES, HIGH = (10.0, 4.8), 0.72
+HIGH = 0.72  # of the picture
+Line = tuple[AccessKind, str, str, Equity | Nearness]  # group and scenario are the texts
 
 
 @dataclass(frozen=True)
 class EquityOptions:
-    """What is measured of a table of access."""
-
     base: str
     percent: float  # of the base's access, from which on somebody loses
     kinds: list[AccessKind]
@@ -42,9 +41,8 @@ def chosen_kinds(
         and all(number is None or is_number(getattr(kind, name), number) for name, number in numbers.items())
     ]
     if not kinds:
-        raise BadInput(
-            table.path, f"nothing of the kind; it has {some([table.label_of(kind) for kind in table.kinds])}"
-        )
+        there = some([table.label_of(kind) for kind in table.kinds])
+        raise BadInput(table.path, f"nothing of the kind; it has {there}")
     return kinds
 
 
@@ -55,10 +53,7 @@ def is_number(text: str, number: float) -> bool:
         return False
 
 
-def measured(
-    table: AccessTable, people: Counts, options: EquityOptions
-) -> Iterator[tuple[AccessKind, str, str, Equity | Nearness]]:
-    """The measures of each kind, group and scenario."""
+def measured(table: AccessTable, people: Counts, options: EquityOptions) -> Iterator[Line]:
     base = table.scenario(options.base)
     measure: Callable[[Floats, Floats, Floats, float], Equity | Nearness] = equity
     if table.of_times:
@@ -73,7 +68,7 @@ def significant(number: float) -> str:
     return "" if np.isnan(number) else f"{number:.4f}".rstrip("0").rstrip(".")
 
 
-def rows_of(lines: Iterable[tuple[AccessKind, str, str, Equity | Nearness]]) -> list[list[str]]:
+def rows_of(lines: Iterable[Line]) -> list[list[str]]:
     """The header, and a row for each kind, group and scenario."""
     found = list(lines)
     names = [*names_of(OF_PEOPLE), *header(Equity)]
@@ -83,8 +78,7 @@ def rows_of(lines: Iterable[tuple[AccessKind, str, str, Equity | Nearness]]) -> 
     return [names, *rows]
 
 
-def write_equity(out: BinaryIO, lines: Iterator[tuple[AccessKind, str, str, Equity | Nearness]], form: str) -> None:
-    """Writes a line for each kind, group and scenario."""
+def write_equity(out: BinaryIO, lines: Iterator[Line], form: str) -> None:
     names, *rows = rows_of(lines)
     write_table(out, names, rows, form)
 
@@ -100,16 +94,11 @@ def figure_of(table: AccessTable, people: Counts, options: EquityOptions) -> Any
         raise BadInput(table.path, f"a picture shows one of {there}: choose it with {names}")
     if len(people.names) > 1:
         raise BadInput(table.path, f"a picture shows one group of {', '.join(people.names)}: choose it with --column")
-    from matplotlib.figure import Figure
-
     kind, weights = options.kinds[0], people.numbers[:, 0]
     numbers, base = table.numbers[:, table.kinds.index(kind)], table.scenario(options.base)
-    figure = Figure(figsize=INCHES, dpi=135, facecolor="white")
-    title = f"Distribution of access: {kind.label}; people: {shown(people.names[0])}"
-    figure.text(0.02, 0.96, title, fontsize=13, fontweight="bold", va="top", parse_math=False)
+    figure = figure_with(f"Distribution of access: {kind.label}; people: {shown(people.names[0])}", 4.8, 0.192)
     draw_lorenz(figure.add_axes((0.07, 0.13, 0.4, HIGH)), table.scenarios, numbers, weights)
-    others = [place for place in range(len(table.scenarios)) if place != base]
-    draw_tenths(figure.add_axes((0.58, 0.13, 0.4, HIGH)), table.scenarios, numbers, weights, base, others)
+    draw_tenths(figure.add_axes((0.58, 0.13, 0.4, HIGH)), table.scenarios, numbers, weights, base)
     return figure
 
 
@@ -123,10 +112,9 @@ def draw_lorenz(axes: Any, names: Sequence[str], numbers: Floats, weights: Float
     axes.legend(frameon=False, loc="upper left", fontsize=9)
 
 
-def draw_tenths(
-    axes: Any, names: Sequence[str], numbers: Floats, weights: Floats, base: int, others: Sequence[int]
-) -> None:
+def draw_tenths(axes: Any, names: Sequence[str], numbers: Floats, weights: Floats, base: int) -> None:
     """Bars of the mean change of each tenth of the people, a row of them for each scenario other than the base."""
+    others = [place for place in range(len(names)) if place != base]
     wide = 0.8 / max(1, len(others))
     for row, place in enumerate(others):
         changes = changes_by_tenth(numbers[base], numbers[place], weights)

@@ -7,7 +7,7 @@ from ..column_list import OF_PEOPLE, names_of
 from ..faults import BadInput
 from ..gtfs.fields import Floats
 from ..measures.access_table import AccessTable, AccessKind, by_group
-from ..measures.fairness import FairnessCase, Concentration, Poverty, Theil, theil_of_all
+from ..measures.fairness import Concentration, Poverty, Theil, theil_of_all
 from ..measures.measure_list import FAIRNESS
 from ..measures.opportunities import Counts
 from .equity import significant
@@ -19,15 +19,10 @@ Found = Theil | Concentration | Poverty
 
 @dataclass(frozen=True)
 class FairnessOptions:
-    """What is measured."""
-
     measure: str
     kinds: Sequence[AccessKind]
     rank: Floats | None = None  # of concentration, by origin
     line: float | None = None  # of poverty
-
-    def case(self, access: Floats, people: Floats) -> FairnessCase:
-        return FairnessCase(access, people, self.rank, self.line)
 
 
 def lines_of(table: AccessTable, people: Counts, options: FairnessOptions) -> Iterator[list[str]]:
@@ -35,10 +30,11 @@ def lines_of(table: AccessTable, people: Counts, options: FairnessOptions) -> It
     if table.of_times:
         raise BadInput(table.path, f"{options.measure} is measured of access, not of times to the nearest")
     measure = FAIRNESS[options.measure].compute()
+    more = [value for value in (options.rank, options.line) if value is not None]
     for kind in options.kinds:
         for _, group, numbers, weights in by_group(table, [kind], people):
             for place, scenario in enumerate(table.scenarios):
-                yield line_of(kind, group, scenario, measure(options.case(numbers[place], weights)))
+                yield line_of(kind, group, scenario, measure(numbers[place], weights, *more))
         if options.measure == THEIL and len(people.names) > 1:
             for scenario, own in zip(table.scenarios, table.numbers[:, table.kinds.index(kind)]):
                 yield line_of(kind, ALL_GROUPS, scenario, theil_of_all(own, people.numbers))
@@ -49,5 +45,4 @@ def line_of(kind: AccessKind, group: str, scenario: str, found: Found) -> list[s
 
 
 def write_fairness(out: BinaryIO, lines: Iterator[list[str]], measure: str, form: str) -> None:
-    """Writes the table."""
     write_table(out, [*names_of(OF_PEOPLE), *FAIRNESS[measure].columns], list(lines), form)

@@ -9,12 +9,13 @@ import math
 import sqlite3
 from dataclasses import dataclass, replace
 from pathlib import Path
-from typing import Any, BinaryIO, Sequence
+from typing import Any, BinaryIO, Iterable, Sequence
 from urllib.parse import quote
 
 import numpy as np
 
 from ..faults import BadInput, needs
+from ..gtfs.fields import Floats
 from ..gtfs.stops import Stops
 from ..files import written_aside
 from ..matrices import Matrix, Share
@@ -35,14 +36,9 @@ class Features:
     columns: dict[str, Any]  # arrays of numbers
 
     def properties(self, place: int) -> dict[str, Any]:
-        """What is reported of one stop."""
-        properties: dict[str, Any] = {
-            "stop_id": shown(self.stops.identifiers[place]),
-            "stop_name": self.stops.names[place],
-        }
-        for name, numbers in self.columns.items():
-            properties[name] = None if math.isnan(numbers[place]) else int(numbers[place])
-        return properties
+        numbers = {name: column[place] for name, column in self.columns.items()}
+        named = {"stop_id": shown(self.stops.identifiers[place]), "stop_name": self.stops.names[place]}
+        return named | {name: None if math.isnan(number) else int(number) for name, number in numbers.items()}
 
 
 def named(scenario: str, share: Share, what: str) -> str:
@@ -53,26 +49,29 @@ def named(scenario: str, share: Share, what: str) -> str:
 def features_of(
     matrix: Matrix, stops: Stops, scenarios: Sequence[str], shares: Sequence[Share], origin: str | None
 ) -> Features:
-    """The stops with the chosen numbers."""
     columns: dict[str, Any] = {}
     drawn = matrix.stops_and_origins()
     among = {name: place for place, name in enumerate(drawn)}
-    for scenario in scenarios:
-        for share in shares:
-            places = np.array([among[name] for name in matrix.origins(scenario, share)], dtype=np.intp)
-            for limit, access in zip(matrix.layout.limits, matrix.access(scenario, share).T):
-                column = np.full(len(drawn), np.nan)
-                column[places] = access
-                columns[named(scenario, share, "access" if limit is None else f"access_{limit}")] = column
-            if origin is not None:
-                seconds = np.full(len(drawn), np.nan)
-                seconds[: len(matrix.stops)] = matrix.seconds(scenario, share, origin)
-                columns[named(scenario, share, "seconds")] = seconds
+    for scenario, share in itertools.product(scenarios, shares):
+        places = [among[name] for name in matrix.origins(scenario, share)]
+        for limit, access in zip(matrix.layout.limits, matrix.access(scenario, share).T):
+            what = "access" if limit is None else f"access_{limit}"
+            columns[named(scenario, share, what)] = placed(access, places, len(drawn))
+        if origin is not None:
+            seconds = matrix.seconds(scenario, share, origin)
+            columns[named(scenario, share, "seconds")] = placed(seconds, range(len(seconds)), len(drawn))
     found = stops.of(drawn)
     kept = np.flatnonzero(found.placed)
     there = found.of([found.identifiers[place] for place in kept.tolist()])
     there = replace(there, areas={**squares_of(there), **there.areas})
     return Features(there, {name: numbers[kept] for name, numbers in columns.items()})
+
+
+def placed(numbers: Any, places: Sequence[int], count: int) -> Floats:
+    """A column with numbers in these of its so many places, and NaN in the others."""
+    column = np.full(count, np.nan)
+    column[np.array(places, dtype=np.intp)] = numbers
+    return column
 
 
 def with_nearest(
@@ -82,52 +81,57 @@ def with_nearest(
     counts: Counts,
     nearest_of: Sequence[float],
 ) -> Features:
-    """The same with the seconds within which these numbers of opportunities are reached, for these scenarios and
-    shares.
-    """
+    """The same with the seconds within which these numbers of opportunities are reached."""
     columns, among = dict(features.columns), features.stops.places
     for scenario, share in itertools.product(*kinds):
         found = nearest(matrix, scenario, share, counts.numbers, nearest_of)
-        rows = [(row, among[name]) for row, name in enumerate(matrix.origins(scenario, share)) if name in among]
-        chosen, places = np.array(rows, dtype=np.intp).reshape(-1, 2).T
+        origins = matrix.origins(scenario, share)
+        rows = [row for row, name in enumerate(origins) if name in among]
+        places = [among[origins[row]] for row in rows]
         for (kind, what), (place, count) in itertools.product(enumerate(counts.names), enumerate(nearest_of)):
-            column = np.full(len(features.stops.identifiers), np.nan)
-            column[places] = found[chosen, kind, place]
+            column = placed(found[rows, kind, place], places, len(features.stops.identifiers))
             columns[named(scenario, share, f"{shown(what)}_nearest_{count:g}")] = column
     return Features(features.stops, columns)
 
 
 def write_geojson(out: BinaryIO, features: Features) -> None:
-    """A collection of features, one a line (RFC 7946)."""
+    """The stops with their numbers, as GeoJSON."""
+    stops = features.stops
+    places = zip(stops.longitudes.tolist(), stops.latitudes.tolist())
+    geometries: list[Any] = [{"type": "Point", "coordinates": place} for place in places]
+    for name, area in stops.areas.items():
+        geometries[stops.places[name]] = geometry_of(area)
+    write_features(out, zip(geometries, map(features.properties, range(len(geometries)))))
+
+
+def write_features(out: BinaryIO, features: Iterable[tuple[Any, dict[str, Any]]]) -> None:
+    """A collection of shapes with what is known of each, one a line (RFC 7946)."""
     out.write(b'{"type": "FeatureCollection", "features": [')
-    places = zip(features.stops.longitudes.tolist(), features.stops.latitudes.tolist())
-    for number, (name, place) in enumerate(zip(features.stops.identifiers, places)):
-        area = features.stops.areas.get(name)
-        geometry = {"type": "Point", "coordinates": place} if area is None else geometry_of(area)
-        feature: dict[str, Any] = {"type": "Feature", "geometry": geometry}
-        feature["properties"] = features.properties(number)
+    for number, (geometry, properties) in enumerate(features):
+        feature = {"type": "Feature", "geometry": geometry, "properties": properties}
         out.write((",\n" if number else "\n").encode() + json.dumps(feature, ensure_ascii=False).encode("utf-8"))
     out.write(b"\n]}\n")
 
 
 def write_geopackage(path: str, features: Features) -> None:
-    """A layer of points, or areas, in WGS 84."""
-    needs("geopandas")
-    import geopandas
-    from shapely.geometry import MultiPolygon
+    """A layer of points, or areas."""
+    from shapely.geometry import MultiPolygon, Point
 
     stops = features.stops
     columns: dict[str, Any] = {"stop_id": list(map(shown, stops.identifiers)), "stop_name": stops.names}
     columns |= {name: with_gaps(numbers) for name, numbers in features.columns.items()}
-    shapes = list(geopandas.points_from_xy(stops.longitudes, stops.latitudes))
+    shapes = [Point(*place) for place in zip(stops.longitudes.tolist(), stops.latitudes.tolist())]
     for name, area in stops.areas.items():  # all as several polygons, since a layer has one kind
         shapes[stops.places[name]] = MultiPolygon([(whole, holes) for whole, *holes in area])
+    write_layer(path, columns, shapes, LAYER)
+
+
+def write_layer(path: str, columns: Any, shapes: Sequence[Any], layer: str) -> None:
+    """Writes columns, or rows, and their shapes in WGS 84 as a GeoPackage, which gets its name when it is whole."""
+    needs("geopandas")
+    import geopandas
+
     frame = geopandas.GeoDataFrame(columns, geometry=shapes, crs="EPSG:4326")
-    write_layer(path, frame, LAYER)
-
-
-def write_layer(path: str, frame: Any, layer: str) -> None:
-    """Writes a frame of geopandas as a GeoPackage, which gets its name when it is whole."""
     with written_aside(path) as aside, as_one_line(path, "not written"):
         frame.to_file(aside, driver="GPKG", layer=layer)
         refuse_part(aside, path, layer, len(frame))

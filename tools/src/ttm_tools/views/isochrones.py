@@ -5,14 +5,14 @@ other point, such as a stop, one walks on for the time that is left, up to the l
 streets where they are known.
 """
 
-import json
+import itertools
 from dataclasses import dataclass, replace
 from pathlib import Path
 from typing import Any, BinaryIO, Iterator, Mapping, Sequence
 
 import numpy as np
 
-from ..faults import BadInput, needs
+from ..faults import BadInput
 from ..gtfs.fields import Floats
 from ..gtfs.stops import Projection, Stops
 from ..matrices import Matrix, Share
@@ -22,7 +22,7 @@ from ..records import shown
 from ..walks import Pace
 from ..walks.osm import read_streets
 from ..walks.reach import Reach, reach_of, strip
-from .gis import write_layer
+from .gis import write_features, write_layer
 
 LAYER = "isochrones"
 QUARTER = 12  # corners of a quarter of a circle
@@ -37,11 +37,6 @@ class Walking:
     speed: float = 1.33  # metres a second
     detour: float = 1.3  # metres of way for a metre of straight line
     most: float = 600.0  # seconds
-
-    def radii(self, left: Floats) -> Floats:
-        """How far one comes as the crow flies in the seconds that are left, in kilometres."""
-        kilometres: Floats = np.minimum(left, self.most) * self.speed / self.detour / 1000
-        return kilometres
 
 
 @dataclass(frozen=True)
@@ -69,7 +64,6 @@ class AreaGround:
     reach: Reach | None = None  # along streets, from those that have a place and no shape, in their order
 
     def shape_within(self, seconds: Floats, limit: float, walking: Walking) -> Any:
-        """What is reached within a limit of seconds."""
         from shapely.ops import unary_union
 
         near = np.flatnonzero(self.placed & (seconds <= limit))
@@ -85,7 +79,8 @@ class AreaGround:
             metres = np.where(left[bare] >= 0, np.minimum(left[bare], walking.most) * walking.speed, -1.0)
             yield strip(self.reach.pieces(metres), self.projection.kilometres, ASIDE)
             return
-        radii = walking.radii(left[bare])
+        # as the crow flies, in kilometres
+        radii = np.minimum(left[bare], walking.most) * walking.speed / walking.detour / 1000
         for place, radius in zip(bare.tolist(), radii.tolist()):
             if radius > 0:
                 yield Point(self.east[place], self.north[place]).buffer(radius, QUARTER)
@@ -93,18 +88,23 @@ class AreaGround:
     def in_degrees(self, shape: Any) -> Any:
         """A shape in degrees, its outer rings against the clock, as GeoJSON asks."""
         from shapely.geometry import MultiPolygon
-        from shapely.geometry.polygon import orient
         from shapely.ops import transform
         from shapely.validation import make_valid
 
         def degrees(east: Any, north: Any) -> tuple[Any, Any]:
-            longitude = np.asarray(east) / (self.projection.degree * self.projection.narrow) + self.projection.longitude
-            latitude = np.asarray(north) / self.projection.degree + self.projection.latitude
-            return np.round((longitude + 180) % 360 - 180, DECIMALS), np.round(latitude, DECIMALS)
+            places = self.projection.longitudes(np.asarray(east)), self.projection.latitudes(np.asarray(north))
+            return np.round(places[0], DECIMALS), np.round(places[1], DECIMALS)
 
         area = make_valid(transform(degrees, shape)) if not shape.is_empty else shape
-        parts = getattr(area, "geoms", [area])
-        return MultiPolygon([orient(part) for part in parts if part.geom_type == "Polygon" and not part.is_empty])
+        return MultiPolygon(polygons_in(area))
+
+
+def polygons_in(shape: Any) -> list[Any]:
+    """The polygons of a shape, their outer rings against the clock."""
+    from shapely.geometry.polygon import orient
+
+    parts = getattr(shape, "geoms", [shape])
+    return [orient(part) for part in parts if part.geom_type == "Polygon" and not part.is_empty]
 
 
 def ground_of(stops: Stops, polygons: Mapping[str, Any]) -> AreaGround:
@@ -122,11 +122,8 @@ def ground_of(stops: Stops, polygons: Mapping[str, Any]) -> AreaGround:
         x, y, (wide, high) = east[place], north[place], halves[place]
         shapes[place] = box(x - wide, y - high, x + wide, y + high)
 
-    def kilometres(longitudes: Any, latitudes: Any) -> tuple[Any, Any]:
-        return projection.east(np.asarray(longitudes)), projection.north(np.asarray(latitudes))
-
     for identifier in polygons.keys() & stops.places.keys():
-        shapes[stops.places[identifier]] = transform(kilometres, polygons[identifier])
+        shapes[stops.places[identifier]] = transform(projection.kilometres, polygons[identifier])
     return AreaGround(projection, east, north, shapes, stops.placed)
 
 
@@ -138,6 +135,12 @@ def along_streets(ground: AreaGround, stops: Stops, streets: str, walking: Walki
         return ground
     found = read_streets(streets)
     return replace(ground, reach=reach_of(found, stops.latitudes[bare], stops.longitudes[bare], pace, near))
+
+
+def ground_on_foot(stops: Stops, points: str | None, walking: Walking, streets: str | None, near: float) -> AreaGround:
+    """Where these stops lie, with the polygons of a file of points, and along which streets one walks on."""
+    ground = ground_of(stops, polygons_of(points))
+    return along_streets(ground, stops, streets, walking, near) if streets else ground
 
 
 def polygons_of(path: str | None) -> dict[str, Any]:
@@ -163,18 +166,14 @@ class Bands:
 def isochrones_of(matrix: Matrix, ground: AreaGround, bands: Bands, counts: Counts | None) -> list[Isochrone]:
     """The isochrones of each scenario, share and band, in this order; ground and counts are of the matrix's stops."""
     areas = []
-    for scenario in bands.scenarios:
-        for share in bands.shares:
-            seconds = matrix.seconds(scenario, share, bands.origin).astype(np.float64)
-            for minutes in bands.minutes:
-                limit = minutes * 60
-                shape, near = ground.shape_within(seconds, limit, bands.walking), seconds <= limit
-                there = {} if counts is None else {name: float(counts.named(name)[near].sum()) for name in counts.names}
-                areas.append(
-                    Isochrone(
-                        scenario, share, minutes, ground.in_degrees(shape), float(shape.area), int(near.sum()), there
-                    )
-                )
+    for scenario, share in itertools.product(bands.scenarios, bands.shares):
+        seconds = matrix.seconds(scenario, share, bands.origin).astype(np.float64)
+        for minutes in bands.minutes:
+            limit = minutes * 60
+            shape, near = ground.shape_within(seconds, limit, bands.walking), seconds <= limit
+            there = {} if counts is None else {name: float(counts.named(name)[near].sum()) for name in counts.names}
+            sizes = float(shape.area), int(near.sum())
+            areas.append(Isochrone(scenario, share, minutes, ground.in_degrees(shape), *sizes, there))
     return areas
 
 
@@ -192,24 +191,18 @@ def whole(number: float) -> float:
     return int(number) if number.is_integer() else number
 
 
+def widest_first(isochrones: Sequence[Isochrone]) -> list[Isochrone]:
+    """Isochrones in the order of a file, in which the others lie on the widest band."""
+    return sorted(isochrones, key=lambda area: -area.minutes)
+
+
 def write_geojson(out: BinaryIO, isochrones: Sequence[Isochrone], origin: str) -> None:
-    """A collection of features, one a line (RFC 7946), the widest band first, so that the others lie on it."""
     from shapely.geometry import mapping
 
-    out.write(b'{"type": "FeatureCollection", "features": [')
-    for number, isochrone in enumerate(sorted(isochrones, key=lambda area: -area.minutes)):
-        feature = {"type": "Feature", "geometry": mapping(isochrone.shape)}
-        feature["properties"] = properties_of(isochrone, origin)
-        out.write((",\n" if number else "\n").encode() + json.dumps(feature, ensure_ascii=False).encode("utf-8"))
-    out.write(b"\n]}\n")
+    write_features(out, ((mapping(area.shape), properties_of(area, origin)) for area in widest_first(isochrones)))
 
 
 def write_geopackage(path: str, isochrones: Sequence[Isochrone], origin: str) -> None:
-    """A layer of polygons in WGS 84, in the same order."""
-    needs("geopandas")
-    import geopandas
-
-    ordered = sorted(isochrones, key=lambda area: -area.minutes)
+    ordered = widest_first(isochrones)
     rows = [properties_of(isochrone, origin) for isochrone in ordered]
-    frame = geopandas.GeoDataFrame(rows, geometry=[area.shape for area in ordered], crs="EPSG:4326")
-    write_layer(path, frame, LAYER)
+    write_layer(path, rows, [area.shape for area in ordered], LAYER)

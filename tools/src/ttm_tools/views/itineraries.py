@@ -1,6 +1,6 @@
 """A table of the journeys behind many cells: a line for each pair and scenario, with the parts of its travel time."""
 
-from dataclasses import dataclass
+from dataclasses import astuple, dataclass
 from typing import Iterator, Sequence
 
 from ..column_list import JOURNEYS
@@ -49,11 +49,8 @@ def lines_of(options: ExplainOptions, found: Sequence[Found]) -> Iterator[list[o
             yield [*head, *[""] * (len(JOURNEYS) - len(head))]
             continue
         departure = options.departures[of.chosen]
-        of_legs = parts_of(of.legs, departure)
         trips = [int(of.runs.trip[leg.run]) for leg in of.legs if leg.run is not None]
-        parts = [of_legs.access, of_legs.wait, of_legs.ride, of_legs.change, of_legs.walk, of_legs.egress]
-        names = [
-            " ".join(shown(names[trip]) for trip in trips)
-            for names in (options.timetable.routes, options.timetable.trips)
-        ]
+        columns = (options.timetable.routes, options.timetable.trips)
+        names = [" ".join(shown(column[trip]) for trip in trips) for column in columns]
+        parts = astuple(parts_of(of.legs, departure))
         yield [*head, of.cell, options.clock(departure), *parts, len(trips), *names]

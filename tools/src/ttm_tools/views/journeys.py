@@ -2,7 +2,7 @@
 
 import itertools
 from dataclasses import dataclass
-from typing import Iterator, Sequence
+from typing import Iterator, Mapping, Sequence
 
 from ..gtfs.stops import has_file, in_folder
 from ..measures.journeys import Leg
@@ -14,8 +14,6 @@ GAP = "   "
 
 @dataclass(frozen=True)
 class Found:
-    """What was found in a scenario."""
-
     name: str
     cell: int | None  # seconds; None where too few departures get there
     durations: list[int | None]  # for each departure
@@ -26,8 +24,6 @@ class Found:
 
 @dataclass(frozen=True)
 class ExplainOptions:
-    """Which journeys are explained."""
-
     timetable: Timetable
     origin: int
     destination: int
@@ -51,15 +47,25 @@ def span(seconds: int) -> str:
     return f"{seconds // 60}:{seconds % 60:02}"
 
 
+def routes_called(folder: str) -> dict[str, str]:
+    """What people call each route: its short name, its long one, or else its identifier."""
+    names = ("route_short_name", "route_long_name")
+    found = rows(in_folder(folder, "routes.txt"), ["route_id"], names)
+    return {route: name_of(route, short, long) for _, (route, short, long) in found}
+
+
+def name_of(route: str, short: str, long: str) -> str:
+    return shown(short.strip() or long.strip() or route)
+
+
+def with_identifiers(names: Mapping[str, str]) -> dict[str, str]:
+    """What people call each route, with its identifier where it is another."""
+    return {route: name if name == shown(route) else f"{name} ({shown(route)})" for route, name in names.items()}
+
+
 def names_of_routes(folder: str) -> dict[str, str]:
-    """What people call each route: its short name, or its long one, and its identifier where it is another."""
-    names = {}
-    for _, (route, short, long) in rows(
-        in_folder(folder, "routes.txt"), ["route_id"], ["route_short_name", "route_long_name"]
-    ):
-        name, identifier = shown(short.strip() or long.strip() or route), shown(route)
-        names[route] = name if name == identifier else f"{name} ({identifier})"
-    return names
+    """The same of a feed, if it has routes.txt."""
+    return with_identifiers(routes_called(folder)) if has_file(folder, "routes.txt") else {}
 
 
 def text_of(options: ExplainOptions, found: Sequence[Found]) -> Iterator[str]:
@@ -69,8 +75,7 @@ def text_of(options: ExplainOptions, found: Sequence[Found]) -> Iterator[str]:
     yield options.arguments
     yield "Found by a second search, in Python, which isn't proved."
     yield ""
-    folder = options.timetable.folder
-    names = names_of_routes(folder) if has_file(folder, "routes.txt") else {}
+    names = names_of_routes(options.timetable.folder)
     yield from side_by_side([list(lines_of(options, of, names)) for of in found])
     yield ""
     yield from departure_lines(options, found)
@@ -123,6 +128,5 @@ def departure_lines(options: ExplainOptions, found: Sequence[Found]) -> Iterator
     widths = [max(map(len, column)) for column in zip(*table)]
     table[0][1:] = [f"{text} " for text in table[0][1:]]
     for line in table:
-        yield GAP.join(
-            [line[0].ljust(widths[0]), *[text.rjust(wide) for text, wide in zip(line[1:], widths[1:])]]
-        ).rstrip()
+        times = [text.rjust(wide) for text, wide in zip(line[1:], widths[1:])]
+        yield GAP.join([line[0].ljust(widths[0]), *times]).rstrip()

@@ -4,16 +4,12 @@ adds.
 
 import os
 from dataclasses import dataclass
-from typing import Iterator, Sequence
+from typing import Sequence
 
-import numpy as np
-import numpy.typing as npt
-
-from ..gtfs.lines import LinePoints, Trips, pieces, read_trips, removed_trips
+from ..gtfs.lines import pieces
 from ..matrices import TODAY
-from . import drawing
-
-Pieces = npt.NDArray[np.int32]
+from .drawing import STYLES, MapLines, running
+from .page.lines import DrawnLines, name_of, on_grid, plan_files
 
 
 @dataclass(frozen=True)
@@ -29,17 +25,9 @@ def planned_of(folder: str, edits: Sequence[str], base: str, scenario: str, lose
     """The files of today and of a scenario of a plan, those that are named or those in the feed's folder that
     `ttm-tools scenarios` wrote; none where these aren't there.
     """
-    if base != TODAY:
-        return None
-    named = {name_of(path): path for path in edits}
-    beside = {name: os.path.join(folder, "scenarios", f"{name}.csv") for name in (base, scenario)}
-    files = [named.get(name, path) for name, path in beside.items()]
-    return Planned(files[0], files[-1], loses) if all(map(os.path.isfile, files)) else None
-
-
-def name_of(edits: str) -> str:
-    """The scenario of a scenario file."""
-    return os.path.basename(edits).removesuffix(".csv")
+    files = plan_files(folder, (base, scenario)) | {name_of(path): path for path in edits}
+    is_plan = base == TODAY and os.path.isfile(files[base]) and os.path.isfile(files[scenario])
+    return Planned(files[base], files[scenario], loses) if is_plan else None
 
 
 def changed_trips(removed: dict[str, set[str]], base: str | None) -> tuple[set[str], set[str]]:
@@ -51,49 +39,25 @@ def changed_trips(removed: dict[str, set[str]], base: str | None) -> tuple[set[s
     return after - before, before - after
 
 
-def lines_of_edits(
-    points: LinePoints, folder: str, shaped: bool, edits: Sequence[str], base: str | None
-) -> list[drawing.MapLines]:
+def lines_of_edits(drawn: DrawnLines, edits: Sequence[str], base: str | None) -> list[MapLines]:
     """The lines of a feed, and over them those of the trips that scenario files take out and add."""
-    lines = [drawing.running(pieces(points))]
+    lines = [running(pieces(drawn.points))]
     if not edits:
         return lines
-    trips = read_trips(folder, shaped)
-    gone, new = changed_trips({name_of(path): removed_trips(trips, path) for path in edits}, base)
-    for kind, chosen in ((drawing.taken_out, gone), (drawing.added, new)):
-        found = pieces(of_trips(points, trips, chosen, shaped))
-        lines += [kind(found)] if len(found) or kind is drawing.taken_out and not new else []
+    gone, new = changed_trips({name_of(path): drawn.removed(path) for path in edits}, base)
+    for kind, chosen in (("taken", gone), ("added", new)):
+        found = drawn.pieces(chosen)
+        lines += [MapLines(found, *STYLES[kind])] if len(found) or kind == "taken" and not new else []
     return lines
 
 
-def lines_of_plan(points: LinePoints, folder: str, shaped: bool, planned: Planned) -> list[drawing.MapLines]:
-    """The lines of two scenarios of a plan, without those that others add; and over them what changes from today to the
-    scenario.
-    """
-    trips = read_trips(folder, shaped)
-    before, after = (removed_trips(trips, path) for path in (planned.base, planned.scenario))
+def lines_of_plan(drawn: DrawnLines, planned: Planned) -> list[MapLines]:
+    """The lines of two scenarios of a plan, without those of others; and over them what changes from today on."""
+    before, after = drawn.removed(planned.base), drawn.removed(planned.scenario)
     hidden = before & after if planned.loses else after
-    running = pieces(of_trips(points, trips, set(trips.trips) - hidden, shaped))
-    gone, new = (pieces(of_trips(points, trips, some, shaped)) for some in (after - before, before - after))
-    return [drawing.running(running), *changes(gone, new, planned.loses)]
-
-
-def of_trips(points: LinePoints, trips: Trips, chosen: set[str], shaped: bool) -> LinePoints:
-    return points.of_lines(trips.lines(chosen, shaped))
-
-
-def changes(gone: Pieces, new: Pieces, loses: bool) -> Iterator[drawing.MapLines]:
-    """What is changed, taken out, and added; where trips go and others come, they are changed."""
-    both, lost, joined = new[within(new, gone)], gone[~within(gone, new)], new[~within(new, gone)]
-    if len(both) and loses:
-        yield drawing.changed(both)
-    if len(lost) and loses:
-        yield drawing.taken_out(lost)
-    if len(joined):
-        yield drawing.added(joined)
-
-
-def within(some: Pieces, others: Pieces) -> npt.NDArray[np.bool_]:
-    """Which of some pieces are among others."""
-    known = set(map(tuple, others.tolist()))
-    return np.array([tuple(piece) in known for piece in some.tolist()], dtype=np.bool_)
+    lines = [running(drawn.pieces(set(drawn.trips.trips) - hidden))]
+    change = on_grid(drawn.pieces(after - before), drawn.pieces(before - after))
+    for kind in ("changed", "taken", "added") if planned.loses else ("added",):
+        found = getattr(change, kind)
+        lines += [MapLines(found, *STYLES[kind])] if len(found) else []
+    return lines

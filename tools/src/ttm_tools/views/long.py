@@ -24,8 +24,6 @@ FORMULA = ("=", "+", "-", "@")  # with which spreadsheets begin one
 
 @dataclass(frozen=True)
 class TableChoice:
-    """What is taken of a matrix."""
-
     scenarios: list[str]
     shares: list[Share]
     origins: list[str] | None  # None for all of them
@@ -57,9 +55,8 @@ def pieces_of(matrix: Matrix, choice: TableChoice) -> Iterator[TablePiece]:
         for begin in progress.shown(range(0, len(places), step), -(-len(places) // step), shown(scenario), "blocks"):
             some = places[begin : begin + step]
             rows = [matrix.rows_at(scenario, share, some) for share in choice.shares]
-            yield TablePiece(
-                scenario, [names[place] for place in some], rows if whole else [row[:, columns] for row in rows]
-            )
+            rows = rows if whole else [row[:, columns] for row in rows]
+            yield TablePiece(scenario, [names[place] for place in some], rows)
 
 
 def origins_of(matrix: Matrix, scenario: str, shares: Sequence[Share]) -> list[str]:
@@ -72,25 +69,14 @@ def origins_of(matrix: Matrix, scenario: str, shares: Sequence[Share]) -> list[s
     return first
 
 
-@dataclass(frozen=True)
-class PlaceFields:
-    """Identifiers as fields, and what a feed reports of them: name, latitude and longitude, as it stands behind a
-    comma.
-    """
-
-    fields: Texts
-    places: Texts
-
-
-def ends_of(names: Sequence[str], stops: Stops | None) -> PlaceFields:
+def ends_of(names: Sequence[str], stops: Stops | None) -> tuple[Texts, Texts]:
+    """Identifiers as fields, and what a feed says of them, each behind a comma: name, latitude and longitude."""
     if stops is None:
-        return PlaceFields(fields_as_texts(names), texts_of([b""] * len(names)))
+        return fields_as_texts(names), texts_of([b""] * len(names))
     found = stops.of(names)
     places = zip(found.names, found.latitudes.tolist(), found.longitudes.tolist())
-    fields = [
-        b",".join([b"", field(name), degrees(latitude), degrees(longitude)]) for name, latitude, longitude in places
-    ]
-    return PlaceFields(fields_as_texts(names), texts_of(fields))
+    fields = [b",%s,%s,%s" % (field(name), degrees(north), degrees(east)) for name, north, east in places]
+    return fields_as_texts(names), texts_of(fields)
 
 
 def degrees(number: float) -> bytes:
@@ -98,12 +84,10 @@ def degrees(number: float) -> bytes:
 
 
 def header_of(matrix: Matrix, choice: TableChoice, stops: Stops | None) -> list[str]:
-    """The names of the columns of travel times."""
     if choice.r5py:
-        names = [r5py_name(share, choice.shares) for share in choice.shares]
-        head = ["from_id", "to_id", *names]
+        head = ["from_id", "to_id", *(r5py_name(share, choice.shares) for share in choice.shares)]
     else:
-        head = ["scenario", *(["share"] if matrix.layout.names_share else []), "origin", "destination", "seconds"]
+        head = ["scenario", *["share"] * matrix.layout.names_share, "origin", "destination", "seconds"]
     columns = [f"{end}_{what}" for end in ("origin", "destination") for what in ("name", "lat", "lon")]
     return head + (columns if stops is not None else [])
 
@@ -134,25 +118,27 @@ def write_times(out: BinaryIO, matrix: Matrix, choice: TableChoice, stops: Stops
     """A line for each pair, each cell by reference to a text that is made once; how many lines there are."""
     out.write(b",".join(map(field, header_of(matrix, choice, stops))) + b"\n")
     count = 1
-    ends = ends_of(choice.destinations, stops)
-    after = texts_of([fields + b"\n" for fields in ends.places])
+    destinations, places = ends_of(choice.destinations, stops)
+    after = texts_of([fields + b"\n" for fields in places])
     numerals = Numerals(minutes if choice.r5py else b"%d".__mod__)
     for piece in pieces_of(matrix, choice):
-        origins = ends_of(piece.origins, stops)
-        for row, (origin, fields) in enumerate(zip(origins.fields, origins.places)):
-            times = [seconds[row] for seconds in piece.seconds]
-            if choice.r5py:
-                text = lines_of(origin + b",", times, [ends.fields, fields, after], numerals, choice.reached)
-                count += text.count(b"\n")
-                out.write(text)
-                continue
-            for share, seconds in zip(choice.shares, times):
-                named = b"" if share is None else b"%d," % share
-                head = field(piece.scenario) + b"," + named + origin + b","
-                text = lines_of(head, [seconds], [ends.fields, fields, after], numerals, choice.reached)
+        groups = groups_of(choice, piece)
+        for row, (origin, fields) in enumerate(zip(*ends_of(piece.origins, stops))):
+            for head, times in groups:
+                around, rows = [destinations, fields, after], [seconds[row] for seconds in times]
+                text = lines_of(head + origin + b",", rows, around, numerals, choice.reached)
                 count += text.count(b"\n")
                 out.write(text)
     return count
+
+
+def groups_of(choice: TableChoice, piece: TablePiece) -> list[tuple[bytes, list[Seconds]]]:
+    """What a line begins with, and the travel times that it has: those of one share, or of all for r5py's names."""
+    if choice.r5py:
+        return [(b"", piece.seconds)]
+    head = field(piece.scenario) + b","
+    heads = [head if share is None else head + b"%d," % share for share in choice.shares]
+    return [(head, [seconds]) for head, seconds in zip(heads, piece.seconds)]
 
 
 def lines_of(head: bytes, times: Sequence[Seconds], around: Sequence[Any], numerals: Numerals, reached: bool) -> bytes:
@@ -168,9 +154,8 @@ def lines_of(head: bytes, times: Sequence[Seconds], around: Sequence[Any], numer
 
 
 def access_header(matrix: Matrix, stops: Stops | None) -> list[str]:
-    """The names of the columns of access."""
     named = matrix.layout.names_share
-    header = ["scenario", *(["share"] if named else []), "origin", *(["within"] if named else []), "access"]
+    header = ["scenario", *["share"] * named, "origin", *["within"] * named, "access"]
     return header + ([f"origin_{what}" for what in ("name", "lat", "lon")] if stops is not None else [])
 
 
@@ -178,55 +163,44 @@ def write_access(out: BinaryIO, matrix: Matrix, choice: TableChoice, within: int
     """A line for each origin, share and limit."""
     places = range(len(matrix.layout.limits)) if within is None else [matrix.limit(within)[0]]
     named = matrix.layout.names_share
-    header = access_header(matrix, stops)
     chosen = None if choice.origins is None else set(choice.origins)
-    out.write(b",".join(map(field, header)) + b"\n")
+    out.write(b",".join(map(field, access_header(matrix, stops))) + b"\n")
     for scenario in choice.scenarios:
         names = origins_of(matrix, scenario, choice.shares)
         sums = [matrix.access(scenario, share).tolist() for share in choice.shares]
-        ends = ends_of(names, stops)
+        _, ends = ends_of(names, stops)
         for row in [row for row, name in enumerate(names) if chosen is None or name in chosen]:
             for share, access in zip(choice.shares, sums):
                 for place in places:
-                    limit = [matrix.layout.limits[place]] if named else []
-                    line = [scenario, *([share] if named else []), names[row], *limit, access[row][place]]
-                    out.write(b",".join(map(field, line)) + ends.places[row] + b"\n")
+                    limit = [matrix.layout.limits[place]] * named
+                    line = [scenario, *[share] * named, names[row], *limit, access[row][place]]
+                    out.write(b",".join(map(field, line)) + ends[row] + b"\n")
 
 
 def frame_of(matrix: Matrix, choice: TableChoice, piece: TablePiece, stops: Stops | None) -> Any:
     """The lines of a piece as a table of pandas, whose texts are codes."""
     import pandas
 
-    count, shares = len(choice.destinations), [piece.seconds] if choice.r5py else [
-        [seconds] for seconds in piece.seconds
-    ]
+    origin = np.repeat(np.arange(len(piece.origins)), len(choice.destinations))
+    destination = np.tile(np.arange(len(choice.destinations)), len(piece.origins))
     tables = []
-    for place, times in enumerate(shares):
-        origin = np.repeat(np.arange(len(piece.origins)), count)
-        destination = np.tile(np.arange(count), len(piece.origins))
+    for share, (_, times) in zip(choice.shares, groups_of(choice, piece)):
         columns: dict[str, Any] = {} if choice.r5py else {"scenario": [shown(piece.scenario)] * len(origin)}
         if matrix.layout.names_share and not choice.r5py:
-            columns["share"] = choice.shares[place]
-        for name, codes, names in ends_in(choice, piece, origin, destination):
+            columns["share"] = share
+        header = header_of(matrix, choice, None)
+        ends = (origin, piece.origins), (destination, choice.destinations)
+        for name, (codes, names) in zip(header[-len(times) - 2 :], ends):
             columns[name] = pandas.Categorical.from_codes(codes, list(map(shown, names)))
-        for name, seconds in zip(header_of(matrix, choice, None)[-len(times) :], times):
-            columns[name] = (
-                np.round(seconds.ravel().astype(np.float64) / 60, 2) if choice.r5py else with_gaps(seconds.ravel())
-            )
+        for name, seconds in zip(header[-len(times) :], map(np.ravel, times)):
+            columns[name] = np.round(seconds.astype(np.float64) / 60, 2) if choice.r5py else with_gaps(seconds)
         columns |= columns_of_places(stops, piece.origins, origin, "origin")
         columns |= columns_of_places(stops, choice.destinations, destination, "destination")
         table = pandas.DataFrame(columns)
-        tables.append(
-            table[np.logical_or.reduce([~np.isnan(seconds.ravel()) for seconds in times])] if choice.reached else table
-        )
+        if choice.reached:
+            table = table[np.logical_or.reduce([~np.isnan(seconds.ravel()) for seconds in times])]
+        tables.append(table)
     return pandas.concat(tables, ignore_index=True)
-
-
-def ends_in(
-    choice: TableChoice, piece: TablePiece, origin: npt.NDArray[np.intp], destination: npt.NDArray[np.intp]
-) -> list[tuple[str, npt.NDArray[np.intp], list[str]]]:
-    names = ("from_id", "to_id") if choice.r5py else ("origin", "destination")
-    return [(names[0], origin, piece.origins), (names[1], destination, choice.destinations)]
 
 
 def columns_of_places(

@@ -6,24 +6,16 @@ from typing import Any
 import numpy as np
 
 from ..faults import BadInput, say
-from ..gtfs.lines import lines_of
-from ..gtfs.stops import Projection, Stops, has_file
+from ..gtfs.stops import Projection, Stops
 from ..matrices import Matrix
 from ..records import shown
-from . import drawing
-from .isochrone_map import BANDS, bands_of, draw_bands
+from . import drawing, pictures
+from .isochrone_map import BANDS, draw_bands
 from .isochrones import AreaGround, Walking
 from .lines import Planned, lines_of_edits, lines_of_plan
 from .nearest import Nearest, picture_of_nearest, picture_of_nearest_difference
-from .pictures import (
-    Picture,
-    PictureOptions,
-    picture_of_access,
-    picture_of_access_difference,
-    picture_of_time_difference,
-    picture_of_times,
-    source_of,
-)
+from .page.lines import DrawnLines
+from .pictures import Picture, PictureOptions
 
 
 @dataclass(frozen=True)
@@ -53,26 +45,23 @@ def picture_of(
     """What a map draws: times, access, nearest, or difference, of the nearest where it is named."""
     if origin is not None and origin not in stops.places:
         raise BadInput(stops.path, f"no stop {origin}")
-    if what is not None:
-        is_one = kind == "nearest"
-        picture = (
-            picture_of_nearest(matrix, options, what)
-            if is_one
-            else (picture_of_nearest_difference(matrix, stops, options, what))
-        )
+    if what is not None and kind == "nearest":
+        picture = picture_of_nearest(matrix, options, what)
+    elif what is not None:
+        picture = picture_of_nearest_difference(matrix, stops, options, what)
     elif kind == "access":
-        picture = picture_of_access(matrix, stops, options)
+        picture = pictures.picture_of_access(matrix, stops, options)
     elif origin is None:
-        picture = picture_of_access_difference(matrix, stops, options)
+        picture = pictures.picture_of_access_difference(matrix, stops, options)
+    elif kind == "times":
+        picture = pictures.picture_of_times(matrix, stops, origin, options)
     else:
-        picture = (picture_of_times if kind == "times" else picture_of_time_difference)(matrix, stops, origin, options)
+        picture = pictures.picture_of_time_difference(matrix, stops, origin, options)
     return replace(picture, what=options.what)
 
 
 def figure_of(picture: Picture, matrix: Matrix, stops: Stops, folder: str, sheet: Sheet, base: str | None) -> Any:
-    """The figure of a picture over the lines of a feed; in a difference from a base, lines that a scenario adds differ
-    from those that it takes out.
-    """
+    """The figure of a picture over the lines of a feed, in a difference from a base with what a scenario changes."""
     shown_stops = stops.of(picture.drawn or matrix.stops)
     lost = int((~shown_stops.placed).sum())
     if lost == len(shown_stops.identifiers):
@@ -89,12 +78,12 @@ def lines_below(
     folder: str, stops: Stops, projection: Projection, sheet: Sheet, base: str | None
 ) -> tuple[list[drawing.MapLines], str]:
     """The lines on which vehicles run, and what is said of them."""
-    points, shaped = lines_of(folder, stops, projection), has_file(folder, "shapes.txt")
+    drawn = DrawnLines(folder, stops, projection)
     if sheet.planned is None:
-        lines = lines_of_edits(points, folder, shaped, sheet.edits, base)
+        lines = lines_of_edits(drawn, sheet.edits, base)
     else:
-        lines = lines_of_plan(points, folder, shaped, sheet.planned)
-    drawn_from = "Lines as in shapes.txt." if shaped else "Lines drawn straight from stop to stop."
+        lines = lines_of_plan(drawn, sheet.planned)
+    drawn_from = "Lines as in shapes.txt." if drawn.shaped else "Lines drawn straight from stop to stop."
     return lines, f"{drawn_from} {as_sentence(sheet.note)}".strip()
 
 
@@ -109,13 +98,11 @@ def figure_of_isochrones(matrix: Matrix, stops: Stops, folder: str, sheet: Sheet
     there, share = stops.of(matrix.stops), matrix.share(areas.options.share)
     scenario = matrix.scenario(areas.options.scenario or areas.options.base)
     seconds = matrix.seconds(scenario, share, areas.origin).astype(np.float64)
-    bands = bands_of(areas.ground, seconds, areas.walking, areas.options.breaks or BANDS)
-    named = stops.of([areas.origin])
-    title = sheet.title or f"Areas reached from {named.name_of(areas.origin)}"
-    subtitle = f"{bands[-1].shape.area:,.1f} km² within {bands[-1].minutes:g} minutes"
-    place = there.places.get(areas.origin)
-    picture = Picture(
-        title, subtitle, "Reached within", [], np.zeros(0, np.intp), source_of(shown(scenario), share, matrix), place
-    )
-    lines, note = lines_below(folder, stops, areas.ground.projection, sheet, None)
-    return draw_bands(picture, there, lines, note, sheet.width, (areas.ground, bands))
+    limits, ground = areas.options.breaks or BANDS, areas.ground
+    bands = [(minutes, ground.shape_within(seconds, 60 * minutes, areas.walking)) for minutes in limits]
+    title = sheet.title or f"Areas reached from {stops.of([areas.origin]).name_of(areas.origin)}"
+    subtitle = f"{bands[-1][1].area:,.1f} km² within {bands[-1][0]:g} minutes"
+    source, place = pictures.source_of(shown(scenario), share, matrix), there.places.get(areas.origin)
+    picture = Picture(title, subtitle, "Reached within", [], np.zeros(0, np.intp), source, place)
+    lines, note = lines_below(folder, stops, ground.projection, sheet, None)
+    return draw_bands(picture, there, lines, note, sheet.width, bands)

@@ -7,12 +7,13 @@ are classes of their own. Lightness and shape tell classes apart, too, in print.
 
 import math
 from dataclasses import dataclass, replace
-from typing import Sequence
+from typing import Any, Sequence
 
 import numpy as np
 import numpy.typing as npt
 
 from ..faults import counted
+from ..gtfs.fields import Floats
 from ..gtfs.stops import Stops
 from ..matrices import Matrix, Pair, Share, pair_of
 from ..measures.comparison import sides_of
@@ -21,8 +22,10 @@ from ..records import shown
 MINUTES = (10.0, 20.0, 30.0, 45.0, 60.0, 90.0)
 MINUTES_OF_DIFFERENCE = (1.0, 5.0, 15.0)
 PERCENT = (1.0, 5.0, 10.0, 25.0)
+KEY_OF_TIMES, KEY_OF_CHANGES = "Travel time in minutes,\nwaiting included", "Change of travel time"
 MOST_WORST = 40  # stops that lose most, from which names are taken
 Classes = npt.NDArray[np.intp]
+Times = npt.NDArray[Any]  # seconds, NaN where there is none
 
 
 @dataclass(frozen=True)
@@ -35,22 +38,18 @@ class Shade:
 
 @dataclass(frozen=True)
 class Mark:
-    """How the stops of a class are drawn, and what the key says of them; `size` is an area relative to an ordinary
-    mark's.
-    """
+    """How the stops of a class are drawn, and what the key says of them."""
 
     label: str
     colour: str | Shade
     shape: str = "o"
-    size: float = 1.0
+    size: float = 1.0  # an area relative to an ordinary mark's
     edge: str = "#333333"
 
 
 @dataclass(frozen=True)
 class Picture:
-    """What a picture draws: the classes in the key's order, which of them each stop is in, and the
-    texts.
-    """
+    """What a picture draws: the classes in the key's order, which of them each stop is in, and the texts."""
 
     title: str
     subtitle: str
@@ -82,22 +81,14 @@ NO_ORIGIN = Mark("not an origin of the matrix", "#c4c4c4", "o", 0.07, "none")
 DESTINATION = Mark("destinations", "#c4c4c4", "D", 1.3, "#000000")
 
 
-def other_mark(options: PictureOptions) -> Mark:
-    """The mark of what isn't an origin: of points these are the destinations; stops may be anything."""
-    return DESTINATION if options.what == "points" else NO_ORIGIN
-
-
 def shades(count: int, name: str = "plasma", first: float = 0.0, last: float = 0.98) -> list[Shade]:
     """So many colours of a scale, a little further from one another at its first, dark end."""
     return [Shade(name, first + (last - first) * (place / max(1, count - 1)) ** 0.8) for place in range(count)]
 
 
 def source_of(scenario: str, share: Share, matrix: Matrix) -> str:
-    sentences = [
-        f"Scenario {scenario}",
-        *([] if share is None else [f"travel times that {share} % of departures achieve"]),
-    ]
-    return "; ".join([*sentences, *(text for text in (matrix.greatest_stated, matrix.heading) if text)]) + "."
+    travel_times = "" if share is None else f"travel times that {share} % of departures achieve"
+    return "; ".join(filter(None, [f"Scenario {scenario}", travel_times, matrix.greatest_stated, matrix.heading])) + "."
 
 
 def within_stated(limit: int | None) -> str:
@@ -110,20 +101,23 @@ def picture_of_times(matrix: Matrix, stops: Stops, origin: str, options: Picture
     """Travel times from an origin, in classes of minutes."""
     scenario, share = matrix.scenario(options.scenario or options.base), matrix.share(options.share)
     seconds = matrix.seconds(scenario, share, origin)
-    breaks = options.breaks or MINUTES
-    between = [f"{low:g} to {high:g}" for low, high in zip(breaks, breaks[1:])]
-    labels = [f"up to {breaks[0]:g}", *between, f"more than {breaks[-1]:g}"]
-    marks = [Mark(label, colour) for label, colour in zip(labels, shades(len(labels)))] + [NOT_REACHED]
+    marks, classes = classes_of_minutes(seconds, options.breaks or MINUTES)
     there = ~np.isnan(seconds)
-    classes = np.where(there, np.searchsorted(60 * np.array(breaks), seconds, side="left"), len(labels))
     there[matrix.places.get(origin, [])] = False
     half = f", half of them within {math.ceil(float(np.median(seconds[there])) / 60)} minutes" if there.any() else ""
     others = len(seconds) - (origin in matrix.places)
     subtitle = f"{there.sum():,} of {others:,} other {options.what} are reached{half}"
-    title, key = f"Travel time from {stops.name_of(origin)}", "Travel time in minutes,\nwaiting included"
-    return Picture(
-        title, subtitle, key, marks, classes, source_of(shown(scenario), share, matrix), matrix.places.get(origin)
-    )
+    title, source = f"Travel time from {stops.name_of(origin)}", source_of(shown(scenario), share, matrix)
+    return Picture(title, subtitle, KEY_OF_TIMES, marks, classes, source, matrix.places.get(origin))
+
+
+def classes_of_minutes(seconds: Times, breaks: tuple[float, ...]) -> tuple[list[Mark], Classes]:
+    """The classes of travel times, and which of them each is in."""
+    between = [f"{low:g} to {high:g}" for low, high in zip(breaks, breaks[1:])]
+    labels = [f"up to {breaks[0]:g}", *between, f"more than {breaks[-1]:g}"]
+    marks = [*map(Mark, labels, shades(len(labels))), NOT_REACHED]
+    grades = np.searchsorted(60 * np.array(breaks), seconds, side="left")
+    return marks, np.where(np.isnan(seconds), len(labels), grades)
 
 
 def round_step(most: float, count: int) -> int:
@@ -139,11 +133,22 @@ def round_breaks(least: int, most: int) -> tuple[float, ...]:
     return tuple(range((least // step + 1) * step, max(most, least + step), step)) or (most + 1,)
 
 
-def of_origins(drawn: Sequence[str], origins: Sequence[str], classes: Classes, otherwise: int) -> Classes:
-    """The classes of all stops that are drawn, where those of the origins are known."""
-    places, among = np.full(len(drawn), otherwise, np.intp), {name: place for place, name in enumerate(drawn)}
-    places[[among[name] for name in origins]] = classes
-    return places
+def of_all(picture: Picture, matrix: Matrix, origins: Sequence[str], options: PictureOptions) -> Picture:
+    """A picture of origins with all stops that are drawn, which have a mark of their own where they are no origins."""
+    drawn = matrix.stops_and_origins()
+    among = {name: place for place, name in enumerate(drawn)}
+    classes = np.full(len(drawn), len(picture.marks), np.intp)
+    classes[[among[name] for name in origins]] = picture.classes
+    other = DESTINATION if options.what == "points" else NO_ORIGIN  # stops may be anything
+    return replace(picture, marks=[*picture.marks, other], classes=classes, drawn=drawn)
+
+
+def with_names(picture: Picture, ordered: Sequence[str], stops: Stops) -> Picture:
+    """The picture with the first of these stops of each name named."""
+    named, among = dict[str, int](), {name: place for place, name in enumerate(picture.drawn or ())}
+    for stop in ordered:
+        named.setdefault(stops.names[stops.places[stop]], among[stop])
+    return replace(picture, named=tuple(named.values()))
 
 
 def labels_of_counts(breaks: Sequence[float]) -> list[str]:
@@ -162,47 +167,31 @@ def picture_of_access(matrix: Matrix, stops: Stops, options: PictureOptions) -> 
     access = matrix.access(scenario, share)[:, place]
     breaks = options.breaks or round_breaks(int(access.min()), int(access.max()))
     labels = labels_of_counts(breaks)
-    marks = [Mark(label, colour) for label, colour in zip(labels, reversed(shades(len(labels))))] + [
-        other_mark(options)
-    ]
-    found = np.searchsorted(np.array(breaks), access, side="right")
-    drawn = matrix.stops_and_origins()
-    classes = of_origins(drawn, matrix.origins(scenario, share), found, len(labels))
+    marks = [*map(Mark, labels, reversed(shades(len(labels))))]
+    classes = np.searchsorted(np.array(breaks), access, side="right")
     half, most = math.floor(float(np.median(access))), int(access.max())
     origins, within_reach = counted(len(access), options.what), counted(half, options.unit)
     subtitle = f"Half of {origins} reach at least {within_reach}; the most is {most:,}"
     title = f"Access from each {options.what[:-1]}: {options.unit}{within_stated(limit)}"
     key = f"{options.unit.capitalize()} reached{within_stated(limit)}".replace(" within", "\nwithin")
     source = source_of(shown(scenario), share, matrix)
-    return Picture(title, subtitle, key, marks, classes, source, drawn=drawn)
+    picture = Picture(title, subtitle, key, marks, classes, source)
+    return of_all(picture, matrix, matrix.origins(scenario, share), options)
 
 
-@dataclass(frozen=True)
-class DifferenceLabels:
-    """What the classes of a difference are called."""
-
-    unit: str
-    lost: str
-    gained: str
-    gone: str
-    joined: str
-
-
-def marks_of_difference(breaks: Sequence[float], labels: DifferenceLabels) -> list[Mark]:
+def marks_of_difference(breaks: Sequence[float], unit: str, lost: str, gained: str, gone: str, new: str) -> list[Mark]:
     """The classes of a difference: cut off, lost from much to little, hardly any, gained from little to much, new."""
-    between = [f"{low:g} to {high:g} {labels.unit}" for low, high in zip(breaks, breaks[1:])]
-    ranges = between + [f"{breaks[-1]:g} {labels.unit} or more"]
+    between = [f"{low:g} to {high:g} {unit}" for low, high in zip(breaks, breaks[1:])]
+    ranges = between + [f"{breaks[-1]:g} {unit} or more"]
     reds, blues = (shades(len(breaks), "RdBu", first, last) for first, last in ((0.36, 0.08), (0.64, 0.92)))
-    less = [Mark(f"{label} {labels.lost}", colour, "v", 1.4) for label, colour in zip(ranges, reds)]
-    more = [Mark(f"{label} {labels.gained}", colour, "^", 1.4) for label, colour in zip(ranges, blues)]
-    same = Mark(f"less than {breaks[0]:g} {labels.unit} either way", "#d8d8d8", "o", 0.45, "#8a8a8a")
-    gone, joined = Mark(labels.gone, "#000000", "X", 2.0, "#ffffff"), Mark(
-        labels.joined, "#ffd92f", "P", 2.0, "#000000"
-    )
-    return [gone, *reversed(less), same, *more, joined]
+    less = [Mark(f"{label} {lost}", colour, "v", 1.4) for label, colour in zip(ranges, reds)]
+    more = [Mark(f"{label} {gained}", colour, "^", 1.4) for label, colour in zip(ranges, blues)]
+    same = Mark(f"less than {breaks[0]:g} {unit} either way", "#d8d8d8", "o", 0.45, "#8a8a8a")
+    cut_off, newly = Mark(gone, "#000000", "X", 2.0, "#ffffff"), Mark(new, "#ffd92f", "P", 2.0, "#000000")
+    return [cut_off, *reversed(less), same, *more, newly]
 
 
-def classes_of_difference(change: npt.NDArray[np.float64], breaks: Sequence[float]) -> Classes:
+def classes_of_difference(change: Floats, breaks: Sequence[float]) -> Classes:
     """The places of changes among the marks: below 0 is lost."""
     grades = np.searchsorted(np.array(breaks), np.abs(change), side="right")
     classes: Classes = 1 + len(breaks) + np.where(change > 0, grades, -grades)
@@ -225,19 +214,29 @@ def picture_of_time_difference(matrix: Matrix, stops: Stops, origin: str, option
     """Travel times from an origin in a scenario, compared with the base."""
     pair = pair_of(matrix, options.base, options.scenario, options.share)
     before, after = (matrix.seconds(name, pair.share, origin) for name in (pair.base, pair.other))
+    marks, classes, subtitle = changes_of_times(before, after, options)
+    title = f"Travel time from {stops.name_of(origin)}: {beside(pair)}"
+    source = source_of(beside(pair), pair.share, matrix)
+    return Picture(title, subtitle, KEY_OF_CHANGES, marks, classes, source, matrix.places.get(origin))
+
+
+def changes_of_times(before: Times, after: Times, options: PictureOptions) -> tuple[list[Mark], Classes, str]:
+    """The classes of changes of travel times (seconds, NaN for none), that of each, and how many are in them."""
     breaks = options.breaks or MINUTES_OF_DIFFERENCE
-    labels = DifferenceLabels("min", "slower", "faster", "cut off: not reached now", "new: not reached before")
-    marks = [*marks_of_difference(breaks, labels), replace(NOT_REACHED, label="not reached in either")]
-    classes = classes_of_difference(np.nan_to_num((before - after).astype(np.float64) / 60), breaks)
+    gone_and_new = "cut off: not reached now", "new: not reached before"
+    marks = marks_of_difference(breaks, "min", "slower", "faster", *gone_and_new)
+    marks.append(replace(NOT_REACHED, label="not reached in either"))
+    classes = classes_of_difference(minutes_gained(before, after), breaks)
     gone, new = np.isnan(after), np.isnan(before)
     classes[gone & ~new], classes[new & ~gone], classes[new & gone] = 0, len(marks) - 2, len(marks) - 1
     counts = counts_stated(classes, breaks, ("cut off", "slower", "faster", "newly reached"))
-    title, subtitle = (
-        f"Travel time from {stops.name_of(origin)}: {beside(pair)}",
-        f"Of {len(matrix.stops):,} {options.what} {counts}",
-    )
-    source = source_of(beside(pair), pair.share, matrix)
-    return Picture(title, subtitle, "Change of travel time", marks, classes, source, matrix.places.get(origin))
+    return marks, classes, f"Of {len(before):,} {options.what} {counts}"
+
+
+def minutes_gained(before: Times, after: Times) -> Floats:
+    """By how many minutes travel times fall; 0 where there is none."""
+    minutes: Floats = np.nan_to_num((before - after).astype(np.float64) / 60)
+    return minutes
 
 
 def picture_of_access_difference(matrix: Matrix, stops: Stops, options: PictureOptions) -> Picture:
@@ -245,13 +244,13 @@ def picture_of_access_difference(matrix: Matrix, stops: Stops, options: PictureO
     place, limit = matrix.limit(options.within)
     pair = pair_of(matrix, options.base, options.scenario, options.share)
     breaks = options.breaks or PERCENT
-    labels = DifferenceLabels("%", "lost", "gained", "cut off: all of it lost", "newly reached: none before")
-    marks = [*marks_of_difference(breaks, labels), other_mark(options)]
+    gone_and_new = "cut off: all of it lost", "newly reached: none before"
+    marks = marks_of_difference(breaks, "%", "lost", "gained", *gone_and_new)
     first, second = pair.access(place)
     percent = 100 * (second - first) / np.where(first == 0, 1, first)
     sides = sides_of(first, second)
     classes = classes_of_difference(percent, breaks)
-    classes[sides.newly_reached], classes[sides.cut_off] = len(marks) - 2, 0
+    classes[sides.newly_reached], classes[sides.cut_off] = len(marks) - 1, 0
     subtitle = f"Of {len(classes):,} {options.what} {sides.sentence()}"
     order = np.argsort(percent, kind="stable")[:MOST_WORST]
     worst = [pair.origins[row] for row in order[percent[order] <= -breaks[0]].tolist()]
@@ -259,17 +258,7 @@ def picture_of_access_difference(matrix: Matrix, stops: Stops, options: PictureO
         most, lost = -percent[order[0]], int(first[order[0]] - second[order[0]])
         subtitle += f"; the greatest loss: {most:.0f} % ({counted(lost, options.unit)}) at {stops.name_of(worst[0])}"
     title = f"Access from each {options.what[:-1]}: {options.unit}{within_stated(limit)}, {beside(pair)}"
-    key, source = f"Change of access:\n{options.unit}{within_stated(limit)}", source_of(
-        beside(pair), pair.share, matrix
-    )
-    drawn = matrix.stops_and_origins()
-    classes = of_origins(drawn, pair.origins, classes, len(marks) - 1)
-    return Picture(title, subtitle, key, marks, classes, source, None, first_names(drawn, worst, stops), drawn)
-
-
-def first_names(drawn: Sequence[str], ordered: Sequence[str], stops: Stops) -> tuple[int, ...]:
-    """The places of the first of these stops with each name."""
-    named, among = dict[str, int](), {name: place for place, name in enumerate(drawn)}
-    for stop in ordered:
-        named.setdefault(stops.names[stops.places[stop]], among[stop])
-    return tuple(named.values())
+    key = f"Change of access:\n{options.unit}{within_stated(limit)}"
+    source = source_of(beside(pair), pair.share, matrix)
+    picture = of_all(Picture(title, subtitle, key, marks, classes, source), matrix, pair.origins, options)
+    return with_names(picture, worst, stops)

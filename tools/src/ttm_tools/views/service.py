@@ -1,7 +1,7 @@
 """What is shown of service: tables by route and direction, by route, in all, or by stop; what a scenario costs."""
 
 from dataclasses import dataclass, fields
-from typing import Any, BinaryIO, Iterator, Sequence
+from typing import Any, BinaryIO, Iterator, Mapping, Sequence
 
 import numpy as np
 
@@ -9,11 +9,11 @@ from ..column_list import SERVICE, SERVICE_OF_STOPS, names_of
 from ..gtfs.stops import in_folder
 from ..measures.columns import header
 from ..measures.service import Period, ServiceRuns, Service, departures_by_stop, headway_stops, service_of
-from ..gtfs.fields import clock
+from ..gtfs.fields import Whole, clock
 from ..records import rows, shown, write_rows
-from ..gtfs.fields import Whole
 from ..gtfs.timetable import Timetable
 from .equity import significant
+from .journeys import routes_called
 
 DIRECTION, ROUTE, ALL, STOP = "direction", "route", "all", "stop"
 
@@ -39,8 +39,6 @@ class Day:
 
 @dataclass(frozen=True)
 class ServiceLine:
-    """What a line says."""
-
     scenario: str
     key: tuple[str, str]
     period: Period
@@ -51,24 +49,22 @@ def groups_of(timetable: Timetable, by: str, scenarios: Sequence[str]) -> Groups
     """Directions of routes, routes, or all trips as one, in the order of their routes in trips.txt. What a scenario of
     a plan adds to a route, under the route's name with an @ and its own behind it, is of that route.
     """
-    folder, names = timetable.folder, dict[str, str]()
-    for _, (route, short, long) in rows(
-        in_folder(folder, "routes.txt"), ["route_id"], ["route_short_name", "route_long_name"]
-    ):
-        names[route] = shown(short.strip() or long.strip() or route)
+    folder = timetable.folder
+    names = routes_called(folder)
     directions = [fields[1] for _, fields in rows(in_folder(folder, "trips.txt"), ["trip_id"], ["direction_id"])]
-    ends = [f"@{name}" for name in scenarios]
-    own = {
-        route: next((base for base in (route.removesuffix(end) for end in ends) if base != route), route)
-        for route in names
-    }
-    own = {route: base if base in names else route for route, base in own.items()}
+    own = {route: route_of(route, names, scenarios) for route in names}
     keys = [
         ("", "") if by == ALL else (own.get(route, route), "" if by == ROUTE else direction.strip())
         for route, direction in zip(timetable.routes, directions)
     ]
     known = {key: place for place, key in enumerate(dict.fromkeys(keys))}
     return Groups(list(known), np.array([known[key] for key in keys], dtype=np.int64), by, names)
+
+
+def route_of(route: str, names: Mapping[str, str], scenarios: Sequence[str]) -> str:
+    """The route that a route is of: another, where a scenario of a plan added it to that one."""
+    base = next((route.removesuffix(f"@{name}") for name in scenarios if route.endswith(f"@{name}")), route)
+    return base if base in names else route
 
 
 def lines_of(day: Day, groups: Groups) -> Iterator[ServiceLine]:
@@ -101,7 +97,6 @@ def period_shown(period: Period) -> str:
 
 
 def texts_of(service: Service) -> list[str]:
-    """The numbers of a line."""
     return [text_of(getattr(service, own.name), **own.metadata) for own in fields(Service)]
 
 
@@ -112,20 +107,13 @@ def text_of(number: float, is_time: bool = False, decimals: int = 4, **_: Any) -
 
 
 def write_lines(out: BinaryIO, lines: Iterator[ServiceLine], groups: Groups) -> None:
-    """Writes the table by route."""
     write_rows(out, [*names_of(SERVICE), *header(Service)], (fields_of(line, groups) for line in lines))
 
 
 def fields_of(line: ServiceLine, groups: Groups) -> list[str]:
     route, direction = line.key
-    return [
-        line.scenario,
-        route,
-        groups.names.get(route, ""),
-        direction,
-        period_shown(line.period),
-        *texts_of(line.service),
-    ]
+    named = [line.scenario, route, groups.names.get(route, ""), direction]
+    return [*named, period_shown(line.period), *texts_of(line.service)]
 
 
 def write_stops(out: BinaryIO, day: Day) -> None:
@@ -148,10 +136,8 @@ def stop_fields(day: Day) -> Iterator[list[str]]:
 def costs_stated(day: Day) -> list[str]:
     """What runs in the first scenario, and each other one compared with it, all periods together."""
     whole = Period(min(period.start for period in day.periods), max(period.end for period in day.periods))
-    found = {
-        name: service_of(runs, np.ones(len(runs.trip), dtype=np.bool_), whole, -1) for name, runs in day.running.items()
-    }
-    (base, first), *others = found.items()
+    every = {name: np.ones(len(runs.trip), dtype=np.bool_) for name, runs in day.running.items()}
+    (base, first), *others = ((name, service_of(runs, every[name], whole, -1)) for name, runs in day.running.items())
     lines = [f"{shown(base)}: {', '.join(f'{number} {what}' for what, number in numbers_of(first))}"]
     for name, service in others:
         pairs = zip(numbers_of(first), numbers_of(service))

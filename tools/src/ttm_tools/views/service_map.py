@@ -16,14 +16,8 @@ WIDTHS = (0.4, 0.8, 1.4, 2.2, 3.2, 4.4, 6.0)  # points
 COLOUR, INCHES, MARGIN = "#27408b", 9.0, 0.04
 
 
-def widths_of(rates: Any) -> Any:
-    """The class of each number of vehicles an hour."""
-    return np.searchsorted(np.array(CLASSES), rates, side="right")
-
-
 @text_alone
 def figure_of(day: Day, scenario: str, period: Period) -> Any:
-    """The figure of one scenario and one period."""
     from matplotlib.collections import LineCollection
     from matplotlib.figure import Figure
     from matplotlib.lines import Line2D
@@ -36,7 +30,8 @@ def figure_of(day: Day, scenario: str, period: Period) -> Any:
     one, other, counts = departures_by_piece(day.running[scenario], period)
     kept = stops.placed[one] & stops.placed[other]
     segments = np.stack([ends[one[kept]], ends[other[kept]]], axis=1)
-    classes = widths_of(counts[kept] / ((period.end - period.start) / 3600))
+    rates = counts[kept] / ((period.end - period.start) / 3600)
+    classes = np.searchsorted(np.array(CLASSES), rates, side="right")
     order = np.argsort(classes, kind="stable")
     figure = Figure(figsize=(INCHES, INCHES), dpi=135, facecolor="white")
     axes = figure.add_axes((MARGIN, MARGIN, 1 - 2 * MARGIN, 0.88))

@@ -26,10 +26,8 @@ def write_page(out: BinaryIO, day: Day, groups: Groups, lines: list[ServiceLine]
         own = [line for line in lines if line.key == key]
         if not own:
             continue
-        minutes = {
-            name: (int(stops[name][place]), hours_of(running, groups, place, int(stops[name][place])))
-            for name, running in day.running.items()
-        }
+        calls_at = {name: int(stops[name][place]) for name in day.running}
+        minutes = {name: (stop, hours_of(day.running[name], groups, place, stop)) for name, stop in calls_at.items()}
         for text in section_of(day, heading_of(key, groups), minutes, own):
             out.write(text.encode("utf-8", "backslashreplace"))
     out.write(b"</html>\n")
@@ -66,10 +64,8 @@ def section_of(
     for hour in sorted({hour for _, by_hour in minutes.values() for hour in by_hour}):
         cells = [" ".join(f"{minute:02}" for minute in by_hour.get(hour, [])) for _, by_hour in minutes.values()]
         yield f"<tr><th>{hour:02}</th>{''.join(f'<td>{cell}</td>' for cell in cells)}</tr>\n"
-    heads = "".join(
-        f"<th>{name}</th>" for name in ["Period", "Scenario", *(own.metadata["head"] for own in fields(Service))]
-    )
-    yield f"</table>\n<table><tr>{heads}</tr>\n"
+    names = ["Period", "Scenario", *(own.metadata["head"] for own in fields(Service))]
+    yield f"</table>\n<table><tr>{''.join(f'<th>{name}</th>' for name in names)}</tr>\n"
     for line in lines:
         numbers = "".join(f'<td class="n">{text}</td>' for text in texts_of(line.service))
         yield f"<tr><td>{period_shown(line.period)}</td><td>{escape(shown(line.scenario))}</td>{numbers}</tr>\n"

@@ -14,9 +14,8 @@ def write_table(out: BinaryIO, header: Sequence[str], rows: Sequence[Sequence[ob
     if form == CSV:
         write_rows(out, header, rows)
         return
-    lines = [
-        [markdown(shown(str(text))) for text in row] for row in ([column.replace("_", " ") for column in header], *rows)
-    ]
+    columns = [column.replace("_", " ") for column in header]
+    heads, *lines = [[markdown(shown(str(text))) for text in row] for row in (columns, *rows)]
     bars = ["---"] * WORDS + ["---:"] * (len(header) - WORDS)
-    for cells in (lines[0], bars, *lines[1:]):
+    for cells in (heads, bars, *lines):
         out.write(f"| {' | '.join(cells)} |\n".encode("utf-8", "backslashreplace"))

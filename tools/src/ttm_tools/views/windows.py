@@ -14,9 +14,9 @@ from ..gtfs.stops import Projection, Stops
 from ..measures.equity import TENTHS, mean, part
 from ..records import shown
 from .equity import COLOURS
-from .texts import text_alone
+from .texts import figure_with, text_alone
 
-WIDE, ACROSS = 10.0, 4  # inches, and panels in a row
+ACROSS = 4  # panels in a row
 MOST_ACROSS = 6  # maps in a row where each row is a day
 HEAD, FOOT = 0.7, 0.55  # inches above and below the panels
 MOST_MAPS = 24
@@ -42,8 +42,6 @@ class WindowColumn:
 
 @dataclass(frozen=True)
 class FigureLabels:
-    """What the pictures say."""
-
     kind: str  # what is measured, such as "jobs within 30 minutes"
     unit: str
     people: str  # whom the means count
@@ -55,17 +53,7 @@ def levels(numbers: Floats, people: Floats) -> tuple[float, float]:
     return mean(numbers, people), mean(numbers, part(numbers, people, 0, 1 / TENTHS))
 
 
-def figure_with(title: str, height: float) -> Any:
-    """An empty figure below its title."""
-    from matplotlib.figure import Figure
-
-    figure = Figure(figsize=(WIDE, height), dpi=135, facecolor="white")
-    figure.text(0.02, 1 - 0.15 / height, title, fontsize=13, fontweight="bold", va="top", parse_math=False)
-    return figure
-
-
 def days_of(columns: Sequence[WindowColumn]) -> list[tuple[str, list[WindowColumn]]]:
-    """The windows of each day."""
     return [(day, list(own)) for day, own in itertools.groupby(columns, lambda column: column.day)]
 
 

@@ -2,10 +2,11 @@
 
 from ..faults import needs, quantity
 from ..gtfs.stops import Stops
+from ..records import Rounded
 from .straight import Pace, Walks, distances, points_of, read_walks, straight_walks
 
 NEAR = 100.0  # metres to a street
-__all__ = ["NEAR", "Pace", "Walks", "distances", "points_of", "read_walks", "straight_walks", "summary", "walks_of"]
+__all__ = ["NEAR", "Pace", "Walks", "distances", "footpaths_of", "points_of", "straight_walks", "summary", "walks_of"]
 
 
 def walks_of(
@@ -21,6 +22,20 @@ def walks_of(
     from .streets import street_walks
 
     return street_walks(stops, pace, read_streets(streets), near, first)
+
+
+def footpaths_of(
+    stops: Stops, table: str | None, pace: Pace, streets: str | None, near: float
+) -> tuple[list[tuple[str, str, int]], str]:
+    """The footpaths of a table, or else the walks between all stops; and what is reported of them."""
+    if table:
+        rounded = Rounded()
+        rows = read_walks(table, stops, rounded)
+        sentence = f"{quantity(rounded.count, 'time')} with decimals rounded up"
+    else:
+        found = walks_of(stops, pace, streets, near)
+        rows, sentence = found.rows(), summary(found, "stops", near)
+    return rows, f"{quantity(len(rows), 'footpath')}; {sentence}"
 
 
 def summary(walks: Walks, what: str, near: float) -> str:

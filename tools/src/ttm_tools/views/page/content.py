@@ -1,7 +1,8 @@
 """What a page is made of: places, travel times in minutes, access, and lines, as numbers."""
 
-from dataclasses import dataclass, field
-from typing import Sequence
+import itertools
+from dataclasses import dataclass
+from typing import TYPE_CHECKING, Any, Sequence
 
 import numpy as np
 import numpy.typing as npt
@@ -15,56 +16,43 @@ from ...measures.access import STEP, Decay, times_to
 from ...measures.opportunities import Counts, read_counts
 from ...records import shown
 from .parts import Bytes, minutes_of
-from .places import PagePlaces, places_of
+from .places import in_order
+
+if TYPE_CHECKING:
+    from .make import PageSettings
 
 MOST_CELLS = 60_000_000  # that a page takes
-Numbers = npt.NDArray[np.intp]
+PageTimes = tuple[Bytes, Floats]
 
 
 @dataclass(frozen=True)
 class PageOptions:
     """What of a matrix a page is to show."""
 
+    settings: "PageSettings"
+    what: str  # stops or points
     scenarios: list[str]  # the base first
     shares: list[Share]
-    cutoffs: Sequence[float]  # of access, minutes
-    what: str = "stops"  # or points
-    opportunities: list[str] = field(default_factory=list)  # files of what is counted
-    people: list[str] = field(default_factory=list)  # and of who lives at the origins
+    most_cells: int
     origins: list[str] | None = None  # whose travel times are taken; None for all that there is room for
-    seed: int = 1  # of the draw where there is no room for all
-    most_cells: int = MOST_CELLS
-    nearest: Sequence[float] = ()  # how many of the nearest opportunities are looked for
 
 
 @dataclass(frozen=True)
 class Ground:
     """The places of a page, and what of the matrix stands for them."""
 
-    places: PagePlaces
+    places: Stops
     columns: list[str]  # the stops to which travel times are shown, in the order of places
     origins: list[str]  # those from which access is shown
     rows: list[str]  # the origins whose travel times the page has
 
     def at(self, names: Sequence[str]) -> npt.NDArray[np.int32]:
-        """The numbers of some of the places."""
-        numbers = {name: number for number, name in enumerate(self.places.identifiers)}
-        return np.array([numbers[name] for name in names], dtype=np.int32)
-
-
-@dataclass(frozen=True)
-class PageTimes:
-    """Of a scenario and a share: the cells, and access by origin and measure."""
-
-    cells: Bytes
-    access: Floats
+        return np.array([self.places.places[name] for name in names], dtype=np.int32)
 
 
 @dataclass(frozen=True)
 class PageMeasure:
-    """What access counts, and within how many seconds; None where the matrix doesn't name it, and for the time to so
-    many of the nearest.
-    """
+    """What access counts, and within how many seconds: None where the matrix doesn't say it, and for the nearest."""
 
     of: str
     short: str
@@ -74,73 +62,65 @@ class PageMeasure:
 
 @dataclass(frozen=True)
 class Content:
-    """All numbers of a page."""
-
     ground: Ground
     counts: Counts  # by place
     people: int  # the number of last columns of counts that are people
     hidden: list[str]  # what is counted, and lies in part at stops that aren't shown
     away: list[str]  # what is counted, and lies at no place at which journeys end
     measures: list[PageMeasure]
-    times: list[list[PageTimes]]  # by scenario and share
+    times: list[list[PageTimes]]  # by scenario and share: the cells, and access by origin and measure
 
 
 def origins_of(matrix: Matrix, options: PageOptions) -> list[str]:
     """The origins, which each scenario and share has."""
     base = options.scenarios[0]
     first = matrix.origins(base, options.shares[0])
-    for scenario in options.scenarios:
-        for share in options.shares:
-            lost = lacking((base, first), (scenario, matrix.origins(scenario, share)))
-            if lost is not None:
-                raise BadInput(matrix.path, lost)
+    for scenario, share in itertools.product(options.scenarios, options.shares):
+        lost = lacking((base, first), (scenario, matrix.origins(scenario, share)))
+        if lost is not None:
+            raise BadInput(matrix.path, lost)
     return first
 
 
 def ground_of(matrix: Matrix, stops: Stops, options: PageOptions) -> Ground:
     """The places in their order, and the rows that there is room for."""
     origins = origins_of(matrix, options)
-    places = places_of(stops, list(dict.fromkeys([*matrix.stops, *origins]))).in_order()
-    columns, starts = (
-        [name for name in places.identifiers if name in among] for among in (matrix.places, set(origins))
-    )
+    places, among = in_order(stops.of(list(dict.fromkeys([*matrix.stops, *origins])))), set(origins)
+    columns = [name for name in places.identifiers if name in matrix.places]
+    starts = [name for name in places.identifiers if name in among]
     if np.isnan(places.latitudes).all():
         raise BadInput(stops.path, f"none of the {options.what} has coordinates, so there is nothing to show")
     wanted = set(starts if options.origins is None else options.origins)
     rows = [name for name in starts if name in wanted]
     room = options.most_cells // max(1, len(columns) * len(options.scenarios) * len(options.shares))
     if options.origins is None and len(rows) > room:
-        drawn = np.random.default_rng(options.seed).choice(len(rows), room, replace=False)
+        drawn = np.random.default_rng(options.settings.seed).choice(len(rows), room, replace=False)
         rows = [rows[place] for place in np.sort(drawn).tolist()]
     return Ground(places, columns, starts, rows)
 
 
 def counts_of(known: Sequence[str], options: PageOptions) -> tuple[Counts, int]:
     """What is counted, by stop of the matrix, and how many of the columns are people."""
-    found = [read_counts(paths, known, "stop of the matrix") for paths in (options.opportunities, options.people)]
+    settings = options.settings
+    found = [read_counts(paths, known, "stop of the matrix") for paths in (settings.opportunities, settings.people)]
     both = [name for name in found[1].names if name in found[0].names]
     if both:
-        raise BadInput(", ".join(options.people), f"a column {shown(both[0])} is among the opportunities too")
+        raise BadInput(", ".join(settings.people), f"a column {shown(both[0])} is among the opportunities too")
     names = [shown(name) for counts in found for name in counts.names]
     return Counts(names, np.concatenate([counts.numbers for counts in found], axis=1)), len(found[1].names)
 
 
-def measures_of(
-    matrix: Matrix, names_there: Sequence[str], names_sought: Sequence[str], options: PageOptions, unit: str
-) -> list[PageMeasure]:
-    """What access is shown: that of the matrix, then stops (or points) and what is counted, within each cutoff; then
-    the time to the nearest.
-    """
+def measures_of(matrix: Matrix, names: Sequence[str], sought: Sequence[str], options: PageOptions) -> list[PageMeasure]:
+    """What access is shown: that of the matrix, of stops (or points) and what is counted; and times to the nearest."""
+    settings, unit = options.settings, options.settings.unit
     own = [PageMeasure(f"{unit} (as ttm counted them)", unit, limit) for limit in matrix.layout.limits]
-    names = [options.what, *names_there]
-    sought = [PageMeasure(f"nearest {name}", name, None, count) for name in names_sought for count in options.nearest]
-    return own + [PageMeasure(name, name, round(60 * cutoff)) for name in names for cutoff in options.cutoffs] + sought
+    names = [options.what, *names]
+    times = [PageMeasure(f"nearest {name}", name, None, count) for name in sought for count in settings.nearest]
+    return own + [PageMeasure(name, name, round(60 * cutoff)) for name in names for cutoff in settings.cutoffs] + times
 
 
-def content_of(whole: Matrix, matrix: Matrix, stops: Stops, options: PageOptions, unit: str) -> Content:
-    """Everything that is read for a page of a matrix, or of a part of it, the points; access counts what lies at all
-    stops.
-    """
+def content_of(whole: Matrix, matrix: Matrix, stops: Stops, options: PageOptions) -> Content:
+    """What is read for a page of a matrix, or of its points alone; access counts what lies at all stops."""
     ground, known = ground_of(matrix, stops, options), whole.stops_and_origins()
     counts, people = counts_of(known, options)
     at = {name: number for number, name in enumerate(known)}
@@ -156,7 +136,7 @@ def content_of(whole: Matrix, matrix: Matrix, stops: Stops, options: PageOptions
     away = [name for name, is_there in zip(counts.names, reached.tolist()) if not is_there]
     hidden = [name for name, lost in zip(counts.names, (whole_sums > sums).tolist()) if lost and name not in away]
     names_sought = [name for name, is_sought in zip(counts.names, sought.tolist()) if is_sought]
-    measures = measures_of(matrix, [name for name in counts.names if name not in away], names_sought, options, unit)
+    measures = measures_of(matrix, [name for name in counts.names if name not in away], names_sought, options)
     return Content(ground, Counts(counts.names, there), people, hidden, away, measures, times)
 
 
@@ -171,40 +151,33 @@ class Reading:
     options: PageOptions
 
     def times(self, scenario: str, share: Share) -> PageTimes:
-        found = self.whole.origins(scenario, share)
-        numbers = {name: number for number, name in enumerate(found)}
-        order = np.array([numbers[name] for name in self.ground.origins], dtype=np.intp)
-        own = self.whole.access(scenario, share).astype(np.float64)
-        cells, sums = self.cells_and_sums(scenario, share)
-        access = np.concatenate([own, sums], axis=1)[order]
-        return PageTimes(cells, access)
-
-    def cells_and_sums(self, scenario: str, share: Share) -> tuple[Bytes, Floats]:
-        """The cells of the page's rows, and the sums of all rows in the matrix' order."""
         matrix, ground = self.whole, self.ground
         columns = np.array([matrix.places[name] for name in ground.columns], dtype=np.intp)
         rows = {name: row for row, name in enumerate(ground.rows)}
         cells = np.zeros((len(rows), len(columns)), np.uint8)
-        sums = [self.sums(np.zeros((0, len(matrix.stops)), np.float32))]
-        count = -(-len(matrix.origins(scenario, share)) // matrix.rows_at_once())
+        sums = [self.sums(np.zeros((0, len(matrix.stops)), np.float32))]  # of all origins of the matrix
+        origins = {name: number for number, name in enumerate(matrix.origins(scenario, share))}
+        count = -(-len(origins) // matrix.rows_at_once())
         for block in progress.shown(matrix.blocks(scenario, share), count, f"{scenario} {share or ''}", "blocks"):
             sums.append(self.sums(block.seconds))
             taken = np.array([place for place, name in enumerate(block.origins) if name in rows], dtype=np.intp)
             cells[[rows[block.origins[place]] for place in taken]] = minutes_of(block.seconds[taken][:, columns])
-        return cells, np.concatenate(sums)
+        own = matrix.access(scenario, share).astype(np.float64)
+        order = np.array([origins[name] for name in ground.origins], dtype=np.intp)
+        return cells, np.concatenate([own, np.concatenate(sums)], axis=1)[order]
 
     def sums(self, seconds: npt.NDArray[np.float32]) -> Floats:
-        """What is reached from some origins: for each thing that is counted, within each cutoff; then the minutes to
-        the nearest.
-        """
-        decay, count = Decay(STEP), len(seconds)
-        found = np.stack([decay.weights(seconds, cutoff) @ self.numbers for cutoff in self.options.cutoffs], axis=2)
-        sums: Floats = found.reshape(count, found.shape[1] * found.shape[2])
-        if not self.options.nearest or not self.sought.shape[1]:
+        """What is reached from some origins: of each thing within each cutoff; then the minutes to the nearest."""
+        decay, settings = Decay(STEP), self.options.settings
+        found = np.stack([decay.weights(seconds, cutoff) @ self.numbers for cutoff in settings.cutoffs], axis=2)
+        sums: Floats = flat(found)
+        if not settings.nearest or not self.sought.shape[1]:
             return sums
         used = np.flatnonzero(self.sought.any(axis=1))
-        times = times_to(seconds[:, used], self.sought[used], self.options.nearest).astype(np.float32)
-        sums_of_window: Floats = np.concatenate(
-            [sums, minutes_of(times.reshape(count, times.shape[1] * times.shape[2]))], axis=1
-        )
-        return sums_of_window
+        times = times_to(seconds[:, used], self.sought[used], settings.nearest).astype(np.float32)
+        return np.concatenate([sums, minutes_of(flat(times))], axis=1)
+
+
+def flat(numbers: npt.NDArray[Any]) -> npt.NDArray[Any]:
+    """The numbers of each row one after another."""
+    return numbers.reshape(len(numbers), numbers.shape[1] * numbers.shape[2])

@@ -20,26 +20,13 @@ from ...records import shown
 from .content import Content
 from .lines import Lines
 from .parts import Element, blocks_of, part, rows_in_block
+from .places import degrees_of, rings_of
 from .streets import ASIDE, PageStreets
 
 ASSETS = Path(__file__).resolve().parent / "assets"
 LEAFLET = "/usr/share/javascript/leaflet"
-SCRIPTS = (
-    "data.js",
-    "cells.js",
-    "classes.js",
-    "areas.js",
-    "stamps.js",
-    "layer.js",
-    "figures.js",
-    "panel.js",
-    "nearest.js",
-    "reached.js",
-    "streets.js",
-    "bands.js",
-    "search.js",
-    "main.js",
-)
+NAMES = "data cells classes areas stamps layer figures panel nearest reached streets bands search main"
+SCRIPTS = tuple(f"{name}.js" for name in NAMES.split())
 STYLES = ("page.css",)
 
 
@@ -77,10 +64,10 @@ def leaflet_files(folder: str) -> tuple[str, str]:
 def parts_of(content: Content, lines: Lines) -> Iterator[Element]:
     """All numbers of a page, as `assets/data.js` reads them."""
     ground = content.ground
-    yield part("places", ground.places.degrees())
-    yield part("widths", ground.places.widths.astype(np.float32))
-    yield part("heights", ground.places.heights.astype(np.float32))
-    for name, rings in zip(("area-rings", "area-corners"), ground.places.rings()):
+    yield part("places", degrees_of(ground.places))
+    for name, sides in zip(("widths", "heights"), np.nan_to_num(ground.places.sides()).T):
+        yield part(name, sides.astype(np.float32))
+    for name, rings in zip(("area-rings", "area-corners"), rings_of(ground.places)):
         yield part(name, rings)
     for name, names in (("columns", ground.columns), ("origins", ground.origins), ("rows", ground.rows)):
         yield part(name, ground.at(names))
@@ -90,11 +77,11 @@ def parts_of(content: Content, lines: Lines) -> Iterator[Element]:
         for name in ("taken", "changed", "added"):
             yield part(f"{name}-{scenario}", getattr(change, name))
     for scenario, by_share in enumerate(content.times):
-        for share, times in enumerate(by_share):
+        for share, (cells, access) in enumerate(by_share):
             key = f"{scenario}-{share}"
-            yield part(f"access-{key}", times.access.T)
-            below = content.times[0][share].cells if scenario else None
-            for number, block in enumerate(blocks_of(times.cells, below)):
+            yield part(f"access-{key}", access.T)
+            below = content.times[0][share][0] if scenario else None
+            for number, block in enumerate(blocks_of(cells, below)):
                 yield part(f"cells-{key}-{number}", block)
 
 
@@ -170,13 +157,8 @@ def write_page(out: BinaryIO, content: Content, lines: Lines, frame: Frame, kind
 
     script, style = leaflet_files(frame.leaflet)
     scripts, styles = [script, *kind.texts(kind.scripts)], [style, *kind.texts(kind.styles)]
-    rooms = Environment(
-        loader=FileSystemLoader(kind.folders),
-        autoescape=True,
-        undefined=StrictUndefined,
-        trim_blocks=True,
-        lstrip_blocks=True,
-    )
+    blocks: dict[str, Any] = {"trim_blocks": True, "lstrip_blocks": True}
+    rooms = Environment(loader=FileSystemLoader(kind.folders), autoescape=True, undefined=StrictUndefined, **blocks)
     known = {
         "frame": frame,
         "policy": policy_of(scripts, styles, frame.tiles, kind.connects),

@@ -2,19 +2,22 @@
 
 import os
 from dataclasses import dataclass
+from functools import cached_property
 from typing import Sequence
 
 import numpy as np
 import numpy.typing as npt
 
 from ...faults import BadInput
-from ...gtfs.lines import GRID, LinePoints, Trips, lines_of, pieces, read_trips, removed_trips
+from ...gtfs.lines import GRID, Trips, lines_of, pieces, read_trips, removed_trips
 from ...gtfs.stops import Projection, Stops, has_file
 from ...matrices import TODAY
 from ...records import shown
 from .places import MICRO
 
+OnGrid = npt.NDArray[np.int32]  # x, y of both ends, on the grid
 Pieces = npt.NDArray[np.int32]  # latitude, longitude of both ends, in millionths of a degree
+NONE = np.zeros((0, 4), np.int32)
 STRAIGHT = "Lines are drawn straight from stop to stop."
 OF_PLANS = "scenarios"  # the folder in a feed's folder where ttm-tools scenarios writes scenario files
 
@@ -37,41 +40,53 @@ class Lines:
     source: str
 
 
-@dataclass(frozen=True)
 class DrawnLines:
-    """What lines are drawn of."""
+    """The lines of a feed, by the trips that run along them."""
 
-    points: LinePoints
-    trips: Trips
-    shaped: bool  # whether the lines are those of shapes
-    projection: Projection
+    def __init__(self, folder: str, stops: Stops, projection: Projection) -> None:
+        self.folder = folder
+        self.points = lines_of(folder, stops, projection)
+        self.shaped = has_file(folder, "shapes.txt")  # whether the lines are those of shapes
 
-    def pieces(self, trips: set[str]) -> npt.NDArray[np.int32]:
+    @cached_property
+    def trips(self) -> Trips:
+        return read_trips(self.folder, self.shaped)
+
+    def removed(self, edits: str) -> set[str]:
+        return removed_trips(self.trips, edits)
+
+    def pieces(self, trips: set[str]) -> OnGrid:
         """Where some trips run, on the grid."""
-        return pieces(self.points.of_lines(self.trips.lines(trips, self.shaped)))
-
-    def change(self, gone: set[str], new: set[str]) -> LineChange:
-        """What is another where some trips go and others come."""
-        return change_of(self.pieces(gone), self.pieces(new), self.projection)
+        return pieces(self.points.of_lines(self.trips.lines(trips, self.shaped))) if trips else NONE
 
 
-def change_of(before: npt.NDArray[np.int32], after: npt.NDArray[np.int32], projection: Projection) -> LineChange:
+def on_grid(before: OnGrid, after: OnGrid) -> LineChange:
     """What is another where trips ran along some pieces of the grid and others run along these."""
     both = among(after, before)
-    found = (before[~among(before, after)], after[both], after[~both])
-    return LineChange(*(in_degrees(segments, projection) for segments in found))
+    return LineChange(before[~among(before, after)], after[both], after[~both])
+
+
+def change_of(before: OnGrid, after: OnGrid, projection: Projection) -> LineChange:
+    """The same in degrees."""
+    found = on_grid(before, after)
+    return LineChange(*(in_degrees(some, projection) for some in (found.taken, found.changed, found.added)))
+
+
+def name_of(edits: str) -> str:
+    return os.path.basename(edits).removesuffix(".csv")
+
+
+def plan_files(folder: str, scenarios: Sequence[str]) -> dict[str, str]:
+    """Where `ttm-tools scenarios` writes the scenario files of a plan in a feed's folder, by the scenarios."""
+    return {name: os.path.join(folder, OF_PLANS, f"{name}.csv") for name in scenarios}
 
 
 def scenario_files(folder: str, scenarios: Sequence[str], edits: Sequence[str]) -> dict[str, str]:
-    """The scenario files by the scenarios, which the page has: those that are named, and of a plan's scenarios those
-    that lie in the feed's folder.
-    """
-    files = {}
-    if scenarios[0] == TODAY:
-        beside = {name: os.path.join(folder, OF_PLANS, f"{name}.csv") for name in scenarios}
-        files = {name: path for name, path in beside.items() if os.path.isfile(path)}
+    """Scenario files by the scenarios of a page: those that are named, and a plan's in the feed's folder."""
+    beside = plan_files(folder, scenarios if scenarios[0] == TODAY else ())
+    files = {name: path for name, path in beside.items() if os.path.isfile(path)}
     for path in edits:
-        name = os.path.basename(path).removesuffix(".csv")
+        name = name_of(path)
         if name not in scenarios:
             raise BadInput(path, f"no scenario {shown(name)} on the page; it has {', '.join(map(shown, scenarios))}")
         files[name] = path
@@ -83,31 +98,26 @@ def page_lines(folder: str, stops: Stops, scenarios: Sequence[str], files: dict[
     out of the base, which is the first of them, and what it adds to it.
     """
     projection = Projection(stops.latitudes, stops.longitudes)
-    points, shaped = lines_of(folder, stops, projection), has_file(folder, "shapes.txt")
-    source = "Lines are those of shapes.txt." if shaped else STRAIGHT
-    if not files:
-        running = in_degrees(pieces(points), projection)
-        return Lines(running, [LineChange(*[running[:0]] * 3) for _ in scenarios], source)
-    trips = read_trips(folder, shaped)
-    removed = {name: removed_trips(trips, path) for name, path in files.items()}
+    drawn = DrawnLines(folder, stops, projection)
+    removed = {name: drawn.removed(path) for name, path in files.items()}
     base = removed.get(scenarios[0], set())
     each = [removed.get(name, base) for name in scenarios]
-    drawn = DrawnLines(points, trips, shaped, projection)
     hidden = set.intersection(*each)
-    running = drawn.pieces(set(trips.trips) - hidden) if hidden else pieces(points)
-    changes = [drawn.change(scenario - base, base - scenario) for scenario in each]
+    running = drawn.pieces(set(drawn.trips.trips) - hidden) if hidden else pieces(drawn.points)
+    changes = [change_of(drawn.pieces(own - base), drawn.pieces(base - own), projection) for own in each]
+    source = "Lines are those of shapes.txt." if drawn.shaped else STRAIGHT
     return Lines(in_degrees(running, projection), changes, source)
 
 
-def among(some: npt.NDArray[np.int32], others: npt.NDArray[np.int32]) -> npt.NDArray[np.bool_]:
+def among(some: OnGrid, others: OnGrid) -> npt.NDArray[np.bool_]:
     """Which of some rows are among others."""
     whole = np.dtype((np.void, 4 * some.dtype.itemsize))
     first, second = (np.ascontiguousarray(table).view(whole).ravel() for table in (some, others))
-    found_among: npt.NDArray[np.bool_] = np.isin(first, second)
-    return found_among
+    found: npt.NDArray[np.bool_] = np.isin(first, second)
+    return found
 
 
-def in_degrees(found: npt.NDArray[np.int32], projection: Projection) -> Pieces:
+def in_degrees(found: OnGrid, projection: Projection) -> Pieces:
     """Pieces on the grid in kilometres as pieces in degrees."""
     kilometres = found.reshape(-1, 2).astype(np.float64) * GRID
     longitudes = kilometres[:, 0] / (projection.degree * projection.narrow) + projection.longitude

@@ -20,7 +20,7 @@ from .streets import MOST_NODES, page_streets
 MINUTES, MOST_MINUTES = 30, 120  # of the slider: where it stands first, and where it ends
 
 
-@dataclass(frozen=True)
+@dataclass(frozen=True, kw_only=True)
 class PageSettings:
     """The settings of a page, as arguments and names of files."""
 
@@ -29,18 +29,18 @@ class PageSettings:
     edits: list[str]
     opportunities: list[str]
     people: list[str]
-    scenarios: list[str]  # in addition to the base; none for all
+    scenarios: list[str] = field(default_factory=list)  # in addition to the base; none for all
     base: str
-    share: int | None
+    share: int | None = None
     cutoffs: list[float]  # minutes
-    origins: str | None
+    origins: str | None = None
     seed: int
     unit: str
     title: str | None
     note: str | None
     arguments: str | None
-    tiles: str | None
-    attribution: str | None
+    tiles: str | None = None
+    attribution: str | None = None
     leaflet: str = LEAFLET
     within: int | None = None  # seconds, the limit with which the page opens; without it, the first of the matrix
     nearest: list[float] = field(default_factory=list)  # how many of the nearest opportunities are looked for
@@ -53,8 +53,6 @@ class PageSettings:
 
 @dataclass(frozen=True)
 class Page:
-    """All that stands in a page."""
-
     content: Content
     lines: Lines
     frame: Frame
@@ -69,10 +67,7 @@ def options_of(matrix: Matrix, what: str, settings: PageSettings) -> PageOptions
     others = [matrix.scenario(name) for name in settings.scenarios or matrix.compared]
     scenarios = list(dict.fromkeys([base, *others]))
     shares: list[Share] = matrix.shares if settings.share is None else [matrix.share(settings.share)]
-    files = (settings.opportunities, settings.people)
-    options = PageOptions(
-        scenarios, shares, settings.cutoffs, what, *files, None, settings.seed, MOST_CELLS, settings.nearest
-    )
+    options = PageOptions(settings, what, scenarios, shares, MOST_CELLS)
     if settings.origins is None:
         return options
     named = read_list(settings.origins, origins_of(matrix, options), "origin")
@@ -83,11 +78,10 @@ def options_of(matrix: Matrix, what: str, settings: PageSettings) -> PageOptions
 
 
 def page_of(matrix: Matrix, settings: PageSettings) -> Page:
-    """The page of these settings."""
     chosen, stops = shown_of(matrix, settings.feed, settings.points)
     assert stops is not None  # there is a feed
     options = options_of(chosen, "stops" if chosen is matrix else "points", settings)
-    content = content_of(matrix, chosen, stops, options, settings.unit)
+    content = content_of(matrix, chosen, stops, options)
     files = scenario_files(settings.feed, options.scenarios, settings.edits)
     lines = page_lines(settings.feed, stops, options.scenarios, files)
     frame = frame_of(matrix, content, options, replace(settings, edits=list(files.values())))
@@ -110,6 +104,8 @@ def frame_of(matrix: Matrix, content: Content, options: PageOptions, settings: P
     """What stands around the numbers."""
     arguments = sources.RunArguments(settings.arguments or "")
     name = shown(os.path.basename(os.path.abspath(settings.feed)))
+    most = matrix.greatest_stated
+    end = f" {most[0].upper()}{most[1:]}." if most else ""  # if travel times have a maximum
     files = {
         "Matrix": [matrix.path, *matrix.files],
         "Points": [path for path in [settings.points or points_in(settings.feed)] if path is not None],
@@ -123,7 +119,7 @@ def frame_of(matrix: Matrix, content: Content, options: PageOptions, settings: P
         " ".join(text for text in (settings.note, f"{matrix.heading}." if matrix.heading else "") if text),
         options.scenarios,
         options.shares,
-        [sources.meaning(share, arguments) + end_stated(matrix) for share in options.shares],
+        [sources.meaning(share, arguments) + end for share in options.shares],
         sources.table(files, settings.feed, arguments),
         rows_stated(content, options),
         first_minutes(matrix, settings.within),
@@ -133,12 +129,6 @@ def frame_of(matrix: Matrix, content: Content, options: PageOptions, settings: P
         settings.attribution or "",
         settings.leaflet,
     )
-
-
-def end_stated(matrix: Matrix) -> str:
-    """What is reported with a percentile if travel times have a maximum."""
-    sentence = matrix.greatest_stated
-    return f" {sentence[0].upper()}{sentence[1:]}." if sentence else ""
 
 
 def first_minutes(matrix: Matrix, within: int | None) -> int:
@@ -151,7 +141,7 @@ def rows_stated(content: Content, options: PageOptions) -> list[str]:
     """What is reported where the page hasn't the travel times from all origins, or can't draw all places."""
     ground, sentences = content.ground, []
     if len(ground.rows) < len(ground.origins):
-        how = "named" if options.origins is not None else f"chosen at random with the seed {options.seed}"
+        how = "named" if options.origins is not None else f"chosen at random with the seed {options.settings.seed}"
         sentences.append(
             f"The page has the travel times from {len(ground.rows):,} of {len(ground.origins):,} origins, which were "
             f"{how}, and access from all."

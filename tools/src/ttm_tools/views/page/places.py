@@ -1,13 +1,10 @@
 """The stops or points that a page shows, in an order in which neighbours stand together."""
 
-from dataclasses import dataclass, field
-from typing import Mapping, Sequence
-
 import numpy as np
 import numpy.typing as npt
 
 from ...gtfs.fields import Floats
-from ...gtfs.stops import Area, Stops
+from ...gtfs.stops import Stops
 
 MICRO = 1_000_000  # of a degree
 NOWHERE = np.iinfo(np.int32).max
@@ -15,51 +12,29 @@ CELLS = 1 << 15  # of the square of the order, along a side
 Whole = npt.NDArray[np.int32]
 
 
-@dataclass(frozen=True)
-class PagePlaces:
-    """Stops or points, by what a matrix calls them."""
-
-    identifiers: list[str]
-    names: list[str]  # for people
-    latitudes: Floats  # degrees, NaN where there is no place
-    longitudes: Floats
-    widths: Floats  # metres of a cell, 0 where it is none
-    heights: Floats  # the same to the north
-    areas: Mapping[str, Area] = field(default_factory=dict)  # of cells with a shape of their own, by identifier
-
-    def chosen(self, order: Sequence[int]) -> "PagePlaces":
-        identifiers, names = ([texts[place] for place in order] for texts in (self.identifiers, self.names))
-        numbers = (self.latitudes, self.longitudes, self.widths, self.heights)
-        north, east, wide, high = (number[np.array(order, dtype=np.intp)] for number in numbers)
-        return PagePlaces(identifiers, names, north, east, wide, high, self.areas)
-
-    def in_order(self) -> "PagePlaces":
-        """The same, neighbours together; those without a place last."""
-        return self.chosen(np.argsort(ranks(self.latitudes, self.longitudes), kind="stable").tolist())
-
-    def degrees(self) -> npt.NDArray[np.int32]:
-        """Latitude and longitude of each in millionths of a degree, NOWHERE where there is no place."""
-        degrees = np.stack([self.latitudes, self.longitudes], axis=1) * MICRO
-        return np.where(np.isnan(degrees), NOWHERE, np.rint(degrees)).astype(np.int32)
-
-    def rings(self) -> tuple[Whole, Whole]:
-        """The rings of all areas: rows of a place's number and how many corners its ring has; and all corners in
-        millionths of a degree, latitude and longitude, each less the corner before it.
-        """
-        rows, corners = list[tuple[int, int]](), [np.zeros((0, 2))]
-        for number, name in enumerate(self.identifiers):
-            for ring in (ring for polygon in self.areas.get(name, ()) for ring in polygon):
-                rows.append((number, len(ring) - 1))  # the last corner is the first one again
-                corners.append(ring[:-1, ::-1])
-        whole = np.rint(np.concatenate(corners) * MICRO).astype(np.int32)
-        return np.array(rows, np.int32).reshape(-1, 2), np.diff(whole, axis=0, prepend=np.zeros((1, 2), np.int32))
+def in_order(places: Stops) -> Stops:
+    """Stops or points, neighbours together; those without a place last."""
+    order = np.argsort(ranks(places.latitudes, places.longitudes), kind="stable")
+    return places.of([places.identifiers[place] for place in order.tolist()])
 
 
-def places_of(stops: Stops, identifiers: Sequence[str]) -> PagePlaces:
-    """The places of some stops or points, which the feed has."""
-    found = stops.of(identifiers)
-    wide, high = np.nan_to_num(found.sides()).T
-    return PagePlaces(found.identifiers, found.names, found.latitudes, found.longitudes, wide, high, found.areas)
+def degrees_of(places: Stops) -> Whole:
+    """Latitude and longitude of each in millionths of a degree, NOWHERE where there is no place."""
+    degrees = np.stack([places.latitudes, places.longitudes], axis=1) * MICRO
+    return np.where(np.isnan(degrees), NOWHERE, np.rint(degrees)).astype(np.int32)
+
+
+def rings_of(places: Stops) -> tuple[Whole, Whole]:
+    """The rings of all areas: rows of a place's number and how many corners its ring has; and all corners in
+    millionths of a degree, latitude and longitude, each less the corner before it.
+    """
+    rows, corners = list[tuple[int, int]](), [np.zeros((0, 2))]
+    for number, name in enumerate(places.identifiers):
+        for ring in (ring for polygon in places.areas.get(name, ()) for ring in polygon):
+            rows.append((number, len(ring) - 1))  # the last corner is the first one again
+            corners.append(ring[:-1, ::-1])
+    whole = np.rint(np.concatenate(corners) * MICRO).astype(np.int32)
+    return np.array(rows, np.int32).reshape(-1, 2), np.diff(whole, axis=0, prepend=np.zeros((1, 2), np.int32))
 
 
 def ranks(latitudes: Floats, longitudes: Floats) -> Floats:

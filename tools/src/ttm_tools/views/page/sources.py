@@ -57,9 +57,7 @@ def meaning(share: Share, arguments: RunArguments) -> str:
 
 
 def table(names: Mapping[str, Sequence[str]], feed: str, arguments: RunArguments) -> list[tuple[str, str]]:
-    """Where the page comes from, as lines of a table: the feed, the day, the words of the run, and the sums of all
-    files, by what they are.
-    """
+    """Where the page comes from, as lines of a table: feed, day, words of the run, and the sums of all files."""
     rows = [
         ("Feed", shown(os.path.basename(os.path.abspath(feed)))),
         ("Date", arguments.date or "not stated"),

@@ -6,11 +6,12 @@ from typing import Iterator
 import numpy as np
 import numpy.typing as npt
 
+from ...gtfs.stops import Stops
 from ...walks import Pace
 from ...walks.osm import read_streets
 from ...walks.reach import Reach, reach_of
 from .parts import Element, part
-from .places import MICRO, PagePlaces, ranks
+from .places import MICRO, ranks
 
 MOST_NODES = 600_000  # that a page takes, some 6 MB
 ASIDE = 50  # metres to both sides of a street that one reaches, as in isochrones
@@ -37,24 +38,18 @@ class PageStreets:
         yield part("street-beside", self.beside)
 
 
-def page_streets(path: str, places: PagePlaces, columns: Numbers, pace: Pace, near: float) -> PageStreets | None:
+def page_streets(path: str, places: Stops, columns: Numbers, pace: Pace, near: float) -> PageStreets | None:
     """The streets within a walk of the columns' places that are drawn as marks; None where there is no such place."""
-    bare = [column for column in columns.tolist() if is_bare(places, column)]
+    are_areas = np.array([name in places.areas for name in places.identifiers], dtype=np.bool_)
+    is_cell = (places.sides()[:, 0] > 0) | are_areas
+    bare = [column for column in columns.tolist() if places.placed[column] and not is_cell[column]]
     if not bare:
         return None
-    streets = read_streets(path)
-    return within_walks(
-        reach_of(streets, places.latitudes[bare], places.longitudes[bare], pace, near), places, bare, pace
-    )
+    reach = reach_of(read_streets(path), places.latitudes[bare], places.longitudes[bare], pace, near)
+    return within_walks(reach, places, bare, pace)
 
 
-def is_bare(places: PagePlaces, place: int) -> bool:
-    """Whether a place is on the map, and neither a square nor an area."""
-    is_area = places.widths[place] > 0 or places.identifiers[place] in places.areas
-    return not is_area and not np.isnan(places.latitudes[place])
-
-
-def within_walks(reach: Reach, places: PagePlaces, bare: list[int], pace: Pace) -> PageStreets:
+def within_walks(reach: Reach, places: Stops, bare: list[int], pace: Pace) -> PageStreets:
     """The streets that one reaches from some places within the longest walk."""
     left = reach.left_at_nodes(np.full(len(bare), pace.limit * pace.speed) - reach.beside)
     walked = left[reach.begin] > 0
