@@ -19,10 +19,8 @@ pub fn lower_row<R: LaneLabels>(labels: &mut [R], marked: &mut [bool], stop: usi
 {
     let old = labels[stop];
     let new = old.lower_of(times);
-    if new.changed(old) {
-        labels[stop] = new;
-        marked[stop] = true;
-    }
+    labels[stop] = new;
+    marked[stop] = marked[stop] | new.changed(old);
 }
 
 /// Lowers the lanes of a stop to these times. Where one fell the stop is noted, and at its first fall its labels before
