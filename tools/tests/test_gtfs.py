@@ -146,3 +146,11 @@ def test_walks_start_without_pandas() -> None:
     arguments = [sys.executable, "-c", f"import sys, {names}; sys.exit('pandas' in sys.modules)"]
     source = Path(columns.__file__).parents[2]
     assert subprocess.run(arguments, env={**os.environ, "PYTHONPATH": str(source)}).returncode == 0
+
+
+@pytest.mark.parametrize("content", [b"", b"\n", b"\xef\xbb\xbf", b"\xef\xbb\xbf\r\n\r\n"])
+def test_a_file_without_a_record_has_no_columns(content: bytes, tmp_path: Path) -> None:
+    path = tmp_path / "stops.txt"
+    path.write_bytes(content)
+    table = read_table("stops.txt", path)
+    assert (table.columns, len(table)) == ([], 0)

@@ -219,7 +219,7 @@ def test_a_source_that_changes_while_it_is_read_ends_the_stage(
 
     function = {"cut.csv": "copy_file", "published/stop_times.txt": "days_of"}.get(file, "read_counts")
     if file == "published/stop_times.txt":
-        monkeypatch.setattr("ttm_tools.prepare.make.counted", lambda *_: change())
+        monkeypatch.setattr("ttm_tools.prepare.make.run_lines", lambda *_: [change()])
     elif file == "people.csv":
         monkeypatch.setattr(counted, "write_counts", noted(counted.write_counts, counted.PEOPLE, change))
     else:

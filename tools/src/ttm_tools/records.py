@@ -106,9 +106,9 @@ def field(text: object) -> bytes:
     return quoted.encode("utf-8", "surrogateescape")
 
 
-def fields_as_texts(values: Iterable[object], after: bytes = b"") -> Texts:
-    """Fields as an array of bytes, each once, with what stands behind each of them."""
-    return texts_of([field(value) + after for value in values])
+def fields_as_texts(values: Iterable[object], before: bytes = b"", after: bytes = b"") -> Texts:
+    """Fields as an array of bytes, each once, with what stands before and behind each of them."""
+    return texts_of([before + field(value) + after for value in values])
 
 
 def joined(pieces: Sequence[bytes | Texts], count: int) -> bytes:

@@ -40,7 +40,7 @@ def run(args: argparse.Namespace) -> None:
     needs("numpy", "pandas")
     from ..plans.make import make
 
-    written = make(args.feed, args.plan, args.out, args.only)
-    say(*written.lines)
-    if written.arguments is not None:
-        sys.stdout.buffer.write(os.fsencode(written.arguments) + b"\n")
+    lines, arguments = make(args.feed, args.plan, args.out, args.only)
+    say(*lines)
+    if arguments is not None:
+        sys.stdout.buffer.write(os.fsencode(arguments) + b"\n")

@@ -48,6 +48,9 @@ class Stated:
     depart: Narrow
 
 
+STATED = tuple(Stated.__dataclass_fields__)
+
+
 class ConsecutiveRecords:
     """Records whose trips follow one another, each with its calls in their order, as most feeds have them."""
 
@@ -87,78 +90,62 @@ class ConsecutiveRecords:
         return CallNumbers(whole, rows, stated.stop[rows], arrive[rows], depart[rows], self.count)
 
 
-class Others:
-    """Columns of a file, piece by piece."""
+class Pieces:
+    """Some columns of what records state of calls, and other columns of their file, piece by piece."""
 
-    def __init__(self, names: Sequence[str]) -> None:
-        self.known = {name: dict[str, int]() for name in names}
-        self.codes = {name: Growing(np.int8) for name in names}
+    def __init__(self, names: Sequence[str], others: Sequence[str]) -> None:
+        self.columns = {name: Growing(np.int32) for name in names}
+        self.known = {name: dict[str, int]() for name in others}
+        self.codes = {name: Growing(np.int8) for name in others}
 
-    def take(self, piece: Mapping[str, Texts]) -> None:
+    def take(self, stated: Stated, piece: Mapping[str, Texts]) -> None:
+        for name, column in self.columns.items():
+            column.take(getattr(stated, name))
         for name, codes in self.codes.items():
             codes.take(known_codes(piece[name], piece[name].codes, self.known[name]))
 
-    def columns(self) -> Columns:
+    def stated(self) -> Stated:
+        """The records of all pieces; a column that isn't kept is empty."""
+        return Stated(*(self.columns.get(name, Growing(np.int32)).whole() for name in STATED))
+
+    def others(self) -> Columns:
         return {name: column_of(list(self.known[name]), codes.whole()) for name, codes in self.codes.items()}
 
 
-class Parts:
-    """Some columns of what records state, piece by piece."""
-
-    def __init__(self, names: Sequence[str]) -> None:
-        self.columns = {name: Growing(np.int32) for name in names}
-
-    def take(self, stated: Stated) -> None:
-        for name, column in self.columns.items():
-            column.take(getattr(stated, name))
-
-    def together(self) -> Stated:
-        """The records of all pieces, which are dropped; a column that isn't kept is empty."""
-        names = Stated.__dataclass_fields__
-        return Stated(
-            *(self.columns[name].whole() if name in self.columns else np.zeros(0, np.int32) for name in names)
-        )
-
-
 class CallReader:
-    """Reads the calls of some trips from stop_times.txt, and its other columns as a table, or some of these."""
+    """Reads the calls of some trips from stop_times.txt, and its other columns as a table."""
 
-    def __init__(
-        self, path: Path, trips: Sequence[str], stops: Mapping[str, int], others: Sequence[str] | None = None
-    ) -> None:
+    def __init__(self, path: Path, trips: Sequence[str], stops: Mapping[str, int]) -> None:
         self.path, self.count, self.stops = path, len(trips), dict(stops)
         self.kind = np.min_scalar_type(min(NO_STOP, -len(stops)))  # of the places of stops
         self.trips = {name: place for place, name in enumerate(trips)}
-        there = names_of(path)
-        self.others = [name for name in there if name not in NAMES and (others is None or name in others)]
-        self.names = [name for name in there if name in NAMES or name in self.others]
+        self.names = names_of(path)
+        self.others = [name for name in self.names if name not in NAMES]
 
     def read(self) -> tuple[CallNumbers, Table]:
         for pieces in ways_to_read(self.path, self.names, ROWS_AT_ONCE):
             with contextlib.suppress(*ODD):
                 numbers, others = self.in_runs(pieces()) or self.in_any_order(pieces())
                 break
-        apart = [name for name in names_of(self.path) if name not in others]
+        apart = [name for name in self.names if name not in others]
         return numbers, Table(CALLS, others, unnumbered(numbers.records), self.path, apart)
 
     def in_runs(self, some: Iterable[Mapping[str, Texts]]) -> tuple[CallNumbers, Columns] | None:
         """The calls, and the other columns, without the two that put calls in order; None where they are needed."""
-        runs, parts, others = ConsecutiveRecords(), Parts(("stop", "arrive", "depart")), Others(self.others)
+        runs, found = ConsecutiveRecords(), Pieces(("stop", "arrive", "depart"), self.others)
         for piece in some:
             stated = self.stated(piece)
             if not runs.take(stated):
                 return None
-            others.take(piece)
-            parts.take(stated)
-        numbers = runs.numbers(parts.together(), self.count)
-        return None if numbers is None else (numbers, others.columns())
+            found.take(stated, piece)
+        numbers = runs.numbers(found.stated(), self.count)
+        return None if numbers is None else (numbers, found.others())
 
     def in_any_order(self, some: Iterable[Mapping[str, Texts]]) -> tuple[CallNumbers, Columns]:
-        parts, others = Parts(tuple(Stated.__dataclass_fields__)), Others(self.others)
+        found = Pieces(STATED, self.others)
         for piece in some:
-            parts.take(self.stated(piece))
-            others.take(piece)
-        return in_order(parts.together(), self.count), others.columns()
+            found.take(self.stated(piece), piece)
+        return in_order(found.stated(), self.count), found.others()
 
     def stated(self, piece: Mapping[str, Texts]) -> Stated:
         count = len(piece["trip_id"].codes)
@@ -186,7 +173,7 @@ def in_order(stated: Stated, count: int) -> CallNumbers:
     aside[-1] = True  # of records whose trip isn't there
     kept = np.flatnonzero(~aside[stated.trip])
     rows = narrow(kept[np.lexsort((stated.sequence[kept], stated.trip[kept]))])
-    found = Stated(*(getattr(stated, name)[rows] for name in Stated.__dataclass_fields__))
+    found = Stated(*(getattr(stated, name)[rows] for name in STATED))
     begins = np.searchsorted(found.trip, np.arange(count + 1, dtype=np.int32)).astype(np.int64)
     return CallNumbers(begins, rows, found.stop, *filled(found), len(stated.trip))
 

@@ -7,16 +7,14 @@ from typing import Sequence
 import numpy as np
 
 from . import fields
-from .columns import empty, positions_of, times_of, values_of
+from .columns import begins_run, empty, positions_of, times_of, values_of
 from .fields import Mask, Whole, number
 from .tables import Table
 
 
 @dataclass(frozen=True)
 class Calls:
-    """The calls of the trips that aren't set aside, trip by trip, ascending by stop_sequence. A call with one of its
-    two times has both equal.
-    """
+    """The calls of trips that aren't set aside, by trip and stop_sequence; one that states one time has both equal."""
 
     rows: Whole  # the place of each in stop_times.txt
     trip: Whole  # the place of its trip in trips.txt
@@ -30,34 +28,26 @@ class Calls:
 
     @cached_property
     def is_first(self) -> Mask:
-        first = np.ones(len(self.rows), dtype=np.bool_)
-        first[1:] = self.trip[1:] != self.trip[:-1]
-        return first
+        return begins_run(self.trip)
 
     @cached_property
     def is_last(self) -> Mask:
-        last = np.ones(len(self.rows), dtype=np.bool_)
-        last[:-1] = self.trip[1:] != self.trip[:-1]
-        return last
+        return np.append(self.is_first, True)[1:]
 
     @cached_property
     def before(self) -> Whole:
         """For each call the place of the last timed one before it on its trip, -1 where there is none."""
         places = np.arange(len(self.rows))
-        known = np.maximum.accumulate(np.where(self.timed, places, -1)) if len(places) else places
-        before = np.concatenate([[-1], known[:-1]]) if len(places) else known
-        start = np.maximum.accumulate(np.where(self.is_first, places, 0)) if len(places) else places
+        before = np.append(-1, np.maximum.accumulate(np.where(self.timed, places, -1)))[:-1]
+        start = np.maximum.accumulate(np.where(self.is_first, places, 0))
         return np.where(before >= start, before, -1)
 
     @cached_property
     def after(self) -> Whole:
         """For each call the place of the first timed one after it on its trip, or the number of calls."""
         count = len(self.rows)
-        if not count:
-            return np.zeros(0, np.int64)
         places = np.arange(count)
-        known = np.minimum.accumulate(np.where(self.timed, places, count)[::-1])[::-1]
-        after = np.concatenate([known[1:], [count]])
+        after = np.append(np.minimum.accumulate(np.where(self.timed, places, count)[::-1])[::-1], count)[1:]
         end = np.minimum.accumulate(np.where(self.is_last, places, count)[::-1])[::-1]
         return np.where(after <= end, after, count)
 
@@ -68,9 +58,7 @@ class Calls:
         return np.asarray(self.timed & ((self.departure < self.arrival) | (self.arrival < before)), dtype=np.bool_)
 
     def filled(self) -> tuple[Whole, Whole]:
-        """All arrivals and departures, open ones by place between the timed calls round them, as `ttm` has them; the
-        ends are timed.
-        """
+        """All arrivals and departures, open ones by place between the timed calls round them; the ends are timed."""
         if self.timed.all():
             return self.arrival, self.departure
         open_ones = np.flatnonzero(~self.timed & (self.before >= 0) & (self.after < len(self.rows)))
@@ -82,18 +70,13 @@ class Calls:
         return arrival, departure
 
 
-def aside(table: Table, trip: Whole, count: int) -> Mask:
-    """Which trips are set aside: those with a record that names no stop."""
-    gone = np.zeros(count + 1, dtype=np.bool_)
-    gone[trip[empty(table["stop_id"]) & (trip >= 0)]] = True
-    return gone[:count]
-
-
 def calls_of(table: Table, trips: Sequence[str]) -> Calls:
-    """The calls of some trips."""
+    """The calls of some trips; those are set aside that have a record that names no stop."""
     trip = positions_of(table["trip_id"], trips)
-    gone = np.append(aside(table, trip, len(trips)), True)
-    rows = np.flatnonzero(~gone[trip])
+    aside = np.zeros(len(trips) + 1, dtype=np.bool_)
+    aside[trip[empty(table["stop_id"])]] = True
+    aside[-1] = True  # of records whose trip isn't there
+    rows = np.flatnonzero(~aside[trip])
     sequence = np.maximum(values_of(table["stop_sequence"], number)[rows], 0)
     if not in_order(trip[rows], sequence):
         rows = rows[np.lexsort((sequence, trip[rows]))]

@@ -44,9 +44,7 @@ class Texts(Protocol):
 
 
 def column_of(texts: Sequence[str], codes: Codes) -> Column:
-    """A column of texts that are each there once; a code is a text's position among them, in as few bytes as these
-    take.
-    """
+    """A column of texts that are each there once, and their positions, in as few bytes as these take."""
     categories = np.empty(len(texts), dtype=object)
     categories[:] = texts
     return Column(categories, codes.astype(np.min_scalar_type(-len(texts) - 1), copy=False))
@@ -77,16 +75,13 @@ def clocks(seconds: Whole) -> Column:
 
 def renamed(column: Column, texts: Sequence[str]) -> Column:
     """A column with other texts in place of its own, of which several may become one."""
-    known: dict[str, int] = {}
-    codes = np.array([known.setdefault(text, len(known)) for text in texts] or [0], dtype=np.int32)
-    return column_of(list(known), codes[column.codes])
+    return coded(texts).at(column.codes)
 
 
 def behind(first: Column, second: Column) -> Column:
     """The records of one column behind those of another."""
-    known = {text: code for code, text in enumerate(first.categories)}
-    codes = np.array([known.setdefault(text, len(known)) for text in second.categories] or [0], dtype=np.int32)
-    return column_of(list(known), np.concatenate([first.codes.astype(np.int32), codes[second.codes]]))
+    both, count = coded([*first.categories, *second.categories]), len(first.categories)
+    return both.at(np.concatenate([first.codes.astype(np.int32), second.codes.astype(np.int32) + count]))
 
 
 def texts_at(column: Texts, codes: Codes) -> list[str]:
@@ -107,12 +102,8 @@ def used(column: Texts) -> list[str]:
 
 def distinct(column: Texts, among: Mask | None = None) -> list[str]:
     """The texts of all records, or of some, each once, in the order of the records."""
-    return texts_at(column, firsts(column.codes if among is None else column.codes[among]))
-
-
-def firsts(codes: Codes) -> Codes:
-    """The different codes of some records, in the order in which they come."""
-    return codes[np.sort(np.unique(codes, return_index=True)[1])]
+    codes = column.codes if among is None else column.codes[among]
+    return texts_at(column, codes[np.sort(np.unique(codes, return_index=True)[1])])
 
 
 def values_of(column: Texts, read: Callable[[str], int], default: int = EMPTY) -> Whole:
@@ -122,12 +113,8 @@ def values_of(column: Texts, read: Callable[[str], int], default: int = EMPTY) -
 
 
 def times_of(column: Texts) -> Whole:
-    """The seconds of each record's time."""
-    return np.asarray(times_in(column.categories)[column.codes], dtype=np.int64)
-
-
-def times_in(texts: npt.NDArray[np.object_]) -> Whole:
-    """The seconds of each text, as `time` reads it; those of the form HH:MM:SS all at once."""
+    """The seconds of each record's time, as `time` reads it; those of the form HH:MM:SS all at once."""
+    texts = column.categories
     seconds = np.full(max(len(texts), 1), EMPTY, np.int64)
     letters = texts.astype("U9").view(np.uint32).reshape(-1, 9).astype(np.int64) - ord("0")
     digits = letters[:, [0, 1, 3, 4, 6, 7]]
@@ -136,7 +123,7 @@ def times_in(texts: npt.NDArray[np.object_]) -> Whole:
     seconds[: len(texts)][plain] = digits[plain] @ np.array([36_000, 3_600, 600, 60, 10, 1])
     others = np.flatnonzero(~plain)
     seconds[others] = [time(text) for text in texts[others]]
-    return seconds
+    return np.asarray(seconds[column.codes], dtype=np.int64)
 
 
 def positions_of(column: Texts, names: Sequence[str] | dict[str, int]) -> Whole:
@@ -180,7 +167,15 @@ def repeated(codes: Codes) -> Mask:
 def repeated_pairs(first: Codes, second: Whole) -> Mask:
     """Which records have a pair of values that one before them has."""
     order = np.lexsort((second, first))
-    same = (first[order][1:] == first[order][:-1]) & (second[order][1:] == second[order][:-1])
     found = np.zeros(len(first), dtype=np.bool_)
-    found[order[1:]] = same
+    found[order] = ~begins_run(first[order], second[order])
     return found
+
+
+def begins_run(*columns: Codes) -> Mask:
+    """Which records don't have the values of the one before them."""
+    begins = np.ones(len(columns[0]), dtype=np.bool_)
+    begins[1:] = False
+    for column in columns:
+        begins[1:] |= column[1:] != column[:-1]
+    return begins

@@ -12,12 +12,14 @@ from ..files import copy_file
 from ..opening.paths import inside
 from ..opening.zips import Unread, members_of, refuse_size, unpack_member
 from ..records import names_of
+from .call_numbers import CALLS
 from .columns import Texts, distinct, empty, one_of, values_of, where
-from .fields import EMPTY, FILES, Mask, number
+from .fields import EMPTY, FILES, Mask, Whole, number
 from .reading import columns_of, is_long
 from .stops import has_file, in_folder
 from .tables import Table, no_table, read_table, write_table
 
+Near = Callable[[Table], "set[str] | None"]  # the stops of stops.txt that matter; none where all do
 OPTIONAL = ("calendar.txt", "calendar_dates.txt", "frequencies.txt", "transfers.txt")
 
 
@@ -32,21 +34,15 @@ class Feed:
 
     def get(self, name: str) -> Table:
         """A table, without columns and records where the file isn't there."""
-        found = self.tables.get(name)
-        return no_table(name) if found is None else found
+        return self.tables.get(name, no_table(name))
 
     def has_columns(self, name: str) -> bool:
         """Whether a file is there with the columns that it needs."""
         return name in self.tables and all(column in self.tables[name] for column in FILES[name].needed)
 
 
-Near = Callable[[Table], "set[str] | None"]  # the stops of stops.txt that matter; none where all do
-
-
 def calls_near(path: Path, stops: set[str]) -> Table:
-    """The calls of stop_times.txt that are of trips with a call at some of the stops. Of a long file only these are
-    held: it is read twice, a million records at a time.
-    """
+    """The calls of trips with a call at some stops; a long file is read twice, a million records at a time."""
     known = stops | {stop.strip() for stop in stops}
     trips = set[str]()
 
@@ -59,19 +55,17 @@ def calls_near(path: Path, stops: set[str]) -> Table:
         return one_of(piece["trip_id"], trips)
 
     if not is_long(path):
-        table = read_table("stop_times.txt", path)
+        table = read_table(CALLS, path)
         piece = {name: table[name] for name in ("trip_id", "stop_id")}
         note(piece)
         table.keep(keep(piece))
         return table
     columns_of(path, ("trip_id", "stop_id"), note)
-    return Table("stop_times.txt", *columns_of(path, names_of(path), keep))
+    return Table(CALLS, *columns_of(path, names_of(path), keep))
 
 
 def read_feed(path: str | Path, room: Path, near: Near = lambda _: None) -> Feed:
-    """A feed from a zip file, which is unpacked in the room, or from a folder; where stops are near, with the calls
-    alone of trips that call at these.
-    """
+    """A feed from a folder, or a zip file, unpacked in the room; with stops near, the calls alone of trips there."""
     given = Path(path)
     if given.is_dir():
         return read_folder(given, (), near)
@@ -80,9 +74,8 @@ def read_feed(path: str | Path, room: Path, near: Near = lambda _: None) -> Feed
     sizes = members_of(given)
     chosen = files_of(given, list(sizes))
     refuse_size(given, [sizes[member] for member in chosen.values()], room)
-    feed = feed_of(
-        given, {name: unpack_member(given, chosen[name], room / name) for name in chosen if name in FILES}, near
-    )
+    read = {name: unpack_member(given, chosen[name], room / name) for name in chosen if name in FILES}
+    feed = feed_of(given, read, near)
     feed.others = Unread(given, {name: member for name, member in chosen.items() if name not in FILES}, room)
     return feed
 
@@ -119,22 +112,18 @@ def files_of(path: Path, members: Sequence[str]) -> dict[str, str]:
         raise BadInput(path, f"no GTFS in it{hint}")
     if len(best) > 1:
         raise BadInput(path, f"several feeds in it, {best[0] or '.'} and {best[1]}: give them one by one")
-    return {
-        name: file for name, file in folders[best[0]].items() if name in FILES or name.endswith((".txt", ".geojson"))
-    }
+    found = folders[best[0]]
+    return {name: file for name, file in found.items() if name in FILES or name.endswith((".txt", ".geojson"))}
 
 
 def feed_of(path: Path, files: Mapping[str, Path], near: Near) -> Feed:
-    tables = {name: read_table(name, files[name]) for name in FILES if name in files and name != "stop_times.txt"}
-    if "stop_times.txt" in files:
-        times = files["stop_times.txt"]
+    tables = {name: read_table(name, files[name]) for name in FILES if name in files and name != CALLS}
+    if CALLS in files:
         stops = near(tables["stops.txt"]) if "stops.txt" in tables else None
-        whole = stops is None or not {"trip_id", "stop_id"}.issubset(names_of(times))
-        tables["stop_times.txt"] = (
-            read_table("stop_times.txt", times) if whole or stops is None else calls_near(times, stops)
-        )
-        tables = {name: tables[name] for name in FILES if name in tables}
-    return Feed(path.stem if path.suffix == ".zip" else path.resolve().name, tables)
+        is_cut = stops is not None and {"trip_id", "stop_id"}.issubset(names_of(files[CALLS]))
+        tables[CALLS] = calls_near(files[CALLS], stops or set()) if is_cut else read_table(CALLS, files[CALLS])
+    name = path.stem if path.suffix == ".zip" else path.resolve().name
+    return Feed(name, {name: tables[name] for name in FILES if name in tables})
 
 
 def read_files(folder: str, names: Iterable[str]) -> Feed:
@@ -163,10 +152,14 @@ def is_stop(stops: Table) -> Mask:
     return np.asarray((kinds == 0) | (kinds == EMPTY), dtype=np.bool_)
 
 
+def parents_of(stops: Table) -> Whole:
+    """The place of the record of stops.txt that each names as its parent_station, -1 where it names none."""
+    places = {name: place for place, name in enumerate(stops.texts("stop_id"))}
+    return values_of(stops["parent_station"], lambda text: places.get(text.strip(" "), -1), -1)
+
+
 def used_transfers(table: Table) -> Mask:
-    """The rows of transfers.txt that `ttm` looks at: those of a type up to 2, of two ends and a time, for every route
-    and trip.
-    """
+    """The rows of transfers.txt that `ttm` uses: of a type up to 2, two ends and a time, for every route and trip."""
     kinds = values_of(table["transfer_type"], number)
     used = (kinds == EMPTY) | ((kinds >= 0) & (kinds <= 2))
     for name in ("from_route_id", "to_route_id", "from_trip_id", "to_trip_id"):

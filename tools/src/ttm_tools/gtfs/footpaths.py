@@ -5,7 +5,7 @@ from typing import Mapping, Sequence
 
 import numpy as np
 
-from .columns import Column, texts_of, values_of
+from .columns import Column, begins_run, texts_of, values_of
 from .feeds import used_transfers
 from .fields import Mask, Whole, number
 from .reading import columns
@@ -27,16 +27,13 @@ class Footpaths:
     seconds: Whole
 
     def of(self, rows: Whole | Mask) -> "Footpaths":
-        """Some of them."""
         return Footpaths(self.begin[rows], self.end[rows], self.seconds[rows])
 
 
 def read_walks(
     timetable: Timetable, footpaths: str | None, limit: int, start: int | None = None
 ) -> tuple[Footpaths, Whole]:
-    """The walks of a feed and of a file of footpaths, closed within the limit, and the change time at each stop. With
-    a start those walks alone that begin there or where vehicles call, as others aren't of its journeys.
-    """
+    """The closed walks of a feed and a file, and the change times; from a start those that its journeys need."""
     direct, changes = direct_walks(timetable, footpaths, limit)
     begins = np.full(len(changes), start is None, dtype=np.bool_)
     if start is not None:
@@ -45,9 +42,7 @@ def read_walks(
 
 
 def direct_walks(timetable: Timetable, footpaths: str | None, limit: int) -> tuple[Footpaths, Whole]:
-    """The shortest walk that a feed and a file of footpaths state from one stop to another, in order, and the change
-    time at each stop.
-    """
+    """The shortest walk that is stated from one stop to another, in order, and the change time at each stop."""
     ends, count, table = ends_of(timetable), len(timetable.stops), timetable.feed.get("transfers.txt").copy()
     table.keep(used_transfers(table))
     stated = [stated_walks(table["from_stop_id"], table["to_stop_id"], table["min_transfer_time"], ends)]
@@ -97,18 +92,15 @@ def change_times(transfers: Table, ends: Ends, count: int) -> Whole:
 
 
 def joined(some: Sequence[Footpaths]) -> Footpaths:
-    """All walks, one after the other."""
-    return Footpaths(
-        *(np.concatenate(column) for column in zip(*((walks.begin, walks.end, walks.seconds) for walks in some)))
-    )
+    columns = zip(*((walks.begin, walks.end, walks.seconds) for walks in some))
+    return Footpaths(*(np.concatenate(column) for column in columns))
 
 
 def least(walks: Footpaths, count: int) -> tuple[Footpaths, Whole]:
     """The shortest walk between each two stops, by their numbers, and its place among all; of several the first."""
     pairs = walks.begin * count + walks.end
     order = np.lexsort((walks.seconds, pairs))
-    pairs = pairs[order]
-    chosen = order[np.flatnonzero(np.concatenate([[True], pairs[1:] != pairs[:-1]])[: len(pairs)])]
+    chosen = order[begins_run(pairs[order])]
     return walks.of(chosen), chosen
 
 
@@ -117,7 +109,7 @@ def closed(direct: Footpaths, limit: int, begins: Mask) -> Footpaths:
     firsts = np.searchsorted(direct.begin, np.arange(len(begins) + 1))
     own = direct.of(begins[direct.begin])
     longer = np.cumsum(firsts[own.end + 1] - firsts[own.end])
-    ends = np.flatnonzero(np.concatenate([own.begin[1:] != own.begin[:-1], [True]])[: len(longer)]) + 1  # of a stop's
+    ends = np.flatnonzero(np.append(begins_run(own.begin), True)[1:]) + 1  # of a stop's
     pieces = [0, *ends[np.diff(longer[ends - 1] // AT_ONCE, append=-1) != 0].tolist()]
     pieces_closed = [over_chains(own.of(np.arange(a, b)), direct, firsts, limit) for a, b in zip(pieces, pieces[1:])]
     return joined([own.of(np.arange(0)), *pieces_closed])

@@ -1,6 +1,4 @@
-"""Which columns of a feed give an identifier of which kind, and which name one; those of files that `ttm` doesn't read
-too.
-"""
+"""Which columns of a feed give and name identifiers of which kind; those of files that `ttm` doesn't read too."""
 
 from typing import Callable
 
@@ -27,11 +25,9 @@ KINDS: dict[str, tuple[tuple[str, str], ...]] = {  # where identifiers of a kind
     "attribution": (("attributions.txt", "attribution_id"),),
 }
 NAMING = {  # columns that name something of a kind, wherever they stand
-    **{"stop_id": "stop", "parent_station": "stop", "from_stop_id": "stop", "to_stop_id": "stop"},
-    **{"route_id": "route", "from_route_id": "route", "to_route_id": "route", "service_id": "service"},
-    **{"trip_id": "trip", "from_trip_id": "trip", "to_trip_id": "trip", "agency_id": "agency", "shape_id": "shape"},
-    **{"fare_id": "fare", "zone_id": "zone", "pathway_id": "pathway", "level_id": "level", "area_id": "area"},
-    **{"network_id": "network", "attribution_id": "attribution"},
+    **{column: kind for kind, given in KINDS.items() for _, column in given if column not in ZONES},
+    **{"parent_station": "stop", "from_stop_id": "stop", "to_stop_id": "stop"},
+    **{"from_route_id": "route", "to_route_id": "route", "from_trip_id": "trip", "to_trip_id": "trip"},
 }
 TRANSLATED = {  # what record_id of translations.txt names, by table_name
     **{"stops": "stop", "routes": "route", "trips": "trip", "stop_times": "trip", "agency": "agency"},

@@ -7,7 +7,7 @@ import numpy.typing as npt
 
 from ..faults import BadInput
 from ..records import rows, shown
-from .columns import Codes, numbers_of, positions_of
+from .columns import Codes, begins_run, numbers_of, positions_of
 from .fields import Floats
 from .reading import columns
 from .stops import Projection, Stops, has_file, in_folder
@@ -33,9 +33,9 @@ class LinePoints:
 
 def lines_of(folder: str, stops: Stops, projection: Projection) -> LinePoints:
     """The points of the lines of shapes.txt, or of the trips from stop to stop where the folder has none."""
-    return (
-        shape_points(folder, projection) if has_file(folder, "shapes.txt") else stop_points(folder, stops, projection)
-    )
+    if has_file(folder, "shapes.txt"):
+        return shape_points(folder, projection)
+    return stop_points(folder, stops, projection)
 
 
 def shape_points(folder: str, projection: Projection) -> LinePoints:
@@ -61,9 +61,7 @@ def stop_points(folder: str, stops: Stops, projection: Projection) -> LinePoints
 
 
 def pieces(points: LinePoints) -> npt.NDArray[np.int32]:
-    """What lies between points that follow one another on a line, each once, on a grid, whichever way it is run: rows
-    of x, y, x, y on the grid.
-    """
+    """What lies between neighbours on a line, each once, whichever way it is run: x, y, x, y on the grid."""
     order = np.lexsort((points.sequence, points.line.astype(np.float64)))
     line = points.line[order]
     ends = np.stack([np.rint(part[order] / GRID).astype(np.int32) for part in (points.x, points.y)], axis=1)
@@ -78,9 +76,7 @@ def unique_rows(table: npt.NDArray[np.int32]) -> npt.NDArray[np.int32]:
     """The rows of a table, each once, quicker than numpy's own where there are many."""
     order = np.lexsort(table.T)
     table = table[order]
-    new = np.ones(len(table), dtype=np.bool_)
-    new[1:] = (table[1:] != table[:-1]).any(axis=1)
-    return table[new]
+    return table[begins_run(*table.T)]
 
 
 @dataclass(frozen=True)

@@ -14,7 +14,7 @@ import numpy.typing as npt
 
 from ..opening.tables import looked_at
 from ..records import places_of, records
-from .columns import Codes, Column, column_of
+from .columns import Codes, Column, begins_run, column_of
 
 BLOCK = 1 << 22  # bytes that are read at once: they fit into a processor's cache
 LONGEST = 256  # bytes of a field
@@ -32,9 +32,7 @@ class NotPlain(ValueError):
 
 @dataclass(frozen=True)
 class Piece:
-    """A column of a block: its different texts, as words of eight bytes with bytes 0 behind the end, and of each line
-    which of them it has.
-    """
+    """A column of a block: its different texts, in words with bytes 0 behind the end, and which each line has."""
 
     words: Sequence[Words]
     codes: Places
@@ -55,6 +53,8 @@ def plain_pieces(path: str | Path, needed: Sequence[str], size: int = BLOCK) -> 
     """The needed columns of a file, a block of whole lines at a time, which takes fifteen times its size in memory."""
     _, header = next(records(path), (1, list[str]()))
     places = places_of(header, path, needed)
+    if not header:
+        raise NotPlain  # no record, but perhaps a byte-order mark or empty lines
     with open(looked_at(path), "rb") as file:
         for number, block in enumerate(line_blocks(file, size)):
             fields = fields_of(block, len(header))
@@ -121,10 +121,7 @@ def fields_of(block: bytes, count: int) -> Fields:
 
 def distinct(columns: Sequence[Words]) -> tuple[Places, Places]:
     """The first row of each different text, and of each row the number of its text, in the order in which they come."""
-    new = np.ones(len(columns[0]), dtype=np.bool_)
-    new[1:] = False
-    for word in columns:
-        new[1:] |= word[1:] != word[:-1]
+    new = begins_run(*columns)
     rows = np.flatnonzero(new)  # others have the text of the row before them
     first = firsts_of([word[rows] for word in columns])
     is_first = first == np.arange(len(rows))
@@ -166,7 +163,6 @@ def drawers(columns: Sequence[Words], drawn: Words, bits: int) -> Places:
 
 
 def texts_of(columns: Sequence[Words]) -> list[str]:
-    """The texts of some words."""
     joined = np.ascontiguousarray(np.stack(columns, axis=1)).view(f"S{WORD * len(columns)}").ravel()
     return [text.decode("utf-8", "surrogateescape") for text in joined.tolist()]
 

@@ -31,21 +31,20 @@ Way = Callable[[], Iterable[Mapping[str, Texts]]]  # in pieces
 
 
 def columns(path: str | Path, needed: Sequence[str]) -> Columns:
-    """The needed columns of a file."""
     return columns_of(path, needed, lambda piece: None)[0]
 
 
 def columns_of(path: str | Path, needed: Sequence[str], keep: Keep) -> tuple[Columns, Whole]:
-    """The needed columns of those records that `keep` chooses of a piece (all where it says None), and the numbers of
-    these records.
-    """
+    """The needed columns of the records that `keep` chooses of a piece (all by None), and these records' numbers."""
     try:
         return plain_columns(path, needed, keep)
     except ODD:
         pass
     try:
         if is_long(path):
-            return joined_pieces(pieces(path, needed), needed, keep)
+            count, name = os.path.getsize(path) // BYTES_AT_ONCE, os.path.basename(path)
+            some = progress.shown(chunks(path, needed, ROWS_AT_ONCE), count, name, "M records")
+            return joined_pieces(some, needed, keep)
     except ODD:
         pass
     return joined_pieces([columns_by_records(path, needed)], needed, keep)
@@ -66,12 +65,6 @@ def plain_columns(path: str | Path, needed: Sequence[str], keep: Keep) -> tuple[
     return {name: together(found.pop(name)) for name in needed}, np.concatenate(numbers)
 
 
-def pieces(path: str | Path, needed: Sequence[str]) -> Iterator[Columns]:
-    """The needed columns of a file of many records, a million records at a time."""
-    count = os.path.getsize(path) // BYTES_AT_ONCE
-    return progress.shown(chunks(path, needed, ROWS_AT_ONCE), count, os.path.basename(path), "M records")
-
-
 def chunks(path: str | Path, needed: Sequence[str], rows_at_once: int) -> Iterator[Columns]:
     """The needed columns of a file of many records, a number of records at a time, as pandas reads them."""
     import pandas
@@ -84,12 +77,8 @@ def chunks(path: str | Path, needed: Sequence[str], rows_at_once: int) -> Iterat
     names = [str(number) for number in range(len(header))]
     with pandas.read_csv(path, names=names, header=0, usecols=sorted(heads), **how) as read:
         for piece in read:
-            yield {name: as_column(piece[head].array) for head, name in heads.items()}
-
-
-def as_column(categorical: Any) -> Column:
-    """A column that pandas has read."""
-    return Column(categorical.categories.to_numpy(), categorical.codes)
+            arrays = {name: piece[head].array for head, name in heads.items()}
+            yield {name: Column(array.categories.to_numpy(), array.codes) for name, array in arrays.items()}
 
 
 def joined_pieces(some: Iterable[Columns], needed: Sequence[str], keep: Keep) -> tuple[Columns, Whole]:
@@ -104,16 +93,8 @@ def joined_pieces(some: Iterable[Columns], needed: Sequence[str], keep: Keep) ->
         first += count
         for name, column in piece.items():
             codes[name].append(known_codes(column, column.codes[rows], found[name]))
-    return {name: column_of(list(found[name]), joined_codes(codes.pop(name))) for name in needed}, np.concatenate(
-        numbers
-    )
-
-
-def joined_codes(codes: list[npt.NDArray[Any]]) -> npt.NDArray[Any]:
-    """The codes of all pieces, which are dropped."""
-    whole: npt.NDArray[Any] = np.concatenate(codes)
-    codes.clear()
-    return whole
+    columns = {name: column_of(list(found[name]), np.concatenate(codes.pop(name))) for name in needed}
+    return columns, np.concatenate(numbers)
 
 
 def known_codes(column: Texts, codes: npt.NDArray[Any], known: dict[str, int]) -> npt.NDArray[Any]:
@@ -142,9 +123,7 @@ def is_long(path: str | Path) -> bool:
 
 
 def ways_to_read(path: str | Path, needed: Sequence[str], rows_at_once: int) -> Iterator[Way]:
-    """How the needed columns of a file of a feed that `ttm` takes are read in pieces: each way is for files that those
-    before it refuse by ODD, as soon as they come to what they don't take.
-    """
+    """How a file of a feed that `ttm` takes is read in pieces: each way for files that those before refuse by ODD."""
     yield lambda: plain_pieces(path, needed, LITTLE)
     if os.path.getsize(path) >= SMALL:
         yield lambda: chunks(path, needed, rows_at_once)

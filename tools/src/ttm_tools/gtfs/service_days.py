@@ -26,11 +26,6 @@ class Days:
     def day(self, place: int) -> datetime.date:
         return datetime.date.fromordinal(self.first + place)
 
-    def on(self, days: Sequence[int]) -> Mask:
-        """Which services run on some of these days, given as ordinals."""
-        places = [day - self.first for day in days if 0 <= day - self.first < self.runs.shape[1]]
-        return np.asarray(self.runs[:, places].any(axis=1), dtype=np.bool_)
-
 
 def ordinals(dates: Whole) -> Whole:
     """Days of dates that are numbers, -1 where they are none that the Python calendar has."""
@@ -67,8 +62,7 @@ def days_of(feed: Feed) -> Days:
     for row in np.flatnonzero(valid):
         span = slice(starts[row] - first, ends[row] - first + 1)
         runs[places[calendar.text("service_id", row)], span] |= flags[row][weekday[span]]
-    of = np.array([places[text] for text in dates.texts("service_id")], dtype=np.int64)
-    kinds = values_of(dates["exception_type"], number)
+    of, kinds = positions_of(dates["service_id"], places), values_of(dates["exception_type"], number)
     for kind in (2, 1):  # a day that is both added and removed runs
         rows = np.flatnonzero((kinds == kind) & (marked >= ORIGIN))
         runs[of[rows], marked[rows] - first] = kind == 1
@@ -97,29 +91,20 @@ def on_days(feed: Feed, days: Sequence[datetime.date]) -> Mask:
 def runs_of_trips(feed: Feed) -> Whole:
     """How often each trip runs on a day of its service: once if it has calls, or as its headways say."""
     names = names_in(feed, "trips.txt", "trip_id") or []
-    runs = np.zeros(len(names) + 1, dtype=np.int64)
-    called = positions_of(feed.get("stop_times.txt")["trip_id"], names)
-    runs[called[called >= 0]] = 1
+    runs, several = np.zeros((2, len(names) + 1), dtype=np.int64)  # the last is that of a trip that isn't there
+    runs[positions_of(feed.get("stop_times.txt")["trip_id"], names)] = 1
     table = feed.get("frequencies.txt")
     places = positions_of(table["trip_id"], names)
     start, end = (values_of(table[name], time) for name in ("start_time", "end_time"))
     headway = np.maximum(values_of(table["headway_secs"], number), 1)
     departures = np.where((start >= 0) & (end > start), (end - start + headway - 1) // headway, 0)
-    known = places >= 0
-    several = np.zeros(len(runs), dtype=np.int64)
-    np.add.at(several, places[known], departures[known])
-    led = np.zeros(len(runs), dtype=np.bool_)
-    led[places[known]] = True
-    return np.where(led & (runs > 0), several, runs)[:-1]
+    np.add.at(several, places, departures)
+    return np.where(np.isin(np.arange(len(runs)), places) & (runs > 0), several, runs)[:-1]
 
 
 def runs_by_day(feed: Feed, days: Days) -> Whole:
     """The runs of a feed on each day."""
-    trips = feed.get("trips.txt")
-    places = {name: place for place, name in enumerate(days.services)}
-    names = names_in(feed, "trips.txt", "trip_id") or []
-    where = {name: place for place, name in enumerate(names)}
-    counts, total = runs_of_trips(feed), np.zeros(len(days.services), dtype=np.int64)
-    for service, trip in zip(trips.texts("service_id"), trips.texts("trip_id")):
-        total[places[service]] += counts[where[trip]]
+    trips, total = feed.get("trips.txt"), np.zeros(len(days.services), dtype=np.int64)
+    places = positions_of(trips["trip_id"], names_in(feed, "trips.txt", "trip_id") or [])
+    np.add.at(total, positions_of(trips["service_id"], days.services), runs_of_trips(feed)[places])
     return np.asarray(total @ days.runs, dtype=np.int64)

@@ -50,6 +50,18 @@ class Stops:
         areas = {name: self.areas[name] for name in identifiers if name in self.areas} if self.areas else {}
         return Stops(self.path, list(identifiers), names, *places, self.kinds[chosen], stations, wide, high, areas)
 
+    def followed_by(self, more: "Stops") -> "Stops":
+        """These with others behind them; without cells."""
+        return Stops(
+            self.path,
+            self.identifiers + more.identifiers,
+            self.names + more.names,
+            np.concatenate([self.latitudes, more.latitudes]),
+            np.concatenate([self.longitudes, more.longitudes]),
+            np.concatenate([self.kinds, more.kinds]),
+            self.stations + more.stations,
+        )
+
     def sides(self) -> Floats:
         """How wide and how high the cell of each stop is, in metres; NaN for a stop that has none."""
         none = np.full(len(self.identifiers), np.nan)
@@ -89,15 +101,13 @@ def kind_of(text: str) -> int:
     return 0 if kind == fields.EMPTY else kind if kind <= 4 else fields.NONE
 
 
-WANTED = ("stop_name", "stop_lat", "stop_lon", "location_type", "parent_station")
-
-
 def read_stops(folder: str) -> Stops:
     """The stops of a feed; identifiers are bytes, and names are text of whatever encoding."""
     path = in_folder(folder, "stops.txt")
     identifiers: dict[str, None] = {}
     names, places, kinds, stations = [], [], [], []
-    for number, (stop, name, latitude, longitude, kind, station) in rows(path, ["stop_id"], WANTED):
+    wanted = ("stop_name", "stop_lat", "stop_lon", "location_type", "parent_station")
+    for number, (stop, name, latitude, longitude, kind, station) in rows(path, ["stop_id"], wanted):
         if stop in identifiers:
             raise BadInput(path, f"{shown(stop)} occurs twice", record=number)
         identifiers[stop] = None
@@ -120,9 +130,7 @@ def read_list(path: str, known: Sequence[str], kind: str) -> list[str]:
 
 
 class Projection:
-    """Degrees to kilometres east and north of the middle of some places (one at least), true to scale around it; across
-    the date line too.
-    """
+    """Degrees to kilometres from the middle of some places (one at least), true to scale there; past the date line."""
 
     def __init__(self, latitudes: Floats, longitudes: Floats) -> None:
         placed = ~np.isnan(latitudes)

@@ -11,13 +11,12 @@ from typing import BinaryIO, Iterable, Mapping, Sequence
 import numpy as np
 import numpy.typing as npt
 
-from ..records import field as quoted
-from ..records import names_of
+from ..records import field as quoted, fields_as_texts, joined as lines_of, names_of
 from .columns import Column, behind, coded, column_of, constant, texts_at, texts_of
 from .fields import Layout, Mask, Whole
 from .reading import columns
 
-ROWS_AT_ONCE = 1 << 18
+ROWS_AT_ONCE = 1 << 17
 
 
 @dataclass
@@ -34,7 +33,6 @@ class Table:
         return len(self.records)
 
     def __contains__(self, name: str) -> bool:
-        """Whether the file has a column."""
         return name in self.fields
 
     def __getitem__(self, name: str) -> Column:
@@ -77,10 +75,6 @@ class Table:
     def replace(self, name: str, column: Column) -> None:
         """Puts a column in the place of one, or behind all."""
         self.fields, self.source = {**self.fields, name: column}, None
-
-    def rename(self, names: Mapping[str, str]) -> None:
-        """Gives columns other names, in their places."""
-        self.fields = {names.get(name, name): column for name, column in self.fields.items()}
 
     def put(self, name: str, rows: npt.NDArray[np.intp], texts: Sequence[str]) -> None:
         """Writes texts into the fields of some records."""
@@ -140,19 +134,11 @@ def write_table(table: Table, file: BinaryIO) -> None:
 
 def write_lines(table: Table, file: BinaryIO) -> None:
     """Writes the records of a table without its header."""
-    texts = {}
-    for place, name in enumerate(table.columns):
-        categories = table[name].categories
-        fields = np.empty(len(categories), dtype=object)
-        fields[:] = [(b"," if place else b"") + quoted(value) for value in categories]
-        texts[name] = fields, table[name].codes
-    alone = len(table.columns) == 1
+    columns = [table[name] for name in table.columns]
+    texts = [fields_as_texts(column.categories, before=b"," if place else b"") for place, column in enumerate(columns)]
+    if len(texts) == 1:
+        texts[0][texts[0] == b""] = b'""'  # an empty line is no record
     for first in range(0, len(table), ROWS_AT_ONCE):
         rows = slice(first, first + ROWS_AT_ONCE)
-        lines = np.empty((len(table.records[rows]), len(texts) + 1), dtype=object)
-        for place, (fields, codes) in enumerate(texts.values()):
-            lines[:, place] = fields[codes[rows]]
-        if alone:
-            lines[lines[:, 0] == b"", 0] = b'""'  # an empty line is no record
-        lines[:, -1] = b"\n"
-        file.write(b"".join(lines.ravel()))
+        pieces = [fields[column.codes[rows]] for fields, column in zip(texts, columns)]
+        file.write(lines_of([*pieces, b"\n"], len(table.records[rows])))

@@ -76,12 +76,10 @@ class Timetable:
         return os.path.dirname(self.all_stops.path)
 
 
-FILES_READ = ("trips.txt", "stop_times.txt", "frequencies.txt", "calendar.txt", "calendar_dates.txt", "transfers.txt")
-
-
 def read_timetable(all_stops: Stops) -> Timetable:
     """The timetable of the feed that has these stops."""
-    feed = read_files(os.path.dirname(all_stops.path), FILES_READ)
+    files = ("trips.txt", "stop_times.txt", "frequencies.txt", "calendar.txt", "calendar_dates.txt", "transfers.txt")
+    feed = read_files(os.path.dirname(all_stops.path), files)
     stops = [name for name, kind in zip(all_stops.identifiers, all_stops.kinds.tolist()) if kind == 0]
     trips, routes = (feed.tables["trips.txt"].texts(name) for name in ("trip_id", "route_id"))
     events = events_of(feed.tables.pop("stop_times.txt"), trips, stops)
@@ -142,26 +140,18 @@ class Runs:
 
 
 def runs_of(timetable: Timetable, date: datetime.date, days: tuple[int, int], edits: Edits) -> Runs:
-    """The runs that a scenario keeps, from some days before a date to some after it; the axis begins at midnight
-    of the first day.
-    """
-    kept = trips_that_run(timetable, edits)
+    """The runs that a scenario keeps, some days before a date to some after; the axis begins on the first day."""
+    table = timetable.feed.tables["trips.txt"]
+    gone = one_of(table["route_id"], edits.routes) | one_of(table["trip_id"], edits.trips)
+    kept = (timetable.events.counts > 0) & ~gone
     shifts = np.array([edits.shifts.get(name, 0) for name in timetable.trips] if edits.shifts else [], np.int64)
-    services = timetable.feed.tables["trips.txt"]["service_id"]
     trips, moved = [np.zeros(0, np.int64)], [np.zeros(0, np.int64)]
     for day in range(-days[0], days[1] + 1):
         running = services_on(timetable.feed, date + datetime.timedelta(days=day))
-        trip, more = departures_of(timetable, np.flatnonzero(kept & one_of(services, running)))
+        trip, more = departures_of(timetable, np.flatnonzero(kept & one_of(table["service_id"], running)))
         trips.append(trip)
         moved.append(more + DAY * (days[0] + day) + (shifts[trip] if len(shifts) else 0))
     return Runs(np.concatenate(trips), np.concatenate(moved))
-
-
-def trips_that_run(timetable: Timetable, edits: Edits) -> Mask:
-    """Which trips have events, and aren't removed."""
-    table = timetable.feed.tables["trips.txt"]
-    gone = one_of(table["route_id"], edits.routes) | one_of(table["trip_id"], edits.trips)
-    return np.asarray((timetable.events.counts > 0) & ~gone, dtype=np.bool_)
 
 
 def departures_of(timetable: Timetable, trips: Whole) -> tuple[Whole, Whole]:

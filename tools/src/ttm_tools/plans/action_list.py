@@ -41,18 +41,16 @@ LISTED = (
         "route",
         "removes the trips of a `route`",
         '`route = "R2"`: T1 alone runs',
-        "removals.remove_route",
+        "trips.remove",
     ),
-    Action(
-        "remove_trip", ("trip",), "trip", "removes a `trip`", '`trip = "T2"`: T1 alone runs', "removals.remove_trip"
-    ),
+    Action("remove_trip", ("trip",), "trip", "removes a `trip`", '`trip = "T2"`: T1 alone runs', "trips.remove"),
     Action(
         "remove_stop",
         ("stop", *CHOICE),
         "stop; trips (of route ..) no longer call there",
         "trips (of a `route`, or all) no longer call at a `stop`; other times stay; a trip with one call left goes",
         '`stop = "C"`: T2 is left with B, and goes',
-        "removals.remove_stop",
+        "trips.remove_stop",
     ),
     Action(
         "shift_route",
@@ -60,7 +58,7 @@ LISTED = (
         "route, seconds (negative for earlier)",
         "moves all times of a `route` by `seconds`, negative for earlier",
         '`route = "R1"`, `seconds = 300`: A 08:05, B 08:15, just in time for T2',
-        "removals.shift_route",
+        "trips.shift",
     ),
     Action(
         "shift_trip",
@@ -68,7 +66,7 @@ LISTED = (
         "trip, seconds",
         "moves all times of a `trip` by `seconds`",
         '`trip = "T1"`, `seconds = 300`: the same',
-        "removals.shift_trip",
+        "trips.shift",
     ),
     Action(
         "add_line",
@@ -106,7 +104,7 @@ LISTED = (
         "multiplies run times by a `factor`, or adds seconds to `dwell` times, of whole trips or between `from_stop`"
         " and `to_stop`; sums are rounded to the nearest second",
         '`route = "R2"`, `factor = 0.85`: 900 seconds become 765, C 08:27:45',
-        "speeds.speed",
+        "lines.speed",
     ),
     Action(
         "extend",
@@ -117,7 +115,7 @@ LISTED = (
         " or `speed` and `dwell` as above",
         '`route = "R1"`, `after = "B"`, `stops = ["C"]`, `seconds = [600]`, `dwell = 30`: T1 leaves B at 08:10:30 and'
         " arrives at C at 08:20:30",
-        "ends.extend",
+        "trips.extend",
     ),
     Action(
         "cut",
@@ -125,7 +123,7 @@ LISTED = (
         "route .., after or before: the stop at which trips now end or begin",
         "trips end at the stop `after`, or begin at `before`",
         'then `route = "R1"`, `after = "B"`: T1 ends at B again',
-        "ends.cut",
+        "trips.cut",
     ),
 )
 ACTIONS = {action.name: action for action in LISTED}

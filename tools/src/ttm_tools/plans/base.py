@@ -8,7 +8,7 @@ import datetime
 from dataclasses import dataclass, field
 from functools import cached_property
 from pathlib import Path
-from typing import Sequence
+from typing import Container, Sequence
 
 import numpy as np
 
@@ -17,11 +17,11 @@ from ..gtfs.call_numbers import CALLS, CallNumbers, CallReader, narrow
 from ..gtfs.calls import begins_of, calls_of
 from ..gtfs.columns import Codes, positions_of, values_of
 from ..gtfs.feeds import Feed, is_stop, read_feed, read_folder
-from ..gtfs.fields import MOST_STOPS, Floats, Narrow, Whole, date, number, time
+from ..gtfs.fields import MOST_STOPS, Narrow, Whole, date, number, time
 from ..gtfs.service_days import MOST_DAYS, Days, days_of, ordinals
-from ..gtfs.stops import place_of
+from ..gtfs.stops import Stops, place_of
 from ..prepare.check import check
-from ..prepare.report import counted_errors, fault_lines
+from ..prepare.report import refuse
 from ..records import shown
 from ..opening.kinds import decimal
 from ..opening.toml_file import Entry
@@ -50,18 +50,11 @@ class Headway:
         return Headway(self.start + seconds, self.departures[-1] + 1 + seconds, self.seconds, self.row)
 
 
-@dataclass(frozen=True)
-class StopPlaces:
-    """Where stops stand: those of the feed at which vehicles call, in its order, and then the plan's own."""
-
-    identifiers: list[str]
-    names: list[str]
-    latitudes: Floats  # degrees; NaN where there is no place
-    longitudes: Floats
-
-    @cached_property
-    def numbers(self) -> dict[str, int]:
-        return {name: place for place, name in enumerate(self.identifiers)}
+def free(name: str, *taken: Container[str]) -> str:
+    """A name that isn't taken."""
+    while any(name in names for names in taken):
+        name += "'"
+    return name
 
 
 @dataclass
@@ -70,7 +63,7 @@ class Base:
 
     feed: Feed
     folder: Path
-    places: StopPlaces
+    places: Stops  # the feed's at which vehicles call, in its order, and then the plan's own
     old_stops: int  # how many of the stops are the feed's
     trips: list[str]
     routes: list[str]  # of each trip
@@ -86,18 +79,16 @@ class Base:
 
     @cached_property
     def lengths(self) -> Whole:
-        counts: Whole = np.diff(self.begins)
-        return counts
+        """How many calls each trip has."""
+        return np.diff(self.begins)
 
     @cached_property
     def calls_at(self) -> Whole:
         """How many calls there are at each stop."""
-        count = len(self.places.identifiers)
-        some = range(0, len(self.stop), BLOCK)
-        return sum(
-            (np.bincount(self.stop[begin : begin + BLOCK], minlength=count) for begin in some),
-            np.zeros(count, np.int64),
-        )
+        calls = np.zeros(len(self.places.identifiers), np.int64)
+        for begin in range(0, len(self.stop), BLOCK):
+            calls += np.bincount(self.stop[begin : begin + BLOCK], minlength=len(calls))
+        return calls
 
     @cached_property
     def numbers(self) -> dict[str, int]:
@@ -118,10 +109,6 @@ class Base:
         table = self.feed.tables["routes.txt"]
         return table.text("agency_id", 0) if len(table) else ""
 
-    def last_stop(self, trip: int) -> int:
-        """The stop at which a trip of the feed ends."""
-        return int(self.stop[self.begins[trip + 1] - 1])
-
     @cached_property
     def directions(self) -> list[str]:
         """The direction_id of each trip, empty where none is stated."""
@@ -133,8 +120,8 @@ class Base:
         return self.feed.tables["trips.txt"].texts("shape_id")
 
     def stops_of(self, trip: int) -> list[int]:
-        """The stops at which a trip of the feed calls."""
-        return [int(stop) for stop in self.stop[self.begins[trip] : self.begins[trip + 1]]]
+        stops: list[int] = self.stop[self.begins[trip] : self.begins[trip + 1]].tolist()
+        return stops
 
     @cached_property
     def short_names(self) -> dict[str, str]:
@@ -168,32 +155,25 @@ def read_base(folder: str, new_stops: Sequence[Entry]) -> Base:
     if not path.is_dir():
         raise BadInput(folder, "not the folder of a feed (unzip it first)")
     feed = read_feed(path, path)
-    faults = check(feed)
-    if faults:
-        first = next(fault_lines(faults)).removeprefix("ttm: ")
-        raise BadInput(
-            folder, f"{counted_errors(sum(map(len, faults)))}: {first} (ttm-tools prepare reports and repairs errors)"
-        )
+    refuse(folder, check(feed), "ttm-tools prepare reports and repairs errors")
     table, trips, places = feed.tables[CALLS], feed.tables["trips.txt"].texts("trip_id"), read_places(feed, new_stops)
     calls = calls_of(table, trips)
-    stop = positions_of(table["stop_id"], places.numbers)[calls.rows]
+    stop = positions_of(table["stop_id"], places.places)[calls.rows]
     columns = [narrow(column) for column in (calls.rows, stop, *calls.filled())]
     numbers = CallNumbers(begins_of(calls, len(trips)), columns[0], columns[1], columns[2], columns[3], len(table))
     return base_of(feed, path, places, len(places.identifiers) - len(new_stops), numbers)
 
 
 def read_taken_base(folder: str, new_stops: Sequence[Entry]) -> Base:
-    """Reads the folder of a feed that `ttm` has taken: without a look for faults, and with the calls as numbers alone,
-    so that it takes some 20 bytes for each stop time.
-    """
+    """Reads the folder of a feed that `ttm` has taken: no look for faults, some 20 bytes a stop time."""
     path = Path(folder)
     feed = read_folder(path, (CALLS,))
     places, trips = read_places(feed, new_stops), feed.tables["trips.txt"].texts("trip_id")
-    numbers, feed.tables[CALLS] = CallReader(path / CALLS, trips, places.numbers).read()
+    numbers, feed.tables[CALLS] = CallReader(path / CALLS, trips, places.places).read()
     return base_of(feed, path, places, len(places.identifiers) - len(new_stops), numbers)
 
 
-def base_of(feed: Feed, path: Path, places: StopPlaces, old_stops: int, calls: CallNumbers) -> Base:
+def base_of(feed: Feed, path: Path, places: Stops, old_stops: int, calls: CallNumbers) -> Base:
     table = feed.tables["trips.txt"]
     trips, routes, services = (table.texts(name) for name in ("trip_id", "route_id", "service_id"))
     columns = (calls.begins, calls.stop, calls.arrive, calls.depart, calls.rows, calls.records)
@@ -203,7 +183,6 @@ def base_of(feed: Feed, path: Path, places: StopPlaces, old_stops: int, calls: C
 
 
 def read_headways(feed: Feed, numbers: dict[str, int]) -> dict[int, tuple[Headway, ...]]:
-    """The rows of frequencies.txt by trip."""
     table = feed.get("frequencies.txt")
     start, end = (values_of(table[name], time).tolist() for name in ("start_time", "end_time"))
     seconds = values_of(table["headway_secs"], number).tolist()
@@ -214,7 +193,7 @@ def read_headways(feed: Feed, numbers: dict[str, int]) -> dict[int, tuple[Headwa
     return headways
 
 
-def read_places(feed: Feed, new_stops: Sequence[Entry]) -> StopPlaces:
+def read_places(feed: Feed, new_stops: Sequence[Entry]) -> Stops:
     """The stops at which vehicles call, and behind them the new ones."""
     table = feed.tables["stops.txt"]
     rows = np.flatnonzero(is_stop(table))
@@ -235,4 +214,4 @@ def read_places(feed: Feed, new_stops: Sequence[Entry]) -> StopPlaces:
     if new_stops and len(taken) > MOST_STOPS:
         raise new_stops[-1].fault(f"makes {len(taken):,} stops and stations; ttm takes {MOST_STOPS:,}", "id")
     found = np.array(where, dtype=np.float64).reshape(-1, 2)
-    return StopPlaces(stops, names, found[:, 0], found[:, 1])
+    return Stops("stops.txt", stops, names, found[:, 0], found[:, 1], np.zeros(len(stops), np.int8), [""] * len(stops))

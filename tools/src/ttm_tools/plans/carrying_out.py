@@ -7,7 +7,7 @@ from .base import Base
 from ..opening.kinds import near
 from ..opening.toml_file import Entry
 from .plan_file import PlannedScenario
-from .state import Change, StateCounts, State
+from .state import Change, State
 
 ABOUT = ("route", "trip", "stop")  # keys that say what an action is about
 
@@ -19,8 +19,8 @@ class Done:
     scenario: str
     number: int  # among the scenario's actions, from 1 on
     entry: Entry
-    before: StateCounts
-    after: StateCounts
+    before: dict[str, int]  # what `State.counts` gives
+    after: dict[str, int]
     notes: list[str]  # sentences on what it chose
     changes: list[Change]
 

@@ -2,7 +2,6 @@
 
 from typing import Sequence
 
-from ..faults import BadInput
 from ..records import shown
 from ..opening.kinds import near, whole
 from ..opening.toml_file import Entry
@@ -10,19 +9,13 @@ from .state import State, Trip
 
 
 def routes_of(state: State, entry: Entry) -> list[str]:
-    """The routes that an action names."""
     names = entry.texts("route")
     for name in names:
         if name not in state.base.by_route and name not in state.lines:
-            raise unknown_route(state, entry, name)
+            by_name, known = state.base.short_names.get(name), [*state.base.by_route, *state.lines]
+            nearest = f"; the nearest is {by_name!r}, which has this name" if by_name else near(name, known)
+            raise entry.fault(f"is not a route of the feed or of the scenario{nearest}", "route", name)
     return list(dict.fromkeys(names))
-
-
-def unknown_route(state: State, entry: Entry, name: str) -> BadInput:
-    """The fault that names the nearest route, by its identifier or by the name that people use."""
-    by_name = state.base.short_names.get(name)
-    nearest = f"; the nearest is {by_name!r}, which has this name" if by_name else near(name, state.routes())
-    return entry.fault(f"is not a route of the feed or of the scenario{nearest}", "route", name)
 
 
 def chosen(state: State, entry: Entry) -> list[Trip]:
@@ -34,18 +27,17 @@ def chosen(state: State, entry: Entry) -> list[Trip]:
         direction = str(entry.read("direction", whole(0, 1)))
         trips = [trip for trip in trips if trip.direction.strip() == direction]
     if entry.has("pattern"):
-        trips = same_pattern(state, entry, trips)
+        trips = same_pattern(entry, trips)
     if entry.has("service"):
         service = entry.text("service")
         entry.known("service", service, {trip.service for trip in trips}, "is not a service of these trips")
         trips = [trip for trip in trips if trip.service == service]
     if not trips:
-        message = "no trip of the route has this direction_id, pattern and service"
-        raise entry.fault(message, "direction")
+        raise entry.fault("no trip of the route has this direction_id, pattern and service", "direction")
     return trips
 
 
-def same_pattern(state: State, entry: Entry, trips: Sequence[Trip]) -> list[Trip]:
+def same_pattern(entry: Entry, trips: Sequence[Trip]) -> list[Trip]:
     """The trips that call at the stops of the one that is named."""
     name = entry.text("pattern")
     found = [trip for trip in trips if trip.label == name]
@@ -60,14 +52,10 @@ def pattern_of(trip: Trip) -> tuple[int, ...]:
 
 
 def directions_of(trips: Sequence[Trip]) -> list[list[Trip]]:
-    """The trips of a route by the way that they run: by direction_id where all state it, else those together whose
-    patterns have two stops in the same order.
-    """
+    """The trips of a route by direction_id where all state it, else those together with two stops in one order."""
     if all(trip.direction.strip() in ("0", "1") for trip in trips):
-        groups: dict[str, list[Trip]] = {}
-        for trip in trips:
-            groups.setdefault(trip.direction.strip(), []).append(trip)
-        return [groups[direction] for direction in sorted(groups)]
+        directions = sorted({trip.direction.strip() for trip in trips})
+        return [[trip for trip in trips if trip.direction.strip() == direction] for direction in directions]
     by_pattern: dict[tuple[int, ...], list[Trip]] = {}
     for trip in trips:
         by_pattern.setdefault(pattern_of(trip), []).append(trip)
@@ -90,14 +78,12 @@ def runs_along(pattern: Sequence[int], lead: Sequence[int]) -> bool:
 
 def stop_named(state: State, entry: Entry, key: str, name: str) -> int:
     """A stop of the feed or of the plan."""
-    numbers = state.base.places.numbers
-    if name not in numbers:
-        by_name = [
-            stop for stop, nearest in zip(state.base.places.identifiers, state.base.places.names) if nearest == name
-        ]
-        nearest = f"; the nearest is {by_name[0]!r}, which has this name" if by_name else near(name, numbers)
+    places = state.base.places
+    if name not in places.places:
+        by_name = [stop for stop, shown_name in zip(places.identifiers, places.names) if shown_name == name]
+        nearest = f"; the nearest is {by_name[0]!r}, which has this name" if by_name else near(name, places.places)
         raise entry.fault(f"is not a stop of the feed or of the plan{nearest}", key, name)
-    return numbers[name]
+    return places.places[name]
 
 
 def stops_named(state: State, entry: Entry, key: str) -> list[int]:

@@ -3,7 +3,7 @@
 import numpy as np
 
 from ..gtfs.fields import WEEKDAYS, Mask
-from .base import Base
+from .base import Base, free
 from ..opening.toml_file import Entry
 
 EVERY = {"daily": WEEKDAYS, "weekdays": WEEKDAYS[:5], "weekend": WEEKDAYS[5:]}
@@ -37,8 +37,7 @@ def runs_of(base: Base, name: str) -> Mask:
 
 def new_service(base: Base, name: str, runs: Mask) -> str:
     """A service of the plan for some of the days that the calendars know, named so that none of the feed has it."""
-    while name in base.service_numbers:
-        name += "'"
+    name = free(name, base.service_numbers)
     base.new_services[name] = [base.days.day(int(place)) for place in np.flatnonzero(runs)]
     return name
 
@@ -62,8 +61,7 @@ def weekdays_of(entry: Entry) -> list[str]:
     named = entry.texts("days")
     if len(named) == 1 and named[0] in EVERY:
         return list(EVERY[named[0]])
+    what = "is not a day of the week; allowed are 'daily', 'weekdays', 'weekend' or a list"
     for day in named:
-        entry.known(
-            "days", day, WEEKDAYS, "is not a day of the week; allowed are 'daily', 'weekdays', 'weekend' or a list"
-        )
+        entry.known("days", day, WEEKDAYS, what)
     return named

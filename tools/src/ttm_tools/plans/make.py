@@ -1,7 +1,6 @@
 """From a feed and a plan to the feed of all scenarios with their files, or to that of one."""
 
 import shlex
-from dataclasses import dataclass
 from pathlib import Path
 
 from ..escaping import as_text
@@ -19,17 +18,9 @@ from .writing import Written, write_all, written_of
 FOLDER, WORDS, REPORT = "scenarios", "scenarios.words", "scenarios.md"
 
 
-@dataclass(frozen=True)
-class WrittenFolder:
-    """What is reported of a folder that was written."""
-
-    lines: list[str]
-    arguments: str | None  # those of a run with all scenarios
-
-
-def make(feed: str, path: str, out: str, only: str | None = None, called: str | None = None) -> WrittenFolder:
-    """Writes the folder of all scenarios of a plan, or of one of them alone. The arguments of a run name the folder by
-    its path, or as it is called.
+def make(feed: str, path: str, out: str, only: str | None = None, called: str = "") -> tuple[list[str], str | None]:
+    """Writes the folder of all scenarios of a plan, or of one. Gives what is reported, and the arguments of a run with
+    all, which name the folder as it is called.
     """
     is_free(Path(out))
     plan = read_plan(path)
@@ -45,11 +36,10 @@ def make(feed: str, path: str, out: str, only: str | None = None, called: str | 
         write_lists(written, folder)
         arguments = write_arguments(written, folder, called or out) if only is None else None
         write_report(plan, finished, lines, folder)
-    return WrittenFolder(lines, arguments)
+    return lines, arguments
 
 
 def write_arguments(written: Written, folder: Path, out: str) -> str:
-    """Writes the scenario files, and the arguments of a run with all of them."""
     names = write_scenarios(written, folder / FOLDER)
     arguments = ["--feed", out, *(str(Path(out) / FOLDER / name) for name in names)]
     text = " ".join(map(shlex.quote, arguments))
@@ -58,10 +48,8 @@ def write_arguments(written: Written, folder: Path, out: str) -> str:
 
 
 def write_report(plan: PlanFile, finished: list[Finished], lines: list[str], folder: Path) -> None:
-    """Writes what is reported as a page of Markdown."""
     names = ", ".join(scenario.name for scenario in finished)
     text = [f"# Scenarios of {as_text(Path(plan.path).name)}: {names}", ""]
-    lines = [as_text(line) for line in lines]
-    text += [f"{line[2:]}" if line.startswith("  ") else f"- {line}" for line in lines]
+    text += [line[2:] if line.startswith("  ") else f"- {line}" for line in map(as_text, lines)]
     body = "\n".join(f"  {line}" if not line.startswith(("-", "#")) and line else line for line in text)
     (folder / REPORT).write_text(body + "\n", encoding="utf-8", errors="backslashreplace")

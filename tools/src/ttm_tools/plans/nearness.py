@@ -14,8 +14,7 @@ Leaving = dict[int, list[tuple[int, int]]]  # of each stop the stops that one wa
 
 def sentences_on_nearer(folder: str, footpaths: str, walk: int = 0) -> Iterator[str]:
     """A sentence where walks by way of new stops of a folder of scenarios are shorter than all others, within the
-    longest of the footpaths or the walk of a run, in seconds; nothing where they aren't, or the folder has no new
-    stops.
+    longest of the footpaths or the walk of a run, in seconds.
     """
     path = os.path.join(folder, NEW_STOPS)
     names = [stop for _, (stop,) in rows(path, ["stop_id"])] if os.path.isfile(path) else []
@@ -30,9 +29,8 @@ def sentences_on_nearer(folder: str, footpaths: str, walk: int = 0) -> Iterator[
     if found:
         a, b, seconds, before = found[0]
         ends = f"{shown(stops.identifiers[a])} and {shown(stops.identifiers[b])}"
-        times = (
-            f"{seconds} seconds apart by way of them, and {'out of reach' if before is None else before} without them"
-        )
+        without = "out of reach" if before is None else before
+        times = f"{seconds} seconds apart by way of them, and {without} without them"
         pairs = f"{quantity(len(found), 'pair')} of old stops nearer to each other, so today differs from the feed"
         yield f"walks to new stops bring {pairs}: {ends}, {times}"
 

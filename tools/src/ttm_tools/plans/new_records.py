@@ -1,23 +1,53 @@
-"""The records that scenarios add to the files of a feed."""
+"""The records that scenarios add to the files of a feed, and what their routes and trips are called there.
+
+In the feed of all scenarios, those of a scenario's own end with its name behind an @. A scenario's trips stand in
+routes of its own, copies of the feed's, so that another scenario takes them out by their routes. In the feed of one
+scenario all have the names that the plan and the feed give them.
+"""
 
 from dataclasses import dataclass
 from typing import Sequence
 
 import numpy as np
 
-from ..gtfs.columns import Column, clocks, column_of
+from ..gtfs.columns import Column, clocks, coded, column_of
 from ..gtfs.fields import Whole, clock
 from ..gtfs.tables import Table, table_of
 from ..opening.kinds import whole
-from .base import Base
-from .naming import Names, own_routes, trips_written
+from .base import Base, free
 from .shapes import Shapes
 from .state import State, Trip
 
 ROUTE_TYPE = whole(0, 1_702)  # of the GTFS, extended ones too
-
 HEADSIGN = "trip_headsign"
 NEEDED = ("trip_id", "arrival_time", "departure_time", "stop_id", "stop_sequence")
+
+
+@dataclass(frozen=True)
+class Names:
+    """The names of a feed that is written."""
+
+    base: Base
+    shared: frozenset[str]  # new routes that several scenarios add
+    alone: bool  # whether it is the feed of one scenario
+
+    def route(self, state: State, route: str) -> str:
+        """The route of a scenario's own trips."""
+        if self.alone or route in state.lines and route not in self.shared:
+            return route
+        return free(f"{route}@{state.name}", self.base.by_route)
+
+    def trip(self, state: State, label: str) -> str:
+        return label if self.alone else free(f"{label}@{state.name}", self.base.numbers)
+
+    def now(self, state: State, label: str) -> str:
+        """What a trip is called in the feed after an action, whichever it is."""
+        return self.trip(state, label) if label in state.own else label
+
+
+def own_routes(state: State) -> list[str]:
+    """The routes of a scenario's own trips, each once."""
+    return list(dict.fromkeys(trip.route for trip in state.own.values()))
 
 
 @dataclass(frozen=True)
@@ -31,10 +61,11 @@ class OwnTrip:
 
 
 def own_trips(states: Sequence[State], names: Names, shapes: Shapes | None) -> list[OwnTrip]:
-    """The trips that are written, scenario by scenario."""
+    """The trips that are written, scenario by scenario: its own, and in a feed of its own the shifted ones too."""
     trips = []
     for state in states:
-        for trip in trips_written(state, names.alone):
+        shifted = np.flatnonzero(state.kept & (state.shift != 0)).tolist() if names.alone else []
+        for trip in (*map(state.trip, shifted), *state.own.values()):
             route = names.route(state, trip.route)
             shape = "" if shapes is None else shapes.of(trip, route)
             trips.append(OwnTrip(trip, names.trip(state, trip.label), route, shape))
@@ -49,21 +80,12 @@ def heads(base: Base, name: str, needed: Sequence[str]) -> list[str]:
 def new_stops(base: Base, used: Sequence[int]) -> Table:
     """The plan's own stops at which some scenario calls."""
     places, needed = base.places, ("stop_id", "stop_name", "stop_lat", "stop_lon")
-    rows = [
-        dict(
-            zip(
-                needed,
-                (places.identifiers[place], places.names[place], degrees(places.latitudes[place]), degrees(east)),
-            )
-        )
-        for place in used
-        for east in [places.longitudes[place]]
-    ]
+    rows = list[dict[str, str]]()
+    for place in used:
+        degrees = (places.latitudes[place], places.longitudes[place])
+        where = (f"{number:.6f}".rstrip("0").rstrip(".") for number in degrees)
+        rows.append(dict(zip(needed, (places.identifiers[place], places.names[place], *where))))
     return table_of("stops.txt", heads(base, "stops.txt", needed if rows else ()), rows)
-
-
-def degrees(number: float) -> str:
-    return f"{number:.6f}".rstrip("0").rstrip(".")
 
 
 def new_routes(base: Base, states: Sequence[State], names: Names) -> Table:
@@ -76,11 +98,9 @@ def new_routes(base: Base, states: Sequence[State], names: Names) -> Table:
             name = names.route(state, route)
             if route in state.lines:
                 entry, lined = state.lines[route], True
-                fields = {
-                    "route_short_name": entry.text("name", route),
-                    "agency_id": entry.text("agency", "") or base.first_agency,
-                }
-                rows.append({"route_id": name, "route_type": str(entry.read("type", ROUTE_TYPE, 3)), **fields})
+                kind, agency = str(entry.read("type", ROUTE_TYPE, 3)), entry.text("agency", "") or base.first_agency
+                named = {"route_short_name": entry.text("name", route), "agency_id": agency}
+                rows.append({"route_id": name, "route_type": kind, **named})
             elif name != route:
                 rows.append({**records[route], "route_id": name})
     needed = ("route_id", "route_short_name", "route_type") if lined else ("route_id",)
@@ -95,10 +115,9 @@ def new_trips(base: Base, own: Sequence[OwnTrip]) -> Table:
         named = {"trip_id": new.name, "route_id": new.route, "service_id": new.trip.service}
         old = records[new.trip.source] if new.trip.source >= 0 else {"direction_id": new.trip.direction}
         shape = new.shape if new.trip.redrawn else old.get("shape_id", "")
-        headsign = (
-            {HEADSIGN: base.places.names[new.trip.stop[-1]]} if old.get(HEADSIGN) and ends_elsewhere(base, new) else {}
-        )
-        rows.append({**old, **named, **headsign, "shape_id": shape, "block_id": ""})
+        if old.get(HEADSIGN) and ends_elsewhere(base, new):
+            named[HEADSIGN] = base.places.names[new.trip.stop[-1]]
+        rows.append({**old, **named, "shape_id": shape, "block_id": ""})
     needed = ["route_id", "service_id", "trip_id"]
     needed += ["shape_id"] if any(new.trip.redrawn and new.shape for new in own) else []
     needed += ["direction_id"] if any(new.trip.source < 0 for new in own) else []
@@ -107,7 +126,7 @@ def new_trips(base: Base, own: Sequence[OwnTrip]) -> Table:
 
 def ends_elsewhere(base: Base, own: OwnTrip) -> bool:
     """Whether a trip ends at another stop than the trip of the feed from which it comes."""
-    return own.trip.source >= 0 and int(own.trip.stop[-1]) != base.last_stop(own.trip.source)
+    return own.trip.source >= 0 and int(own.trip.stop[-1]) != base.stops_of(own.trip.source)[-1]
 
 
 def new_stop_times(base: Base, own: Sequence[OwnTrip]) -> Table:
@@ -138,10 +157,9 @@ def new_stop_times(base: Base, own: Sequence[OwnTrip]) -> Table:
 
 def taken_from(column: Column, rows: Whole) -> Column:
     """The texts of some records of a column; empty for a record of -1."""
-    known = {text: code for code, text in enumerate(column.categories)}
-    codes = np.full(len(rows), known.setdefault("", len(known)), np.int32)
+    codes = np.full(len(rows), len(column.categories), np.int32)
     codes[rows >= 0] = column.codes[rows[rows >= 0]]
-    return column_of(list(known), codes)
+    return coded([*column.categories, ""]).at(codes)
 
 
 def timed(trip: Trip, name: str) -> Whole:
@@ -155,7 +173,6 @@ def together(columns: Sequence[Whole]) -> Whole:
 
 
 def new_headways(base: Base, own: Sequence[OwnTrip]) -> Table:
-    """The rows of frequencies.txt."""
     table, rows = base.feed.get("frequencies.txt"), list[dict[str, str]]()
     records = table.rows()
     for new in own:
@@ -165,7 +182,7 @@ def new_headways(base: Base, own: Sequence[OwnTrip]) -> Table:
     return table_of("frequencies.txt", list(table.columns), rows)
 
 
-def new_route_rows(base: Base, states: Sequence[State], names: Names, table: Table) -> Table:
+def new_route_rows(states: Sequence[State], names: Names, table: Table) -> Table:
     """The records of a file that name a route, again for each copy of that route."""
     copies: dict[str, list[str]] = {}
     for state in states:
@@ -179,10 +196,7 @@ def new_route_rows(base: Base, states: Sequence[State], names: Names, table: Tab
 def new_days(base: Base, own: Sequence[OwnTrip]) -> Table:
     """The days of new services, as days that are added."""
     used = sorted({new.trip.service for new in own} & base.new_services.keys())
-    rows = [
-        {"service_id": name, "date": day.strftime("%Y%m%d"), "exception_type": "1"}
-        for name in used
-        for day in base.new_services[name]
-    ]
-    needed = ("service_id", "date", "exception_type") if rows else ()
-    return table_of("calendar_dates.txt", heads(base, "calendar_dates.txt", needed), rows)
+    dates = [(name, day.strftime("%Y%m%d"), "1") for name in used for day in base.new_services[name]]
+    needed = ("service_id", "date", "exception_type")
+    rows = [dict(zip(needed, date)) for date in dates]
+    return table_of("calendar_dates.txt", heads(base, "calendar_dates.txt", needed if rows else ()), rows)

@@ -46,7 +46,6 @@ def read_plan(path: str) -> PlanFile:
 
 
 def planned(entry: Entry) -> PlannedScenario:
-    """A scenario with its actions."""
     entry.only(("name", "action"))
     name = entry.text("name")
     if name in TAKEN or not NAME.fullmatch(name) or len(name.encode("utf-8", "replace")) > 100:

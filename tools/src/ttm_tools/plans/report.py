@@ -8,7 +8,7 @@ from ..records import write_rows
 from .carrying_out import Done, Finished
 from .writing import Written, used_stops
 
-COUNTS = ("trips", "stops", "events")
+COUNTS = {"trips": "trips", "stops": "stops", "events": "stop times"}  # with their nouns in sentences
 KINDS = ("taken out", "shifted", "changed", "added")
 ACTIONS = ["scenario", "action", "line", "do", "about"]
 ACTIONS += [f"{name}_{when}" for name in COUNTS for when in ("before", "after")]
@@ -18,28 +18,23 @@ STOPS = ["stop_id", "stop_name", "stop_lat", "stop_lon", "scenarios"]
 
 
 def action_rows(finished: Sequence[Finished]) -> Iterator[list[object]]:
-    """A line for each action."""
-    for action in (done for scenario in finished for done in scenario.done):
-        counts = [getattr(part, name) for name in COUNTS for part in (action.before, action.after)]
-        yield [
-            action.scenario,
-            action.number,
-            action.entry.lines.line,
-            action.what,
-            " ".join(action.about),
-            *counts,
-            *map(action.count, KINDS),
-        ]
+    for done in (done for scenario in finished for done in scenario.done):
+        counts = [part[name] for name in COUNTS for part in (done.before, done.after)]
+        yield [*begin_of(done), " ".join(done.about), *counts, *map(done.count, KINDS)]
+
+
+def begin_of(done: Done) -> list[object]:
+    """The fields that say which action it is."""
+    return [done.scenario, done.number, done.entry.lines.line, done.what]
 
 
 def change_rows(written: Written) -> Iterator[list[object]]:
     """A line for each trip that an action changed."""
     for scenario in written.finished:
         for done in scenario.done:
-            begin = [done.scenario, done.number, done.entry.lines.line, done.what]
             for change in done.changes:
                 now = written.names.now(scenario.state, change.now) if change.now else ""
-                yield [*begin, change.what, change.trip, now, change.route, change.seconds or ""]
+                yield [*begin_of(done), change.what, change.trip, now, change.route, change.seconds or ""]
 
 
 def stop_rows(written: Written) -> Iterator[list[object]]:
@@ -52,7 +47,6 @@ def stop_rows(written: Written) -> Iterator[list[object]]:
 
 
 def write_lists(written: Written, folder: Path) -> None:
-    """Writes the lists next to the feed."""
     for name, header, rows in (
         ("actions.csv", ACTIONS, action_rows(written.finished)),
         ("changes.csv", CHANGES, change_rows(written)),
@@ -75,11 +69,9 @@ def sentences(finished: Sequence[Finished]) -> list[str]:
 def sentence_of(done: Done) -> str:
     """What an action did to its scenario."""
     kinds = [f"{done.count(kind):,} {kind}" for kind in KINDS if done.count(kind)]
-    names = {"trips": "trips", "stops": "stops", "events": "stop times"}
     counts = [
-        f"{noun} {before:,} to {after:,}" if before != after else f"{noun} {before:,}"
-        for name, noun in names.items()
-        for before, after in [(getattr(done.before, name), getattr(done.after, name))]
+        f"{noun} {done.before[name]:,}" + (f" to {done.after[name]:,}" if done.after[name] != done.before[name] else "")
+        for name, noun in COUNTS.items()
     ]
     begin = f"{done.scenario}: {done.number} {done.what} {some(done.about)}"
     return f"{begin}: trips {', '.join(kinds)}; {', '.join(counts)}"
@@ -88,9 +80,5 @@ def sentence_of(done: Done) -> str:
 def unused(written: Written) -> list[str]:
     """The plan's stops at which no scenario calls, which are left out."""
     base, used = written.base, set(used_stops(written))
-    names = [
-        base.places.identifiers[number]
-        for number in range(base.old_stops, len(base.places.identifiers))
-        if number not in used
-    ]
-    return [f"stop {name} is left out: no trip calls there" for name in names]
+    stops = enumerate(base.places.identifiers[base.old_stops :], base.old_stops)
+    return [f"stop {name} is left out: no trip calls there" for place, name in stops if place not in used]

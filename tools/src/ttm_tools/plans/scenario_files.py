@@ -1,14 +1,14 @@
 """The scenario files of a feed that has the trips of all scenarios: each takes out what a scenario hasn't."""
 
 from pathlib import Path
-from typing import Iterator, Sequence
+from typing import Iterator
 
 import numpy as np
 
 from ..faults import BadInput
 from ..records import write_rows
 from .carrying_out import Finished
-from .naming import own_routes
+from .new_records import own_routes
 from .plan_file import TAKEN
 from .state import State
 from .writing import Written
@@ -43,11 +43,12 @@ def own_records(state: State) -> Iterator[Record]:
         yield ("shift_trip", base.trips[place], str(int(state.shift[place])))
 
 
-def refuse_long(mine: Finished, records: Sequence[Record]) -> None:
-    """Refuses a scenario whose file is longer than `ttm` takes."""
-    if len(records) > MOST_RECORDS:
-        what = f"takes a scenario file of {len(records):,} records, and ttm {MOST_RECORDS:,}"
-        raise mine.planned.entry.fault(f"{what}: change fewer trips, or whole routes", "name", mine.name)
+def too_long(mine: Finished | None, count: int) -> BadInput:
+    """The fault of a scenario whose file is longer than `ttm` takes."""
+    if mine is None:
+        return BadInput(f"{TODAY}.csv", f"would have {count:,} records, and ttm takes {MOST_RECORDS:,}")
+    what = f"takes a scenario file of {count:,} records, and ttm {MOST_RECORDS:,}: change fewer trips, or whole routes"
+    return mine.planned.entry.fault(what, "name", mine.name)
 
 
 def write_scenarios(written: Written, folder: Path) -> list[str]:
@@ -56,12 +57,9 @@ def write_scenarios(written: Written, folder: Path) -> list[str]:
     names = []
     for mine in (None, *written.finished):
         records = records_of(written, mine)
-        if mine is not None:
-            refuse_long(mine, records)
-        elif len(records) > MOST_RECORDS:
-            raise BadInput(f"{TODAY}.csv", f"would have {len(records):,} records, and ttm takes {MOST_RECORDS:,}")
-        name = f"{TODAY if mine is None else mine.name}.csv"
-        with open(folder / name, "wb") as file:
+        if len(records) > MOST_RECORDS:
+            raise too_long(mine, len(records))
+        names.append(f"{TODAY if mine is None else mine.name}.csv")
+        with open(folder / names[-1], "wb") as file:
             write_rows(file, HEADER, records)
-        names.append(name)
     return names

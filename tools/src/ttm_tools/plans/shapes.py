@@ -10,7 +10,7 @@ import numpy as np
 
 from ..gtfs.tables import Table, read_table, table_of
 from ..records import number_of
-from .base import Base
+from .base import Base, free
 from .state import Trip
 
 NAME = "shapes.txt"
@@ -35,9 +35,7 @@ class Shapes:
         key = (route, source, tuple(trip.stop.tolist()))
         if key not in self.known:
             points = self.points_of(trip, self.old.get(source, []))
-            name = f"{route}-{len([key for key in self.known if key[0] == route]) + 1}"
-            while name in self.old:
-                name += "'"
+            name = free(f"{route}-{len([key for key in self.known if key[0] == route]) + 1}", self.old)
             self.known[key] = name if len(points) > 1 else ""
             if len(points) > 1:
                 self.new[name] = points
@@ -62,7 +60,6 @@ class Shapes:
         return [*self.places(stops[:first]), *old[start : max(start, stop) + 1], *self.places(stops[last + 1 :])]
 
     def table(self, columns: list[str]) -> Table:
-        """The shapes that were made, as records."""
         rows = [
             dict(zip(COLUMNS, (name, f"{north:.6f}", f"{east:.6f}", str(number))))
             for name, points in self.new.items()
@@ -72,7 +69,6 @@ class Shapes:
 
 
 def nearest(points: Coordinates, place: tuple[float, float]) -> int:
-    """The point that is nearest to a place."""
     narrow = math.cos(math.radians(place[0]))
     found = np.array(points)
     away = (found[:, 0] - place[0]) ** 2 + ((found[:, 1] - place[1]) * narrow) ** 2

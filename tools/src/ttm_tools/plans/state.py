@@ -1,13 +1,11 @@
-"""What a scenario has while its actions are carried out: the trips of the feed that it keeps, by how much they are
-shifted, and trips of its own.
-"""
+"""What a scenario has while its actions are carried out: trips of the feed, kept and shifted, and its own."""
 
 from dataclasses import dataclass, field, replace
 
 import numpy as np
 
 from ..gtfs.fields import Mask, Whole, clock
-from .base import Base, Headway
+from .base import Base, Headway, free
 from ..opening.kinds import LAST_TIME
 from ..opening.toml_file import Entry
 
@@ -20,7 +18,6 @@ class Trip:
 
     label: str  # what it is called; a trip that stands for one of the feed has that one's name
     source: int  # the trip of the feed whose other fields it takes over; -1 for a new line's
-    copied: bool  # whether it is added to its source, and doesn't replace it
     route: str
     service: str
     direction: str
@@ -46,7 +43,7 @@ class Trip:
     def moved(self, seconds: int) -> "Trip":
         """The same trip, later by some seconds."""
         if self.headways:
-            return replace(self, headways=tuple(headway.moved(seconds) for headway in self.headways))
+            return self.leaving(seconds)
         return replace(self, arrive=self.arrive + seconds, depart=self.depart + seconds)
 
     def leaving(self, seconds: int) -> "Trip":
@@ -63,15 +60,6 @@ class Change:
     now: str  # and afterwards, a label
     route: str
     seconds: int = 0  # of a shift
-
-
-@dataclass(frozen=True)
-class StateCounts:
-    """How much a scenario has."""
-
-    trips: int  # with calls
-    stops: int  # at which trips call
-    events: int  # calls of these trips
 
 
 @dataclass
@@ -93,37 +81,29 @@ class State:
         self.calls = self.base.calls_at.copy()
         self.trips, self.events = int(self.kept.sum()), len(self.base.stop)
 
-    def counts(self) -> StateCounts:
-        return StateCounts(self.trips, int(np.count_nonzero(self.calls)), self.events)
+    def counts(self) -> dict[str, int]:
+        """How many trips with calls it has, stops at which these call, and calls."""
+        return {"trips": self.trips, "stops": int(np.count_nonzero(self.calls)), "events": self.events}
 
     def trip(self, place: int) -> Trip:
         """A trip of the feed as the scenario has it."""
         base = self.base
         span = slice(base.begins[place], base.begins[place + 1])
-        stop, arrive, depart, row = (
-            np.array(column[span], dtype=np.int64) for column in (base.stop, base.arrive, base.depart, base.row)
-        )
-        name, headways = base.trips[place], base.headways.get(place, ())
-        direction = base.directions[place]
-        route, service = base.routes[place], base.services[place]
-        trip = Trip(name, place, False, route, service, direction, stop, arrive, depart, row, headways)
+        columns = base.stop, base.arrive, base.depart, base.row
+        stop, arrive, depart, row = (np.array(column[span], dtype=np.int64) for column in columns)
+        about = base.routes[place], base.services[place], base.directions[place]
+        headways = base.headways.get(place, ())
+        trip = Trip(base.trips[place], place, *about, stop, arrive, depart, row, headways)
         seconds = int(self.shift[place])
         return trip.moved(seconds) if seconds else trip
 
     def of_route(self, route: str) -> list[Trip]:
         """The trips of a route, those of the feed first."""
         places = self.base.by_route.get(route, np.zeros(0, np.int64))
-        return self.some(places[self.kept[places]]) + [trip for trip in self.own.values() if trip.route == route]
-
-    def some(self, places: Whole) -> list[Trip]:
-        return [self.trip(place) for place in places.tolist()]
-
-    def routes(self) -> list[str]:
-        """The routes that can be named: the feed's, and the scenario's new ones."""
-        return [*self.base.by_route, *self.lines]
+        own = [trip for trip in self.own.values() if trip.route == route]
+        return [*map(self.trip, places[self.kept[places]].tolist()), *own]
 
     def drop(self, trip: Trip) -> None:
-        """Takes a trip out."""
         self.leave(trip)
         self.changes.append(Change("taken out", trip.label, "", trip.route))
 
@@ -141,7 +121,7 @@ class State:
 
     def add(self, trip: Trip) -> None:
         """Puts a new trip in; its label becomes one that no other has."""
-        added = replace(trip, label=self.free(trip.label))
+        added = replace(trip, label=free(trip.label, self.used, self.base.numbers))
         self.put(added)
         self.changes.append(Change("added", "", added.label, added.route))
 
@@ -150,20 +130,12 @@ class State:
         self.own[trip.label] = trip
         self.count(trip, 1)
 
-    def free(self, label: str) -> str:
-        """A label that no trip has, nor one of the feed."""
-        while label in self.used or label in self.base.numbers:
-            label += "'"
-        return label
-
     def change(self, before: Trip, after: Trip) -> None:
-        """Puts a trip in another's place."""
         self.leave(before)
         self.put(after)
         self.changes.append(Change("changed", before.label, after.label, after.route))
 
     def move(self, trip: Trip, seconds: int) -> None:
-        """Shifts a trip."""
         if trip.label in self.own:
             self.own[trip.label] = trip.moved(seconds)
         else:
@@ -178,12 +150,9 @@ def in_range(entry: Entry, trip: Trip) -> Trip:
     begin = first if trip.headways else int(trip.arrive.min())
     end = last if trip.headways else int(trip.depart.max())
     if begin < 0 or end > LAST_TIME or last + int(trip.depart[-1] - trip.depart[0]) >= LAST_LABEL:
-        message = f"trip {trip.label} would be under way at {signed(begin if begin < 0 else end)}"
+        time = f"-{clock(-begin)}" if begin < 0 else clock(end)
+        message = f"trip {trip.label} would be under way at {time}"
         raise entry.fault(f"{message}; times go from 0:00:00 to 167:59:59", "do", str(entry.values.get("do")))
     if (trip.depart < trip.arrive).any() or (trip.arrive[1:] < trip.depart[:-1]).any():
         raise entry.fault(f"makes times of trip {trip.label} go back", "do", str(entry.values.get("do")))
     return trip
-
-
-def signed(seconds: int) -> str:
-    return clock(seconds) if seconds >= 0 else f"-{clock(-seconds)}"

@@ -1,7 +1,5 @@
-"""The feed of all scenarios, and that of one.
-
-The feed of all has the files of the feed that the plan begins from, as they are, and behind their records those of the
-scenarios. The feed of one has its trips alone.
+"""The feed of all scenarios, which has the files of the feed that the plan begins from, as they are, and behind their
+records those of the scenarios; and that of one, which has its trips alone.
 """
 
 import shutil
@@ -16,14 +14,11 @@ from ..faults import BadInput
 from ..gtfs.columns import one_of
 from ..gtfs.fields import MOST_BYTES, Mask
 from ..gtfs.tables import Table, joined, no_table, read_table, write_lines, write_table
-from ..records import names_of as columns_of
-from ..records import records
+from ..records import names_of as columns_of, records
 from . import new_records as new
 from .base import Base
 from .carrying_out import Finished
-from .naming import Names, names_of
-from .shapes import NAME as SHAPES
-from .shapes import Shapes, read_shapes
+from .shapes import NAME as SHAPES, Shapes, read_shapes
 from .state import State
 
 BLOCK = 1 << 20
@@ -37,7 +32,7 @@ class Written:
 
     base: Base
     finished: Sequence[Finished]
-    names: Names
+    names: new.Names
 
     @property
     def states(self) -> list[State]:
@@ -57,7 +52,9 @@ class Written:
 
 
 def written_of(base: Base, finished: Sequence[Finished], alone: bool) -> Written:
-    return Written(base, finished, names_of(base, finished, alone))
+    added = [route for scenario in finished for route in scenario.state.lines]
+    shared = frozenset(route for route in added if added.count(route) > 1)
+    return Written(base, finished, new.Names(base, shared, alone))
 
 
 def used_stops(written: Written) -> list[int]:
@@ -68,7 +65,6 @@ def used_stops(written: Written) -> list[int]:
 
 
 def write_all(written: Written, folder: Path) -> None:
-    """Writes the files of a feed."""
     base, names, own = written.base, written.names, written.own
     tables = [
         new.new_stops(base, used_stops(written)),
@@ -85,7 +81,7 @@ def write_all(written: Written, folder: Path) -> None:
     for name in OF_ROUTES:
         if name in base.feed.others:
             table = read_table(name, base.feed.others[name])
-            put_together(table, new.new_route_rows(base, written.states, names, table), folder / name)
+            put_together(table, new.new_route_rows(written.states, names, table), folder / name)
 
 
 def taken_out(base: Base, state: State) -> set[str]:
@@ -96,14 +92,11 @@ def taken_out(base: Base, state: State) -> set[str]:
 
 def write_tables(base: Base, tables: dict[str, Table], gone: set[str] | None, folder: Path) -> None:
     """Writes the files that `ttm` reads."""
-    lost = None if gone is None else gone - set(tables["trips.txt"].texts("trip_id"))
+    own = set(tables["trips.txt"].texts("trip_id"))
     for name in dict.fromkeys((*base.feed.tables, *tables)):
-        old, more = base.feed.get(name), tables.get(name)
+        old, more = base.feed.get(name), tables.get(name, no_table(name))
         if gone is not None and name in base.feed.tables:
-            away = lost if name == "transfers.txt" else gone
-            old = without_trips(old, away or set())
-        if more is None:
-            more = no_table(name)
+            old = without_trips(old, gone - own if name == "transfers.txt" else gone)
         if len(more) or name in base.feed.tables:
             put_together(old, more, folder / name)
         if (folder / name).exists() and (folder / name).stat().st_size > MOST_BYTES:
@@ -122,7 +115,7 @@ def without_trips(table: Table, gone: set[str]) -> Table:
 
 def put_together(old: Table, more: Table, path: Path) -> None:
     """Writes a table with further records behind: the file that it was read from as it is, where that can be."""
-    if old.source is None or not can_go_on(old, more):
+    if old.source is None or len(more) and not can_go_on(old.source, more):
         with open(path, "wb") as file:
             write_table(joined(old.whole(), more) if len(more) else old, file)
         return
@@ -137,26 +130,20 @@ def put_together(old: Table, more: Table, path: Path) -> None:
         write_lines(Table(more.name, ordered, more.records), file)
 
 
-def can_go_on(old: Table, more: Table) -> bool:
+def can_go_on(path: Path, more: Table) -> bool:
     """Whether records can be written behind those of a file: it has their columns, each once, and no quote is open."""
-    if old.source is None or not len(more):
-        return old.source is not None
-    _, header = next(records(old.source), (1, list[str]()))
-    quotes = 0
-    with open(old.source, "rb") as file:
+    _, header = next(records(path), (1, list[str]()))
+    quotes, known = 0, columns_of(path)
+    with open(path, "rb") as file:
         while block := file.read(BLOCK):
             quotes += block.count(b'"')
-    known = columns_of(old.source)
     return quotes % 2 == 0 and len(header) == len(known) and set(more.columns) <= set(known)
 
 
 def write_others(base: Base, shapes: Shapes | None, gone: set[str] | None, folder: Path) -> None:
-    """Writes the files that `ttm` doesn't read: shapes with those that were made, all others as they are, without the
-    trips that are gone.
-    """
+    """Writes the files that `ttm` doesn't read: with new shapes, all others as they are, without gone trips."""
     for name, path in base.feed.others.items():
-        named = name.endswith(".txt") and gone and "trip_id" in columns_of(path)
-        if named and gone:
+        if gone and name.endswith(".txt") and "trip_id" in columns_of(path):
             put_together(without_trips(read_table(name, path), gone), no_table(name), folder / name)
         elif name == SHAPES and shapes is not None:
             put_together(read_table(name, path), shapes.table(columns_of(path)), folder / name)

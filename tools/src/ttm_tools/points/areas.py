@@ -1,10 +1,8 @@
-"""Areas of points: the polygons of a file of a geographic information system. A folder of points keeps them as GeoJSON,
-so that maps, pages and other files show them.
-"""
+"""Areas of points: polygons, which a folder of points keeps as GeoJSON, for maps, pages and other files."""
 
 import json
 from pathlib import Path
-from typing import Any, BinaryIO, Iterable, Mapping
+from typing import Any, BinaryIO, Mapping
 
 import numpy as np
 
@@ -33,11 +31,6 @@ def ring_of(corners: Any) -> Floats:
     """A ring as rows of longitude and latitude."""
     whole: Floats = np.array([corner[:2] for corner in corners], dtype=np.float64)
     return whole.round(DECIMALS)
-
-
-def areas_of(identifiers: Iterable[str], shapes: Iterable[Any]) -> dict[str, Area]:
-    """The areas of those shapes, in degrees, that are polygons."""
-    return {name: area_of(shape) for name, shape in zip(identifiers, shapes) if shape.geom_type in KINDS}
 
 
 def squares_of(stops: Stops) -> dict[str, Area]:

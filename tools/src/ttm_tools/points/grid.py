@@ -38,11 +38,6 @@ class Grid:
     def places(self) -> dict[tuple[int, int], int]:
         return {(row, column): place for place, (row, column) in enumerate(self.squares.tolist())}
 
-    def middles(self) -> tuple[Floats, Floats]:
-        """How far north and east of the projection's middle the middle of each cell lies, in kilometres."""
-        north, east = ((self.squares + 0.5) * self.side).T
-        return north + self.south, east + self.west
-
     def square(self, row: int, column: int) -> Any:
         """The shape of a cell, in kilometres."""
         from shapely.geometry import box
@@ -50,15 +45,12 @@ class Grid:
         west, south = self.west + column * self.side, self.south + row * self.side
         return box(west, south, west + self.side, south + self.side)
 
-    def names(self) -> list[str]:
-        """The identifiers, of one length, so that they sort by row and column."""
-        digits = [len(str(most + 1)) for most in self.squares.max(axis=0).tolist()]
-        return [f"r{row + 1:0{digits[0]}d}c{column + 1:0{digits[1]}d}" for row, column in self.squares.tolist()]
-
     def points(self, columns: list[str], numbers: Floats) -> Points:
         """The cells as points, with numbers of what is there."""
-        north, east = self.middles()
-        names, widths = self.names(), np.full(len(self.squares), self.side * 1000)
+        north, east = ((self.squares + 0.5) * self.side + [self.south, self.west]).T  # kilometres
+        high, wide = [len(str(most + 1)) for most in self.squares.max(axis=0).tolist()]  # so that names sort by both
+        names = [f"r{row + 1:0{high}d}c{column + 1:0{wide}d}" for row, column in self.squares.tolist()]
+        widths = np.full(len(self.squares), self.side * 1000)
         degrees = (self.projection.latitudes(north).round(7), self.projection.longitudes(east).round(7))
         return Points(PATH, names, names, *degrees, widths, columns, numbers)
 
@@ -107,9 +99,8 @@ def grid_over(path: str, side: float) -> Grid:
         if not inside.intersects(band(grid, row, counts[1])):
             continue
         near = [column for column in range(counts[1]) if inside.intersects(grid.square(row, column))]
-        found += [
-            (row, column) for column in near if area.intersection(grid.square(row, column)).area > 1e-9 * side**2
-        ]
+        parts = ((column, area.intersection(grid.square(row, column)).area) for column in near)
+        found += [(row, column) for column, part in parts if part > 1e-9 * side**2]
         refuse_cells(len(found))
     return whole(Grid(projection, side, south, west, np.array(found, np.int64).reshape(-1, 2)))
 
@@ -191,11 +182,8 @@ def from_polygons(grid: Grid, path: str) -> tuple[list[str], Floats, Floats]:
     from shapely.ops import transform
 
     frame = areas_of(path)
-    names = [
-        column
-        for column in frame.columns
-        if frame[column].dtype.kind in "iuf" and column not in ("id", "width", "height")
-    ]
+    others = [column for column in frame.columns if column not in ("id", "width", "height")]
+    names = [column for column in others if frame[column].dtype.kind in "iuf"]
     refuse_none(path, names)
     numbers = numbers_of(path, frame, names)
     places, sums = grid.places(), np.zeros((len(grid.squares), len(names)))

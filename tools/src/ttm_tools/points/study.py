@@ -8,7 +8,7 @@ import itertools
 import shlex
 from dataclasses import dataclass
 from pathlib import Path
-from typing import Callable, Iterator, Sequence
+from typing import Callable, Iterable, Iterator, Sequence
 
 import numpy as np
 import numpy.typing as npt
@@ -62,13 +62,8 @@ class PointStudy:
     file: npt.NDArray[np.intp]  # of each point the place of its file
 
     def of_files(self, chosen: Sequence[bool]) -> list[str]:
-        """The points of some files."""
         kept = np.array(chosen, dtype=np.bool_)[self.file]
         return [self.points.identifiers[place] for place in np.flatnonzero(kept).tolist()]
-
-    def only(self, kept: Flags) -> "PointStudy":
-        places = np.flatnonzero(kept)
-        return PointStudy(self.points.only(places), self.file[places])
 
 
 def make(options: PointsOptions, walker: WalkFinder) -> list[str]:
@@ -80,15 +75,18 @@ def make(options: PointsOptions, walker: WalkFinder) -> list[str]:
     helps = HELPS_AFTER if options.leaves_out else HELPS + HELPS_AFTER
     if not options.leaves_out:
         refuse_places(len(stops.identifiers), study, helps)
-    walks = walker(with_points(stops, study), len(stops.identifiers) if options.leaves_out else None)
+    walks = walker(stops.followed_by(study.points.as_stops()), len(stops.identifiers) if options.leaves_out else None)
     near = in_reach(stops, study, walks)
-    sentences = [*sentences_on_prefixes(options.files, prefixes), *sentences_on_reach(study, near, options.leaves_out)]
+    sentences = list(sentences_on(options, prefixes, study, near))
     sentences += [walks_summary(walks, "stops", options.near)] if walks.lost or walks.far or walks.apart else []
     if options.leaves_out:
-        study = study.only(near)
+        places = np.flatnonzero(near)
+        study = PointStudy(study.points.only(places), study.file[places])
         refuse_places(len(stops.identifiers), study, helps)
-        walks = walker(with_points(stops, study), None)
-    refuse_pairs(walks, study, helps)
+        walks = walker(stops.followed_by(study.points.as_stops()), None)
+    if len(walks.seconds) > MOST_PAIRS:
+        what = f"{len(walks.seconds):,} walks are more than the {MOST_PAIRS:,} that ttm takes"
+        raise TooManyWalks(study.points.path, f"{what}: use a shorter --limit, or fewer points; {helps}")
     rounded = Rounded()
     with many_written_aside(options.out) as folder:
         write_feed(folder / FEED, options.feed, study.points)
@@ -99,9 +97,7 @@ def make(options: PointsOptions, walker: WalkFinder) -> list[str]:
 
 
 def prefixes_of(files: Sequence[Points], stops: Stops) -> list[str]:
-    """What identifiers of each file begin with in the feed: nothing, or the file's name where one of them is a stop's
-    already, or a point's of a file before.
-    """
+    """What identifiers of each file begin with in the feed: its name where one is a stop's or earlier point's."""
     taken, prefixes = set(stops.identifiers), list[str]()
     for points in files:
         prefix = ""
@@ -123,9 +119,8 @@ def study_of(files: Sequence[Points], prefixes: Sequence[str]) -> PointStudy:
         begin = end
     identifiers = [prefix + own for points, prefix in zip(files, prefixes) for own in points.identifiers]
     names = [name for points in files for name in points.names]
-    north = np.concatenate([points.latitudes for points in files])
-    east = np.concatenate([points.longitudes for points in files])
-    wide = np.concatenate([points.widths for points in files])
+    stated = ("latitudes", "longitudes", "widths")
+    north, east, wide = (np.concatenate([getattr(points, name) for points in files]) for name in stated)
     high = np.concatenate([points.as_stops().sides()[:, 1] for points in files])
     path = ", ".join(points.path for points in files)
     labels = {name: list[str]() for points in files for name in points.labels}
@@ -137,20 +132,6 @@ def study_of(files: Sequence[Points], prefixes: Sequence[str]) -> PointStudy:
     return PointStudy(whole, np.repeat(np.arange(len(files)), [len(points.identifiers) for points in files]))
 
 
-def with_points(stops: Stops, study: PointStudy) -> Stops:
-    """The locations of the feed with the points behind them."""
-    added = study.points.as_stops()
-    return Stops(
-        stops.path,
-        stops.identifiers + added.identifiers,
-        stops.names + added.names,
-        np.concatenate([stops.latitudes, added.latitudes]),
-        np.concatenate([stops.longitudes, added.longitudes]),
-        np.concatenate([stops.kinds, added.kinds]),
-        stops.stations + added.stations,
-    )
-
-
 def in_reach(stops: Stops, study: PointStudy, walks: Walks) -> Flags:
     """From which points one walks to a stop."""
     count = len(stops.identifiers)
@@ -160,31 +141,20 @@ def in_reach(stops: Stops, study: PointStudy, walks: Walks) -> Flags:
 
 
 def refuse_places(stops: int, study: PointStudy, helps: str) -> None:
-    """Refuses more stops and points than `ttm` takes."""
     count = len(study.file)
     if stops + count > MOST_STOPS:
         what = f"{stops:,} locations of the feed and {count:,} points are more than the {MOST_STOPS:,} that ttm takes"
         raise TooManyPlaces(study.points.path, f"{what}: {helps}")
 
 
-def refuse_pairs(walks: Walks, study: PointStudy, helps: str) -> None:
-    """Refuses more walks than `ttm` takes."""
-    if len(walks.seconds) > MOST_PAIRS:
-        what = f"{len(walks.seconds):,} walks are more than the {MOST_PAIRS:,} that ttm takes"
-        raise TooManyWalks(study.points.path, f"{what}: use a shorter --limit, or fewer points; {helps}")
-
-
-def sentences_on_prefixes(files: Sequence[Points], prefixes: Sequence[str]) -> Iterator[str]:
-    for points, prefix in zip(files, prefixes):
+def sentences_on(options: PointsOptions, prefixes: Sequence[str], study: PointStudy, near: Flags) -> Iterator[str]:
+    """The files whose identifiers have a prefix, and the points from which no stop is in reach."""
+    for points, prefix in zip(options.files, prefixes):
         if prefix:
             yield f"{points.path}: identifiers begin with {shown(prefix)} in the feed, since one of them already exists"
-
-
-def sentences_on_reach(study: PointStudy, near: Flags, left_out: bool) -> Iterator[str]:
-    """The points from which no stop is in reach."""
     lost = [shown(study.points.identifiers[place]) for place in np.flatnonzero(~near).tolist()]
     if lost:
-        yield f"{quantity(len(lost), 'point')} {UNREACHED}{', left out' if left_out else ''}: {some(lost)}"
+        yield f"{quantity(len(lost), 'point')} {UNREACHED}{', left out' if options.leaves_out else ''}: {some(lost)}"
 
 
 def write_feed(folder: Path, feed: str, points: Points) -> None:
@@ -212,17 +182,13 @@ def stops_with(path: Path, points: Points) -> tuple[list[str], Iterator[list[str
     _, header = next(lines, (1, list[str]()))
     there = places_of(header, path, ["stop_id"])
     wide = header + [name for name in PLACE if name not in there]
-    own = (padded(fields[: len(header)], len(wide)) for _, fields in lines)
+    own = (spread(fields[: len(header)], range(len(header)), len(wide)) for _, fields in lines)
     places = places_of(wide, path, [])
     chosen = [places[name] for name in ("stop_id", *PLACE)]
     return wide, itertools.chain(own, (spread(line, chosen, len(wide)) for line in lines_of(points)))
 
 
-def padded(fields: list[str], width: int) -> list[str]:
-    return fields + [""] * (width - len(fields))
-
-
-def spread(fields: Sequence[str], places: Sequence[int], width: int) -> list[str]:
+def spread(fields: Sequence[str], places: Iterable[int], width: int) -> list[str]:
     """A record with these fields at some places, and nothing elsewhere."""
     cells = [""] * width
     for place, text in zip(places, fields):
@@ -250,41 +216,35 @@ def has_heights(points: Points) -> bool:
 
 
 def write_files(folder: Path, options: PointsOptions, study: PointStudy, walks: Walks, rounded: Rounded) -> None:
-    """Writes the files next to the feed."""
-    ends = {"origins.csv": study.of_files(options.begins), "destinations.csv": study.of_files(options.ends)}
-    with open(folder / FOOTPATHS, "wb") as out:
-        write_rows(out, ["from_stop_id", "to_stop_id", "seconds"], walks.rows())
-    for name, stops in ends.items():
-        with open(folder / name, "wb") as out:
-            write_stops(out, stops)
+    labels, files = study.points.labels, list[tuple[str, list[str], Iterable[Sequence[object]]]]()
+    files.append((FOOTPATHS, ["from_stop_id", "to_stop_id", "seconds"], walks.rows()))
     for column, name in file_names(study.points.columns).items():
-        with open(folder / f"opportunities_{name}.csv", "wb") as out:
-            write_rows(out, ["stop_id", "opportunities"], opportunities(options, study, column, rounded))
-    if study.points.labels:
-        with open(folder / LABELS, "wb") as out:
-            write_rows(out, ["id", *study.points.labels], zip(study.points.identifiers, *study.points.labels.values()))
+        lines = opportunities(options, study, column, rounded)
+        files.append((f"opportunities_{name}.csv", ["stop_id", "opportunities"], lines))
+    if labels:
+        files.append((LABELS, ["id", *labels], zip(study.points.identifiers, *labels.values())))
+    for name, header, rows in files:
+        with open(folder / name, "wb") as out:
+            write_rows(out, header, rows)
+    for name, chosen in (("origins.csv", options.begins), ("destinations.csv", options.ends)):
+        with open(folder / name, "wb") as out:
+            write_stops(out, study.of_files(chosen))
     with open(folder / WORDS, "wb") as out:
         out.write(arguments_of(options).encode("utf-8", "surrogateescape"))
 
 
-def opportunities(
-    options: PointsOptions, study: PointStudy, column: str, rounded: Rounded
-) -> Iterator[tuple[str, int]]:
+def opportunities(options: PointsOptions, study: PointStudy, column: str, rounded: Rounded) -> Iterator[list[object]]:
     """The points of the files that have a column, each with its number made whole."""
     place, points = study.points.columns.index(column), study.points
     kept = np.flatnonzero(np.array([column in file.columns for file in options.files])[study.file])
     for point in kept.tolist():
         number = repr(float(points.numbers[point, place]))
-        yield points.identifiers[point], rounded.whole(number, points.path, point + 2, column, up=False)
+        yield [points.identifiers[point], rounded.whole(number, points.path, point + 2, column, up=False)]
 
 
 def arguments_of(options: PointsOptions) -> str:
     """The arguments of a run, an option a line, as a shell reads them."""
     folder = Path(options.called or options.out)
-    named = {
-        "feed": folder / FEED,
-        "footpaths": folder / FOOTPATHS,
-        "walk": options.limit,
-        "origins": folder / "origins.csv",
-    }
+    paths = {"feed": folder / FEED, "footpaths": folder / FOOTPATHS}
+    named = {**paths, "walk": options.limit, "origins": folder / "origins.csv"}
     return "".join(f"--{name} {shlex.quote(str(value))}\n" for name, value in named.items())

@@ -14,7 +14,7 @@ from ..gtfs.fields import Floats
 from ..gtfs.stops import Area, Stops
 from ..opening.paths import as_one_line, sized
 from ..records import number_of, places_of, records, refuse_alike, rows, shown
-from .areas import areas_of
+from .areas import KINDS, area_of
 
 NEEDED, WANTED = ("id", "lat", "lon"), ("name", "width", "height")
 AREAS = {".gpkg": b"SQLite format 3", ".geojson": b"{", ".json": b"{"}  # what geopandas reads, and how it begins
@@ -22,6 +22,10 @@ BYTE_ORDER = b"\xef\xbb\xbf"
 MOST_AREAS = 1_000_000_000  # bytes
 MOST_POINTS = 1_000_000  # of a file
 WIDEST = 1_000_000.0  # metres
+Range = tuple[float, float, str]  # the least number that is allowed, the most, and what an error says of them
+LATITUDE, LONGITUDE = (-90, 90, "degrees from -90 to 90"), (-180, 180, "degrees from -180 to 180")
+SIDE = (math.ulp(0), WIDEST, f"metres above 0, up to {WIDEST:,.0f}, or nothing")
+NUMBER = (0, math.inf, "a number from 0 on")
 
 
 @dataclass(frozen=True)
@@ -31,10 +35,6 @@ class Columns:
     identifier: str = "id"
     latitude: str = "lat"
     longitude: str = "lon"
-
-    @property
-    def needed(self) -> tuple[str, str, str]:
-        return self.identifier, self.latitude, self.longitude
 
 
 @dataclass(frozen=True)
@@ -60,7 +60,6 @@ class Points:
         return Stops(self.path, self.identifiers, self.names, *places, kinds, stations, *sides, areas=self.areas)
 
     def only(self, kept: npt.NDArray[np.intp]) -> "Points":
-        """Some of the points."""
         identifiers, names = ([texts[place] for place in kept.tolist()] for texts in (self.identifiers, self.names))
         places = (self.latitudes[kept], self.longitudes[kept], self.widths[kept])
         heights = None if self.heights is None else self.heights[kept]
@@ -69,12 +68,13 @@ class Points:
         return Points(self.path, identifiers, names, *places, self.columns, self.numbers[kept], labels, heights, areas)
 
 
-@dataclass
-class Reader:
-    """Looks at the fields of one record."""
+class Taken:
+    """Points as they are read and looked at, of which only the numbers are kept as numbers are."""
 
-    path: str
-    seen: set[str]
+    def __init__(self, path: str, columns: list[str]) -> None:
+        self.path, self.columns, self.seen = path, columns, set[str]()
+        self.identifiers, self.names = list[str](), list[str]()
+        self.places, self.numbers = array("d"), array("d")  # four, and one of each column, for each point
 
     def identifier(self, text: str, record: int) -> str:
         if not text:
@@ -84,51 +84,20 @@ class Reader:
         self.seen.add(text)
         return text
 
-    def degrees(self, text: str, record: int, column: str, most: int) -> float:
-        number = number_of(text.strip())
-        if not abs(number) <= most:
-            allowed = f"degrees from -{most} to {most}"
-            raise BadInput(self.path, "is invalid", record=record, column=column, value=text, allowed=allowed)
-        return number
-
     def place(self, latitude: str, longitude: str, record: int) -> tuple[float, float]:
-        degrees = self.degrees(latitude, record, "lat", 90), self.degrees(longitude, record, "lon", 180)
+        degrees = self.number(latitude, record, "lat", LATITUDE), self.number(longitude, record, "lon", LONGITUDE)
         if not any(degrees):
             raise BadInput(self.path, "lat and lon are 0 and 0, which is not a place", record=record)
         return degrees
 
     def side(self, text: str, record: int, column: str) -> float:
-        if not text.strip():
-            return math.nan
-        number = number_of(text.strip())
-        if not 0 < number <= WIDEST:
-            allowed = f"metres above 0, up to {WIDEST:,.0f}, or nothing"
-            raise BadInput(self.path, "is invalid", record=record, column=column, value=text, allowed=allowed)
+        return self.number(text, record, column, SIDE) if text.strip() else math.nan
+
+    def number(self, text: str, record: int, column: str, allowed: Range = NUMBER) -> float:
+        number, (least, most, said) = number_of(text.strip()), allowed
+        if not least <= number <= most:
+            raise BadInput(self.path, "is invalid", record=record, column=column, value=text, allowed=said)
         return number
-
-    def number(self, text: str, record: int, column: str) -> float:
-        number = number_of(text.strip())
-        if not number >= 0:
-            allowed = "a number from 0 on"
-            raise BadInput(self.path, "is invalid", record=record, column=column, value=text, allowed=allowed)
-        return number
-
-
-def read_points(path: str, called: Columns = Columns()) -> Points:
-    """The points of a table, or of a GeoPackage or a GeoJSON file."""
-    found = read_areas(path, called) if Path(path).suffix.lower() in AREAS else read_table(path, called)
-    if not found.identifiers:
-        raise BadInput(path, "no points")
-    return found
-
-
-class Taken:
-    """Points as they are read, of which only the numbers are kept as numbers are."""
-
-    def __init__(self, path: str, columns: list[str]) -> None:
-        self.path, self.columns = path, columns
-        self.identifiers, self.names = list[str](), list[str]()
-        self.places, self.numbers = array("d"), array("d")  # four, and one of each column, for each point
 
     def take(self, identifier: str, name: str, place: Iterable[float], numbers: Iterable[float]) -> None:
         """Takes a point with its latitude, longitude, width and height."""
@@ -143,6 +112,14 @@ class Taken:
         north, east, wide, high = np.array(self.places, dtype=np.float64).reshape(-1, 4).T.copy()
         table = np.array(self.numbers, dtype=np.float64).reshape(len(self.identifiers), len(self.columns))
         return Points(self.path, self.identifiers, self.names, north, east, wide, self.columns, table, heights=high)
+
+
+def read_points(path: str, called: Columns = Columns()) -> Points:
+    """The points of a table, or of a GeoPackage or a GeoJSON file."""
+    found = read_areas(path, called) if Path(path).suffix.lower() in AREAS else read_table(path, called)
+    if not found.identifiers:
+        raise BadInput(path, "no points")
+    return found
 
 
 def number_columns(path: str, columns: Sequence[str]) -> list[str]:
@@ -160,17 +137,17 @@ def number_columns(path: str, columns: Sequence[str]) -> list[str]:
 def read_table(path: str, called: Columns) -> Points:
     """The points of a CSV file; a column in which no field is a number has labels."""
     _, header = next(records(path), (1, list[str]()))
-    needed = called.needed
+    needed = called.identifier, called.latitude, called.longitude
     others = [name for name in places_of(header, path, needed) if name and name not in needed + WANTED]
     refuse_alike(path, header, [*needed, *others])
     columns = number_columns(path, others)
     labels = {name: list[str]() for name in others if name not in columns}
-    reader, taken = Reader(path, set()), Taken(path, columns)
+    taken = Taken(path, columns)
     for record, (own, latitude, longitude, name, *fields) in rows(path, needed, (*WANTED, *others)):
-        identifier, numbers_stated = reader.identifier(own, record), dict(zip(others, fields[2:]))
-        sides = [reader.side(text, record, column) for text, column in zip(fields, WANTED[1:])]
-        place = (*reader.place(latitude, longitude, record), *sides)
-        numbers = (reader.number(numbers_stated[column], record, column) for column in columns)
+        identifier, numbers_stated = taken.identifier(own, record), dict(zip(others, fields[2:]))
+        sides = [taken.side(text, record, column) for text, column in zip(fields, WANTED[1:])]
+        place = (*taken.place(latitude, longitude, record), *sides)
+        numbers = (taken.number(numbers_stated[column], record, column) for column in columns)
         taken.take(identifier, shown(name.strip() or own), place, numbers)
         for column, texts in labels.items():
             texts.append(shown(numbers_stated[column]))
@@ -178,9 +155,7 @@ def read_table(path: str, called: Columns) -> Points:
 
 
 def read_areas(path: str, called: Columns) -> Points:
-    """A point inside of each area of a file of a geographic information system, with that area; a point where that has
-    points. Its columns of text have labels.
-    """
+    """A point inside each area of a file, with the area, or each of its points; columns of text have labels."""
     frame = read_frame(path)
     twice = next((name for name in frame.columns if list(frame.columns).count(name) > 1), None)
     if twice is not None:
@@ -196,17 +171,18 @@ def read_areas(path: str, called: Columns) -> Points:
     inside = frame.geometry.representative_point().to_crs(4326)
     kept = [name for name in frame.columns if frame[name].dtype.kind in "iufb" and name not in (*NEEDED, *WANTED)]
     texts = [name for name in frame.columns if frame[name].dtype.kind == "O" and name not in (*NEEDED, *WANTED)]
-    reader, taken = Reader(path, set()), Taken(path, kept)
+    taken = Taken(path, kept)
     names = frame["name"] if "name" in frame.columns else frame["id"]
     sides = [frame[column] if column in frame.columns else [None] * len(frame) for column in WANTED[1:]]
     for place, (own, point, name, *wide) in enumerate(zip(frame["id"], inside, names, *sides)):
-        identifier = reader.identifier(text_of(own), place + 1)
-        where = reader.place(repr(point.y), repr(point.x), place + 1)
-        numbers = [reader.number(text_of(frame[column].iat[place]), place + 1, column) for column in kept]
-        given = [reader.side(text_of(side), place + 1, column) for side, column in zip(wide, WANTED[1:])]
+        identifier = taken.identifier(text_of(own), place + 1)
+        where = taken.place(repr(point.y), repr(point.x), place + 1)
+        numbers = [taken.number(text_of(frame[column].iat[place]), place + 1, column) for column in kept]
+        given = [taken.side(text_of(side), place + 1, column) for side, column in zip(wide, WANTED[1:])]
         taken.take(identifier, text_of(name) or identifier, (*where, *given), numbers)
     labels = {str(name): [text_of(value) for value in frame[name]] for name in texts}
-    areas = areas_of(taken.identifiers, frame.geometry.to_crs(4326))
+    shapes = zip(taken.identifiers, frame.geometry.to_crs(4326))
+    areas = {name: area_of(shape) for name, shape in shapes if shape.geom_type in KINDS}
     return replace(taken.points(), labels=labels, areas=areas)
 
 

@@ -2,15 +2,16 @@
 several checks the first is a fault. What refers to a file that isn't there, or that lacks a column, isn't looked at.
 """
 
+import itertools
 from dataclasses import dataclass
-from typing import Callable, Iterable, Iterator, Sequence
+from typing import Callable, Iterable, Iterator
 
 import numpy as np
 
 from ..gtfs import fields
-from ..gtfs.calls import Calls, calls_of
+from ..gtfs.calls import calls_of
 from ..gtfs.columns import empty, one_of, positions_of, repeated, repeated_pairs, values_of
-from ..gtfs.feeds import Feed, names_in, stops_of, used_transfers
+from ..gtfs.feeds import OPTIONAL, Feed, is_stop, names_in, stops_of, used_transfers
 from ..gtfs.fields import FILES, WEEKDAYS, Mask, Whole, date, number, time
 from ..gtfs.tables import Table, no_table
 
@@ -20,6 +21,8 @@ STOP = "stops.txt has to name it, as a stop (location_type 0 or empty)"
 NUMBER = "a number is digits alone, 0 to 4294967295"
 OPEN_NUMBER = "it is empty or a number: digits alone, 0 to 4294967295"
 TIME = "a time is H:MM:SS, 0:00:00 to 167:59:59"
+DATE = "a date is YYYYMMDD"
+ENDS = "the first and the last stop time of a trip have an arrival_time or a departure_time"
 BACK = "no departure before the arrival, and no arrival before the departure before it"
 TOO_MANY, TOO_LONG, UNREAD = "too many", "too long", "read fault"
 LAST = 1 << 50  # ranks of what is found once all records are read
@@ -53,10 +56,8 @@ class Fault:
         """The line that `ttm` would print of the first record."""
         if self.what == UNREAD:
             return f"ttm: {self.table.source}: {self.what}"
-        place = (
-            self.table.name if self.missing or self.what == TOO_LONG else f"{self.table.name}: record {self.records[0]}"
-        )
-        return f"ttm: {place}: {self.what}"
+        record = "" if self.missing or self.what == TOO_LONG else f"record {self.records[0]}: "
+        return f"ttm: {self.table.name}: {record}{self.what}"
 
     def value(self, place: int = 0) -> str | None:
         """What stands in the field."""
@@ -82,7 +83,8 @@ class Checks:
     def filled(self, column: str) -> None:
         self.add(column, "empty id", ID, empty(self.table[column]))
 
-    def once(self, column: str) -> None:
+    def identifies(self, column: str) -> None:
+        self.filled(column)
         self.add(column, "duplicate id", ONCE, repeated(self.table[column].codes))
 
     def named(self, column: str, what: str, names: Iterable[str] | None, allowed: str, but: Mask | None = None) -> None:
@@ -91,6 +93,14 @@ class Checks:
             lost = ~one_of(self.table[column], names)
             self.add(column, what, allowed, lost if but is None else lost & ~but)
 
+    def values(
+        self, what: str, allowed: str, read: Callable[[str], int], *columns: str, may_be_empty: bool = False
+    ) -> None:
+        """The fields are numbers, times or dates."""
+        for column in columns:
+            value = values_of(self.table[column], read)
+            self.add(column, what, allowed, (value == fields.NONE) if may_be_empty else (value < 0))
+
     def few(self, most: int) -> None:
         allowed = f"at most {most:,} records"
         self.add("", TOO_MANY, allowed, np.arange(len(self.table)) >= most)
@@ -98,29 +108,19 @@ class Checks:
 
 def check(feed: Feed) -> list[Fault]:
     """All faults of a feed: one for each check that fails, the first in the order of `ttm` first."""
-    return [*unread_in(feed), *(fault for name in FILES for fault in in_order(faults_in(feed, name)))]
-
-
-def in_order(faults: Sequence[Fault]) -> list[Fault]:
-    return sorted(faults, key=lambda fault: int(fault.ranks[0]) if len(fault.ranks) else -1)
-
-
-def unread_in(feed: Feed) -> Iterator[Fault]:
-    """The folders that stand in the places of files: `ttm` reads all files before it looks at one."""
-    none = np.zeros(0, np.int64)
-    for name, path in feed.unread.items():
-        allowed = "a file has to be there, and it is a folder"
-        yield Fault(no_table(name, path), UNREAD, "", allowed, none, none, True)
+    none = np.zeros(0, np.int64)  # `ttm` reads all files before it looks at one
+    allowed = "a file has to be there, and it is a folder"
+    unread = [Fault(no_table(name, path), UNREAD, "", allowed, none, none, True) for name, path in feed.unread.items()]
+    in_order = (sorted(faults_in(feed, name), key=lambda fault: list(fault.ranks[:1])) for name in FILES)
+    return [*unread, *itertools.chain.from_iterable(in_order)]
 
 
 def faults_in(feed: Feed, name: str) -> list[Fault]:
-    """The faults of a file."""
     table, none = feed.get(name), np.zeros(0, np.int64)
     if name in feed.unread:
         return []
     if name not in feed.tables:
-        optional = ("calendar_dates.txt", "frequencies.txt", "transfers.txt")
-        if name in optional or (name == "calendar.txt" and "calendar_dates.txt" in feed.tables):
+        if name in OPTIONAL and (name != "calendar.txt" or "calendar_dates.txt" in feed.tables):
             return []
         allowed = "the file has to be there" + (", or calendar_dates.txt" if name == "calendar.txt" else "")
         return [Fault(table, "missing file", "", allowed, none, none, missing=True)]
@@ -132,44 +132,32 @@ def faults_in(feed: Feed, name: str) -> list[Fault]:
         return [Fault(table, "missing column", "", allowed, none, none)]
     checks = Checks(table)
     CHECKS[name](feed, checks)
-    return [*checks.found, *WHOLE.get(name, lambda *_: iter(()))(feed, table)]
+    if name == "stop_times.txt":  # once the columns that its checks looked at are gone
+        checks.found += whole_trips(feed, table)
+    return checks.found
 
 
 def check_stops(_: Feed, checks: Checks) -> None:
     checks.few(fields.MOST_STOPS)
-    checks.filled("stop_id")
-    checks.once("stop_id")
-    open_numbers(checks, "location_type")
-
-
-def open_numbers(checks: Checks, *columns: str) -> None:
-    for column in columns:
-        wrong = values_of(checks.table[column], number) == fields.NONE
-        checks.add(column, "bad number", OPEN_NUMBER, wrong)
+    checks.identifies("stop_id")
+    checks.values("bad number", OPEN_NUMBER, number, "location_type", may_be_empty=True)
 
 
 def check_routes(_: Feed, checks: Checks) -> None:
-    checks.filled("route_id")
-    checks.once("route_id")
+    checks.identifies("route_id")
 
 
 def check_calendar(_: Feed, checks: Checks) -> None:
-    checks.filled("service_id")
-    checks.once("service_id")
+    checks.identifies("service_id")
     for day in WEEKDAYS:
         flags = values_of(checks.table[day], number)
         checks.add(day, "bad number", "a weekday is 0 or 1", ~np.isin(flags, (0, 1)))
-    dates(checks, "start_date", "end_date")
-
-
-def dates(checks: Checks, *columns: str) -> None:
-    for column in columns:
-        checks.add(column, "bad date", "a date is YYYYMMDD", values_of(checks.table[column], date) < 0)
+    checks.values("bad date", DATE, date, "start_date", "end_date")
 
 
 def check_calendar_dates(_: Feed, checks: Checks) -> None:
     checks.filled("service_id")
-    dates(checks, "date")
+    checks.values("bad date", DATE, date, "date")
     kinds = values_of(checks.table["exception_type"], number)
     allowed = "it is 1 (the date is added) or 2 (it is removed)"
     checks.add("exception_type", "bad number", allowed, ~np.isin(kinds, (1, 2)))
@@ -180,8 +168,7 @@ def check_trips(feed: Feed, checks: Checks) -> None:
     checks.filled("route_id")
     checks.named("route_id", "unknown route", names_in(feed, "routes.txt", "route_id"), "routes.txt has to name it")
     checks.filled("service_id")
-    checks.filled("trip_id")
-    checks.once("trip_id")
+    checks.identifies("trip_id")
 
 
 def named_trips(feed: Feed, checks: Checks) -> None:
@@ -198,33 +185,27 @@ def check_stop_times(feed: Feed, checks: Checks) -> None:
     checks.add("stop_sequence", "bad number", NUMBER, sequence < 0)
     twice = repeated_pairs(table["trip_id"].codes, sequence)
     checks.add("stop_sequence", "duplicate id", "another record of the trip has the same", twice)
-    times(checks, fields.EMPTY, "arrival_time", "departure_time")
-    open_numbers(checks, "pickup_type", "drop_off_type")
-
-
-def times(checks: Checks, least: int, *columns: str) -> None:
-    """Times; empty ones too, where those are allowed."""
-    for column in columns:
-        value = values_of(checks.table[column], time)
-        checks.add(column, "bad time", TIME, (value < 0) if least == 0 else (value == fields.NONE))
+    checks.values("bad time", TIME, time, "arrival_time", "departure_time", may_be_empty=True)
+    checks.values("bad number", OPEN_NUMBER, number, "pickup_type", "drop_off_type", may_be_empty=True)
 
 
 def check_frequencies(feed: Feed, checks: Checks) -> None:
     named_trips(feed, checks)
-    times(checks, 0, "start_time", "end_time")
+    checks.values("bad time", TIME, time, "start_time", "end_time")
     headways = values_of(checks.table["headway_secs"], number)
     checks.add("headway_secs", "bad number", "a headway is whole seconds, 1 to 4294967295", headways < 1)
 
 
 def check_transfers(feed: Feed, checks: Checks) -> None:
     table = checks.table
-    open_numbers(checks, "transfer_type")
+    checks.values("bad number", OPEN_NUMBER, number, "transfer_type", may_be_empty=True)
     used = used_transfers(table)
     for column in ("from_stop_id", "to_stop_id"):
         names = names_in(feed, "stops.txt", "stop_id")
         checks.named(column, "unknown stop", names, "stops.txt has to name it", but=~used)
     wrong = values_of(table["min_transfer_time"], number) == fields.NONE
     checks.add("min_transfer_time", "bad number", NUMBER, used & wrong)
+    checks.found += too_many_footpaths(feed, table)
 
 
 def too_many_footpaths(feed: Feed, table: Table) -> Iterator[Fault]:
@@ -239,18 +220,13 @@ def too_many_footpaths(feed: Feed, table: Table) -> Iterator[Fault]:
 
 
 def footpaths_of(table: Table, stops: Table) -> Whole:
-    """How many footpaths each row of transfers.txt makes: from each stop of its first end to each other one of its
-    second, where a station stands for its children, and another place for none.
-    """
-    places: dict[str, int] = {}
-    for place, stop in enumerate(stops.texts("stop_id")):
-        places.setdefault(stop, place)
-    kinds = values_of(stops["location_type"], number)
-    is_stop, is_station = (kinds == 0) | (kinds == fields.EMPTY), kinds == 1
+    """How many footpaths each row of transfers.txt makes; a station stands for its children, another place for none."""
+    places = {stop: place for place, stop in reversed(list(enumerate(stops.texts("stop_id"))))}  # the first of several
+    called, is_station = is_stop(stops), values_of(stops["location_type"], number) == 1
     parents = positions_of(stops["parent_station"], places)
-    parents = np.where(is_stop & (parents >= 0) & is_station[parents], parents, -1)
+    parents = np.where(called & (parents >= 0) & is_station[parents], parents, -1)
     children = np.bincount(parents[parents >= 0], minlength=len(stops))
-    sizes = np.append(np.where(is_stop, 1, np.where(is_station, children, 0)), 0)
+    sizes = np.append(np.where(called, 1, np.where(is_station, children, 0)), 0)
     parents = np.append(parents, -2)  # that of a place that isn't known
     a, b = (positions_of(table[name], places) for name in ("from_stop_id", "to_stop_id"))
     shared = np.where(a == b, sizes[a], ((parents[a] == b) | (parents[b] == a)).astype(np.int64))
@@ -258,27 +234,20 @@ def footpaths_of(table: Table, stops: Table) -> Whole:
 
 
 def whole_trips(feed: Feed, table: Table) -> Iterator[Fault]:
-    """The faults of whole trips, trip by trip in the order of trips.txt: ends without a time, and times that go back.
-    A field that is itself a fault isn't reported again.
-    """
+    """The faults of whole trips, in the order of trips.txt; a field that is a fault isn't reported again."""
     trips = names_in(feed, "trips.txt", "trip_id")
     if trips is None:
         return
     calls = calls_of(table, trips)
-    wrong = calls.has_bad_time
-    ends = "the first and the last stop time of a trip have an arrival_time or a departure_time"
-    untimed = (calls.is_first | calls.is_last) & ~calls.timed & ~wrong
-    yield from whole(table, calls, untimed, "no time", ends)
-    yield from whole(table, calls, calls.goes_back, "times go back", BACK)
-
-
-def whole(table: Table, calls: Calls, fails: Mask, what: str, allowed: str) -> Iterator[Fault]:
-    places = np.flatnonzero(fails)
-    if len(places):
-        back = what == "times go back"
-        within = np.where(back, 2 + places, calls.is_last[places].astype(np.int64))
-        ranks = (1 << 40) + (calls.trip[places] << 32) + within
-        yield Fault(table, what, "arrival_time", allowed, calls.rows[places], ranks)
+    untimed = np.flatnonzero((calls.is_first | calls.is_last) & ~calls.timed & ~calls.has_bad_time)
+    back = np.flatnonzero(calls.goes_back)
+    for what, allowed, places, within in (
+        ("no time", ENDS, untimed, calls.is_last[untimed].astype(np.int64)),
+        ("times go back", BACK, back, 2 + back),
+    ):
+        if len(places):
+            ranks = (1 << 40) + (calls.trip[places] << 32) + within
+            yield Fault(table, what, "arrival_time", allowed, calls.rows[places], ranks)
 
 
 CHECKS = {
@@ -291,7 +260,3 @@ CHECKS = {
     "frequencies.txt": check_frequencies,
     "transfers.txt": check_transfers,
 }
-WHOLE: dict[str, Callable[[Feed, Table], Iterator[Fault]]] = {
-    "stop_times.txt": whole_trips,
-    "transfers.txt": too_many_footpaths,
-}  # checks of whole files, which come after those of each record

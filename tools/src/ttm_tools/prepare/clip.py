@@ -6,8 +6,9 @@ stays.
 """
 
 import datetime
+import itertools
 from dataclasses import dataclass
-from typing import Any, Iterable, Iterator, Sequence
+from typing import Any, Iterator, Sequence
 
 import numpy as np
 
@@ -16,14 +17,14 @@ from ..opening.paths import as_one_line
 from ..opening.texts import read_json
 from ..gtfs import fields
 from ..gtfs.calls import Calls, calls_of
-from ..gtfs.columns import distinct, one_of, values_of
-from ..gtfs.feeds import Feed, names_in
+from ..gtfs.columns import begins_run, distinct, one_of, positions_of, values_of
+from ..gtfs.feeds import Feed, names_in, parents_of
 from ..gtfs.fields import FILES, Mask, clock, number, time
 from ..gtfs.service_days import on_days
 from ..gtfs.tables import Table
 from ..records import rows, shown
 from .likely import places_of
-from .references import leave_out_references, left_out_by, there
+from .references import leave_out_references, there
 
 Box = tuple[float, float, float, float]  # west, south, east, north in degrees
 SHAPES = ("Polygon", "MultiPolygon")
@@ -49,9 +50,7 @@ class Clip:
 
 
 def clip(feed: Feed, options: Clip) -> list[str]:
-    """Leaves out what isn't chosen, and what refers to it; what of which file, a sentence a line. The feed has no
-    faults but limits.
-    """
+    """Leaves out what isn't chosen, and what refers to it, a sentence a line. The feed has no faults but limits."""
     before, counts = there(feed), {name: len(table) for name, table in feed.tables.items()}
     trips = feed.tables["trips.txt"]
     trips.keep(of_routes(feed, options) & on_days(feed, options.days))
@@ -65,14 +64,17 @@ def clip(feed: Feed, options: Clip) -> list[str]:
     if options.routes or options.agencies:
         keep_called(feed)
     if options.is_region or options.routes or options.agencies:
-        named = names_in(feed, "trips.txt", "route_id") or []
-        feed.tables["routes.txt"].keep(one_of(feed.tables["routes.txt"]["route_id"], named))
-    keep_walks(feed)
-    return [left_out_by(feed, list(FILES), counts), *leave_out_references(feed, before)]
+        routes = feed.tables["routes.txt"]
+        routes.keep(one_of(routes["route_id"], names_in(feed, "trips.txt", "route_id") or []))
+    walks, named = feed.get("transfers.txt"), {*(names_in(feed, "stops.txt", "stop_id") or []), ""}
+    walks.keep(one_of(walks["from_stop_id"], named) & one_of(walks["to_stop_id"], named))
+    lost = {name: counts[name] - len(feed.get(name)) for name in FILES if name in counts}
+    stated = [f"{name} {count:,} of {counts[name]:,}" for name, count in lost.items() if count]
+    line = f"left out: {', '.join(stated)}" if stated else "nothing is left out"
+    return [line, *leave_out_references(feed, before)]
 
 
 def of_routes(feed: Feed, options: Clip) -> Mask:
-    """Which trips are of the routes and agencies."""
     routes, trips = feed.tables["routes.txt"], feed.tables["trips.txt"]
     agencies = agencies_of(feed) if options.agencies else [""] * len(routes)
     kept = routes.texts("route_id")
@@ -80,12 +82,8 @@ def of_routes(feed: Feed, options: Clip) -> Mask:
         lost = [name for name in wanted if name not in set(known)]
         if lost:
             raise BadInput("routes.txt", f"no {name} {shown(lost[0])}")
-    chosen = {
-        route
-        for route, agency in zip(kept, agencies)
-        if (not options.routes or route in set(options.routes))
-        and (not options.agencies or agency in set(options.agencies))
-    }
+    among, of = set(options.routes or kept), set(options.agencies or agencies)
+    chosen = [route for route, agency in zip(kept, agencies) if route in among and agency in of]
     return one_of(trips["route_id"], chosen)
 
 
@@ -105,24 +103,30 @@ def near(stops: Table, options: Clip) -> set[str] | None:
 
 
 def of_region(stops: Table, options: Clip) -> Mask:
-    """Which locations stay: the stops inside, where a stop without a place is at its station; the stations of these;
-    and what belongs to a station or stop that stays.
-    """
-    kinds = np.maximum(values_of(stops["location_type"], number), 0)
-    where = {name: row for row, name in enumerate(stops.texts("stop_id"))}
-    parents = np.array([where.get(text.strip(" "), -1) for text in stops.texts("parent_station")], dtype=np.int64)
+    """Which locations stay: stops inside, by their stations where they have no place; stations; parts of both."""
+    kinds, parents = np.maximum(values_of(stops["location_type"], number), 0), parents_of(stops)
     latitudes, longitudes = places_of(stops)
     lost = np.isnan(latitudes) & (parents >= 0)
     latitudes, longitudes = (np.where(lost, degrees[parents], degrees) for degrees in (latitudes, longitudes))
     inside = np.zeros(len(stops), dtype=np.bool_)
     inside[within(latitudes, longitudes, options)] = True
-    kept = inside & (kinds == 0)
-    stations = np.zeros(len(stops) + 1, dtype=np.bool_)
-    stations[parents[kept & (parents >= 0)]] = True
-    kept |= (kinds == 1) & (inside | stations[:-1])
-    for _ in range(2):  # an entrance of a station, a boarding area of a platform
-        kept |= (kinds > 1) & (parents >= 0) & kept[parents]
-    return np.asarray(kept, dtype=np.bool_)
+    called = inside & (kinds == 0)
+    kept = called | (kinds == 1) & (inside | named_by(called, parents))
+    return with_parts(kept, kinds, parents)
+
+
+def named_by(children: Mask, parents: fields.Whole) -> Mask:
+    """Which locations some others name as their parents."""
+    named = np.zeros(len(parents) + 1, dtype=np.bool_)
+    named[parents[children]] = True
+    return named[:-1]
+
+
+def with_parts(kept: Mask, kinds: fields.Whole, parents: fields.Whole) -> Mask:
+    """Some locations with what belongs to them: an entrance of a station, a boarding area of a platform."""
+    for _ in range(2):
+        kept = np.asarray(kept | (kinds > 1) & (parents >= 0) & kept[parents], dtype=np.bool_)
+    return kept
 
 
 def within(latitudes: fields.Floats, longitudes: fields.Floats, options: Clip) -> fields.Whole:
@@ -174,14 +178,9 @@ def geometries(read: Any) -> Iterator[dict[str, Any]]:
         return
     if read.get("type") in SHAPES:
         yield read
-    parts: Iterable[Any] = [read.get("geometry"), *list_in(read, "features"), *list_in(read, "geometries")]
-    for part in parts:
+    lists = [listed for listed in (read.get("features"), read.get("geometries")) if isinstance(listed, list)]
+    for part in [read.get("geometry"), *itertools.chain(*lists)]:
         yield from geometries(part)
-
-
-def list_in(read: dict[str, Any], name: str) -> list[Any]:
-    found = read.get(name)
-    return found if isinstance(found, list) else []
 
 
 def keep_calls(feed: Feed, kept: Mask) -> None:
@@ -217,57 +216,33 @@ def shift_headways(feed: Feed, calls: Calls, stays: Mask, order: Sequence[str]) 
     table = feed.get("frequencies.txt")
     if not len(table):
         return
-    departure = calls.filled()[1]
-    moved: dict[str, int] = {}
-    first = np.flatnonzero(calls.is_first)
-    staying = np.flatnonzero(stays)
-    found = np.searchsorted(staying, first)
-    for start, place in zip(first, found):
-        if place < len(staying) and calls.trip[staying[place]] == calls.trip[start]:
-            moved[order[calls.trip[start]]] = int(departure[staying[place]] - departure[start])
-    by_row = np.array([moved.get(text, 0) for text in table.texts("trip_id")], dtype=np.int64)
+    departure, firsts, staying = calls.filled()[1], np.flatnonzero(calls.is_first), np.flatnonzero(stays)
+    own = staying[begins_run(calls.trip[staying])]
+    starts = firsts[np.searchsorted(calls.trip[firsts], calls.trip[own])]
+    moved = np.zeros(len(order) + 1, dtype=np.int64)
+    moved[calls.trip[own]] = departure[own] - departure[starts]
+    by_row = moved[positions_of(table["trip_id"], order)]
     changed = np.flatnonzero(by_row)
     for name in ("start_time", "end_time"):
         times = values_of(table[name], time)[changed] + by_row[changed]
         late = changed[times >= 168 * 3600]
         if len(late):
-            raise BadInput(
-                "frequencies.txt", "is past 167:59:59 once calls go", record=int(table.records[late[0]]), column=name
-            )
+            record = int(table.records[late[0]])
+            raise BadInput("frequencies.txt", "is past 167:59:59 once calls go", record=record, column=name)
         table.put(name, changed, [clock(int(time)) for time in times])
 
 
 def keep_trips(feed: Feed) -> None:
     """Leaves out what belongs to trips that aren't there any more: stop times, headways, and their services."""
-    trips = feed.tables["trips.txt"]
-    names = set(trips.texts("trip_id"))
-    for name in ("stop_times.txt", "frequencies.txt"):
-        if name in feed.tables:
-            feed.tables[name].keep(one_of(feed.tables[name]["trip_id"], names))
-    services = set(trips.texts("service_id"))
-    for name in ("calendar.txt", "calendar_dates.txt"):
-        if name in feed.tables:
-            feed.tables[name].keep(one_of(feed.tables[name]["service_id"], services))
+    of_trips, of_services = ("stop_times.txt", "frequencies.txt"), ("calendar.txt", "calendar_dates.txt")
+    for column, files in (("trip_id", of_trips), ("service_id", of_services)):
+        names = set(feed.tables["trips.txt"].texts(column))
+        for table in map(feed.get, files):
+            table.keep(one_of(table[column], names))
 
 
 def keep_called(feed: Feed) -> None:
     """Leaves out the stops at which no trip calls, and stations without such a stop."""
     stops = feed.tables["stops.txt"]
-    called = one_of(stops["stop_id"], names_in(feed, "stop_times.txt", "stop_id") or [])
-    where = {name: row for row, name in enumerate(stops.texts("stop_id"))}
-    parents = np.array([where.get(text.strip(" "), -1) for text in stops.texts("parent_station")], dtype=np.int64)
-    needed = np.zeros(len(stops) + 1, dtype=np.bool_)
-    needed[parents[called]] = True
-    needed[-1] = False
-    kept = called | needed[:-1]
-    kinds = values_of(stops["location_type"], number)
-    for _ in range(2):
-        kept |= (kinds > 1) & (parents >= 0) & kept[parents]
-    stops.keep(kept)
-
-
-def keep_walks(feed: Feed) -> None:
-    """Leaves out the transfers from or to places that went."""
-    table = feed.get("transfers.txt")
-    names = {*(names_in(feed, "stops.txt", "stop_id") or []), ""}
-    table.keep(one_of(table["from_stop_id"], names) & one_of(table["to_stop_id"], names))
+    called, parents = one_of(stops["stop_id"], names_in(feed, "stop_times.txt", "stop_id") or []), parents_of(stops)
+    stops.keep(with_parts(called | named_by(called, parents), values_of(stops["location_type"], number), parents))

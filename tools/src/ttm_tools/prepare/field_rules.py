@@ -1,19 +1,86 @@
 """Rules that repair the texts of fields: names of columns, encodings, numbers, times, dates, and identifiers."""
 
-from typing import Iterable
+import math
+import re
+from typing import Callable, Iterable, Sequence
 
 import numpy as np
 
 from ..gtfs import fields
 from ..gtfs.columns import used, values_of
-from ..gtfs.feeds import Feed, names_in, stops_of
-from ..gtfs.fields import FILES, number
+from ..gtfs.feeds import names_in, stops_of
+from ..gtfs.fields import FILES, WEEKDAYS, clock, date, number, time
 from ..gtfs.tables import Table
 from ..records import shown
 from .likely import PLACES, plain
-from .mends import A_DATE, MENDED, agreed_dates
 from .repair import Repair
 from .report import Repaired
+
+
+NUMBER = re.compile(r"\+?([0-9]+)(?:[.,]([0-9]*))?")
+LOOSE_TIME = re.compile(r"([0-9]{1,3}):([0-9]{1,2})(?::([0-9]{1,2})(?:\.[0-9]*)?)?")
+LOOSE_DATE = re.compile(r"([0-9]{4})[-/.]([0-9]{1,2})[-/.]([0-9]{1,2})")
+YEAR_LAST = re.compile(r"([0-9]{1,2})([-/.])([0-9]{1,2})\2([0-9]{4})")
+READINGS = {"-": ("dmy", "mdy"), "/": ("dmy", "mdy"), ".": ("dmy",)}  # by the sign between day, month and year
+
+
+def mended_number(text: str) -> str | None:
+    """1 for 1.0 and +1."""
+    found = NUMBER.fullmatch(text.strip())
+    return found[1] if found and not (found[2] or "").strip("0") else None
+
+
+def mended_duration(text: str) -> str | None:
+    """The same, and decimals are rounded up."""
+    found = NUMBER.fullmatch(text.strip())
+    return str(int(found[1][:20]) + (math.ceil(float(f"0.{found[2]}")) if found[2] else 0)) if found else None
+
+
+def mended_time(text: str) -> str | None:
+    """08:05:00 for 8:5:00, 8:05, and 08:05:00.0."""
+    found = LOOSE_TIME.fullmatch(text.strip())
+    if not found or int(found[2]) > 59 or int(found[3] or 0) > 59:
+        return None
+    return clock(int(found[1]) * 3600 + int(found[2]) * 60 + int(found[3] or 0))
+
+
+def mended_date(text: str) -> str | None:
+    """20260504 for 2026-05-04."""
+    found = LOOSE_DATE.fullmatch(text.strip())
+    return f"{found[1]}{int(found[2]):02}{int(found[3]):02}" if found else None
+
+
+def date_of(text: str, reading: str) -> str | None:
+    """20261231 for 31.12.2026, read with the day or with the month first."""
+    found = YEAR_LAST.fullmatch(text.strip())
+    if found is None or reading not in READINGS[found[2]]:
+        return None
+    day, month = (found[1], found[3]) if reading == "dmy" else (found[3], found[1])
+    agreed = f"{found[4]}{int(month):02}{int(day):02}"
+    return agreed if date(agreed) >= 0 else None
+
+
+def agreed_dates(texts_of_dates: Sequence[str]) -> dict[str, str]:
+    """Dates with the year last, by the one reading on which all agree; none where there are two or none."""
+    loose = [text for text in texts_of_dates if YEAR_LAST.fullmatch(text.strip())]
+    readings = [{text: date_of(text, reading) for text in loose} for reading in ("dmy", "mdy")]
+    whole = [{text: date for text, date in by.items() if date is not None} for by in readings]
+    fitting = [by for by in whole if len(by) == len(set(loose))]
+    return fitting[0] if fitting and all(by == fitting[0] for by in fitting) else {}
+
+
+Mend = tuple[str, Callable[[str], int], Callable[[str], "str | None"]]
+A_NUMBER: Mend = ("number", number, mended_number)
+A_DURATION: Mend = ("number", number, mended_duration)
+A_TIME: Mend = ("time", time, mended_time)
+A_DATE: Mend = ("date", date, mended_date)
+MENDED: dict[str, Mend] = {
+    **{name: A_NUMBER for name in ("location_type", "exception_type", "stop_sequence", "pickup_type", "drop_off_type")},
+    **{name: A_NUMBER for name in (*WEEKDAYS, "transfer_type")},
+    **{name: A_DURATION for name in ("headway_secs", "min_transfer_time")},
+    **{name: A_TIME for name in ("arrival_time", "departure_time", "start_time", "end_time")},
+    **{name: A_DATE for name in ("start_date", "end_date", "date")},
+}
 
 
 def mend_columns(repair: Repair, table: Table) -> None:
@@ -26,16 +93,15 @@ def mend_columns(repair: Repair, table: Table) -> None:
         if old != new:
             repair.changes.append(Repaired(repair.label + table.name, 1, new, old, "column", f"now {new}"))
             table.source = None
-    table.rename(names)
+    table.fields = {names[name]: column for name, column in table.fields.items()}
 
 
 def mend_texts(repair: Repair, table: Table) -> None:
     """Rule `text`: what isn't UTF-8, but for identifiers, which are bytes, is read as Windows-1252."""
     for name in table.columns:
         if not name.endswith("_id") and name != "parent_station":
-            repair.put_for(
-                table, name, "text", {text: shown(text) for text in table[name].categories if shown(text) != text}
-            )
+            right = {text: shown(text) for text in table[name].categories if shown(text) != text}
+            repair.put_for(table, name, "text", right)
 
 
 def mend_fields(repair: Repair, table: Table) -> None:
@@ -54,9 +120,8 @@ def mend_names(repair: Repair, table: Table) -> None:
     """Rule `spaces`: an identifier that is known without the spaces round it."""
     feed = repair.feed
     stops = names_in(feed, "stops.txt", "stop_id") or []
-    services = dict.fromkeys(
-        service for name in ("calendar.txt", "calendar_dates.txt") for service in services_in(feed, name)
-    )
+    calendars = ("calendar.txt", "calendar_dates.txt")
+    services = [service for name in calendars for service in names_in(feed, name, "service_id") or []]
     named: dict[str, dict[str, Iterable[str]]] = {
         "trips.txt": {"route_id": names_in(feed, "routes.txt", "route_id") or [], "service_id": services},
         "stop_times.txt": {"trip_id": names_in(feed, "trips.txt", "trip_id") or [], "stop_id": stops},
@@ -65,30 +130,19 @@ def mend_names(repair: Repair, table: Table) -> None:
     }
     for column, names in named.get(table.name, {}).items():
         known = set(names)
-        bare = {name.strip(): name for name in reversed(list(names))}
-        lost = [
-            text for text in table[column].categories if text not in known and text.strip() in bare and text.strip()
-        ]
+        bare = {name.strip(): name for name in reversed(list(names)) if name.strip()}
+        lost = [text for text in table[column].categories if text not in known and text.strip() in bare]
         repair.put_for(table, column, "spaces", {name: bare[name.strip()] for name in lost})
 
 
-def services_in(feed: Feed, name: str) -> list[str]:
-    return names_in(feed, name, "service_id") or []
-
-
 def mend_stations(repair: Repair, table: Table) -> None:
-    """Rule `station`: a call at a station is at its first stop, one at a boarding area at its stop; a station without
-    stops is made a stop.
-    """
+    """Rule `station`: a call at a station or boarding area moves to its stop; a station without stops becomes one."""
     if table.name != "stop_times.txt" or not repair.feed.has_columns("stops.txt"):
         return
     stops = repair.feed.tables["stops.txt"]
     kinds, known = values_of(stops["location_type"], number), set(stops_of(repair.feed) or [])
     identifiers, parents = stops.texts("stop_id"), [text.strip(" ") for text in stops.texts("parent_station")]
-    children: dict[str, str] = {}
-    for name, parent in zip(identifiers, parents):
-        if name in known:
-            children.setdefault(parent, name)
+    children = {parent: name for name, parent in reversed(list(zip(identifiers, parents))) if name in known}
     called = set(table["stop_id"].categories) - known
     right: dict[str, str] = {}
     for row, (name, parent, kind) in enumerate(zip(identifiers, parents, kinds)):

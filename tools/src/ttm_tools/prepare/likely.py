@@ -19,6 +19,7 @@ from ..records import shown
 
 COMMA = re.compile(r"[+-]?[0-9]+,[0-9]+")
 FASTEST = 300  # km/h
+NO_RUNS = "no trip runs on any day"
 WEEK = ("Mondays", "Tuesdays", "Wednesdays", "Thursdays", "Fridays", "Saturdays", "Sundays")
 PLACES = ("stop_lat", "stop_lon", "stop_name")
 
@@ -27,31 +28,27 @@ def sentences(feed: Feed, with_days: bool = True) -> Iterator[str]:
     """What is reported of a feed in addition to its errors; its days if it has none."""
     yield from misspelt(feed)
     if feed.has_columns("stops.txt"):
-        yield from unplaced(feed.tables["stops.txt"])
-        yield from with_commas(feed.tables["stops.txt"])
-        yield from formulas(feed.tables["stops.txt"])
+        for some in (unplaced, with_commas, formulas):
+            yield from some(feed.tables["stops.txt"])
     if feed.has_columns("trips.txt"):
         yield from of_days(feed) if with_days else ()
         if feed.has_columns("stop_times.txt"):
             yield from of_trips(feed)
-    if "transfers.txt" in feed.tables:
-        table = feed.tables["transfers.txt"]
-        unused = int((~used_transfers(table)).sum())
-        if unused:
-            why = "with a type above 2, for a route or trip, or without a time"
-            yield f"transfers.txt: {unused:,} of {len(table):,} rows aren't used ({why})"
+    table = feed.get("transfers.txt")
+    unused = int((~used_transfers(table)).sum())
+    if unused:
+        why = "with a type above 2, for a route or trip, or without a time"
+        yield f"transfers.txt: {unused:,} of {len(table):,} rows aren't used ({why})"
 
 
 def misspelt(feed: Feed) -> Iterator[str]:
     """Columns whose names are nearly those that are read, where the right ones aren't there."""
     for name, table in feed.tables.items():
         right = (*FILES[name].needed, *FILES[name].taken, *(PLACES if name == "stops.txt" else ()))
-        lacking = [column for column in right if column not in table]
-        for column in table.columns:
-            near = difflib.get_close_matches(plain(column), map(plain, lacking), 1, 0.85) if column not in right else []
-            if near:
-                meant = next(column for column in lacking if plain(column) == near[0])
-                yield f"{name}: the column {column!r} isn't read: is {meant} meant?"
+        lacking = {plain(column): column for column in right if column not in table}
+        for column in (column for column in table.columns if column not in right):
+            for near in difflib.get_close_matches(plain(column), lacking, 1, 0.85):
+                yield f"{name}: the column {column!r} isn't read: is {lacking[near]} meant?"
 
 
 def plain(name: str) -> str:
@@ -95,16 +92,15 @@ def of_days(feed: Feed) -> Iterator[str]:
     runs = runs_by_day(feed, days)
     busy = np.flatnonzero(runs)
     if not len(busy):
-        yield "no trip runs on any day"
+        yield NO_RUNS
         return
     first, last, most = (days.day(int(place)) for place in (busy[0], busy[-1], runs.argmax()))
     yield f"runs from {first} to {last}; the most, {runs.max():,}, on {most}"
     covered = np.arange(busy[0], busy[-1] + 1)
     weekday = (days.first + covered - 1) % 7
     counts = [runs[covered][weekday == day] for day in range(7)]
-    yield "runs on " + ", ".join(
-        f"{name} {int(np.median(count)):,}" for name, count in zip(WEEK, counts) if len(count)
-    ) + " (medians)"
+    medians = [f"{name} {int(np.median(count)):,}" for name, count in zip(WEEK, counts) if len(count)]
+    yield f"runs on {', '.join(medians)} (medians)"
 
 
 def of_trips(feed: Feed) -> Iterator[str]:
@@ -123,9 +119,7 @@ def of_trips(feed: Feed) -> Iterator[str]:
 
 
 def too_fast(table: Table, stops: Table, calls: Calls) -> Iterator[str]:
-    """Calls that a vehicle reaches at more than 300 km/h; a minute at least is taken for each way, as times are often
-    in whole minutes.
-    """
+    """Calls reached at over 300 km/h; each way takes a minute at least, as times are often in whole minutes."""
     latitudes, longitudes = (np.radians(np.append(degrees, np.nan)) for degrees in places_of(stops))
     known = {stop: row for row, stop in reversed(list(enumerate(stops.texts("stop_id"))))}
     place = positions_of(table["stop_id"], known)[calls.rows]

@@ -1,6 +1,7 @@
 """What a repair leaves of a feed, compared with what was there, and whether that is enough."""
 
 import datetime
+from collections import Counter
 from dataclasses import dataclass
 from typing import Iterator, Mapping, Sequence
 
@@ -19,7 +20,6 @@ MOST_LOST = 0.1  # of a file's records, that one rule may leave out
 CALENDARS = ("calendar.txt", "calendar_dates.txt")
 NEEDED = ("stops.txt", "routes.txt", "trips.txt", "stop_times.txt")
 NO_LOSS = "same"  # the rule that leaves out a record of which another one is there
-NO_RUNS = "no trip runs on any day"
 
 
 @dataclass(frozen=True)
@@ -34,7 +34,6 @@ class Hints:
 
 
 def counts_of(feed: Feed) -> dict[str, int]:
-    """How many records each file has."""
     return {name: len(feed.tables[name]) for name in FILES if name in feed.tables}
 
 
@@ -44,19 +43,11 @@ def left(before: Mapping[str, int], feed: Feed) -> str:
     return "records left: " + ", ".join(f"{name} {after[name]:,} of {count:,}" for name, count in before.items())
 
 
-def taken(changes: Sequence[Repaired]) -> dict[tuple[str, str], int]:
-    """How many records each rule left out of each file."""
-    counts: dict[tuple[str, str], int] = {}
-    for change in changes:
-        whole = "trips.txt" if change.done.startswith("trip ") else change.file.rpartition("/")[2]
-        if change.done.endswith("left out") and change.rule != NO_LOSS:
-            counts[change.rule, whole] = counts.get((change.rule, whole), 0) + 1
-    return counts
-
-
 def losses(before: Mapping[str, int], changes: Sequence[Repaired], feed: Feed) -> Iterator[str]:
     """Why what a repair leaves isn't the feed any more: a file that is empty, or a rule that took a lot of one."""
-    for (rule, name), count in taken(changes).items():
+    lost = [change for change in changes if change.done.endswith("left out") and change.rule != NO_LOSS]
+    files = ["trips.txt" if it.done.startswith("trip ") else it.file.rpartition("/")[2] for it in lost]
+    for (rule, name), count in Counter(zip((change.rule for change in lost), files)).items():
         if count > MOST_LOST * before[name]:
             yield f"rule {rule} removes {count:,} of {before[name]:,} records of {name}"
     for name in NEEDED:
@@ -71,12 +62,11 @@ def no_runs(feed: Feed, day: datetime.date | None = None) -> str | None:
     days = days_of(feed)
     busy = np.flatnonzero(runs_by_day(feed, days)).tolist()
     if day is None:
-        return None if busy else NO_RUNS
+        return None if busy else likely.NO_RUNS
     if (on_days(feed, [day]) & (runs_of_trips(feed) > 0)).any():
         return None
-    return f"no trip runs on {day}, " + (
-        f"only from {days.day(busy[0])} to {days.day(busy[-1])}" if busy else "or on any other day"
-    )
+    others = f"only from {days.day(busy[0])} to {days.day(busy[-1])}" if busy else "or on any other day"
+    return f"no trip runs on {day}, {others}"
 
 
 def sentences(feed: Feed, has_faults: bool) -> Iterator[str]:

@@ -1,6 +1,7 @@
 """A folder that `ttm` reads, made from published feeds."""
 
 import datetime
+from collections import Counter
 from dataclasses import dataclass
 from pathlib import Path
 from typing import Iterator, Sequence
@@ -22,15 +23,12 @@ from .likely import of_days
 from .losses import Hints, counts_of, left, no_runs, refuse_day, refuse_losses
 from .merge import merge
 from .repair import repair
-from .report import Repaired, counted_errors, fault_lines
+from .report import Repaired, refuse
 
 MOST_RUNS = 1_000_000
 PREPARED = "prepared.csv"
+OF_DAYS = ("trips.txt", "stop_times.txt")  # of which fewer records are left for some days
 ORDER = {name: place for place, name in enumerate(FILES)}
-LESS = {
-    name: "use --box, --area, --routes or --agency" + (", or --date" if name in ("trips.txt", "stop_times.txt") else "")
-    for name in FILES
-}
 
 
 @dataclass(frozen=True)
@@ -56,7 +54,8 @@ def make(options: PrepareOptions, room: Path) -> list[str]:
         before = counts_of(feed)
         found = repair(feed, f"{feed.name}/" if len(options.paths) > 1 else "") if options.mends else []
         done = sorted(found, key=lambda fault: (ORDER[fault.file.rpartition("/")[2]], fault.record))
-        refuse_faults(path, feed, options.hints.after_repair if options.mends else options.hints.errors)
+        hint = options.hints.after_repair if options.mends else options.hints.errors
+        refuse(path, [fault for fault in check(feed) if not fault.is_limit], hint)
         if done and not options.allows_loss:
             refuse_losses(path, before, done, feed, options.hints)
         changes += done
@@ -68,44 +67,30 @@ def make(options: PrepareOptions, room: Path) -> list[str]:
         refuse_day(options.paths[0] if len(feeds) == 1 else "the feeds", feed, options.day, options.hints)
     if options.clip.is_any:
         lines += clip(feed, options.clip)
-        refuse_empty(options, feed)
+        empty = None if options.allows_loss or options.day is None else no_runs(feed, options.day)
+        if empty:  # no trip of what was clipped runs on the day of the departures
+            raise BadInput(options.out, f"no service is left: {empty} ({options.hints.empty})")
     refuse_limits(feed)
     with many_written_aside(options.out) as folder:
         write_feed(feed, folder)
         with open(folder / PREPARED, "wb") as file:
             write_rows(file, names_of(REPAIRS), [change.row() for change in changes])
-    return [*lines, *run_lines(feed, options.clip.days), counted(options.out, feed)]
-
-
-def refuse_empty(options: PrepareOptions, feed: Feed) -> None:
-    """Ends where no trip of what was clipped runs on the day of the departures."""
-    found = None if options.allows_loss or options.day is None else no_runs(feed, options.day)
-    if found:
-        raise BadInput(options.out, f"no service is left: {found} ({options.hints.empty})")
-
-
-def refuse_faults(path: str, feed: Feed, help: str) -> None:
-    """Reports the first fault of a feed, limits aside, and how many there are."""
-    faults = [fault for fault in check(feed) if not fault.is_limit]
-    if faults:
-        first = next(fault_lines(faults)).removeprefix("ttm: ")
-        count = sum(map(len, faults))
-        raise BadInput(path, f"{counted_errors(count)}: {first} ({help})")
+    stops, trips, calls = (len(feed.get(name)) for name in ("stops.txt", "trips.txt", "stop_times.txt"))
+    counts = f"{stops:,} stops and stations, {quantity(trips, 'trip')}, {quantity(calls, 'stop time')}"
+    return [*lines, *run_lines(feed, options.clip.days), f"{options.out}: {counts}"]
 
 
 def refuse_limits(feed: Feed) -> None:
     """Refuses a file that is longer than `ttm` takes."""
     for fault in check(feed):
         name = fault.table.name
-        raise BadInput(name, f"{len(feed.tables[name]):,} records; ttm takes {fault.allowed}; {LESS[name]}")
+        less = "use --box, --area, --routes or --agency" + (", or --date" if name in OF_DAYS else "")
+        raise BadInput(name, f"{len(feed.tables[name]):,} records; ttm takes {fault.allowed}; {less}")
 
 
 def mended_lines(changes: Sequence[Repaired]) -> list[str]:
     """How often each rule was applied, and what it did."""
-    counts: dict[tuple[str, str, str], int] = {}
-    for change in changes:
-        key = (change.rule, change.file, noun_of(change.done))
-        counts[key] = counts.get(key, 0) + 1
+    counts = Counter((change.rule, change.file, noun_of(change.done)) for change in changes)
     return [
         f"{rule}: {file}: {quantity(count, noun)} {'repaired' if noun == 'field' else 'removed'}"
         for (rule, file, noun), count in counts.items()
@@ -130,8 +115,3 @@ def run_lines(feed: Feed, days: Sequence[datetime.date]) -> Iterator[str]:
     most = f"{MOST_RUNS:,} and {fields.MOST_STOP_TIMES:,}"
     few = total <= MOST_RUNS and events <= fields.MOST_STOP_TIMES
     yield sentence if few else f"{sentence}, of which ttm takes {most}; use --back 0 --ahead 0, or a smaller region"
-
-
-def counted(out: str, feed: Feed) -> str:
-    stops, trips, calls = (len(feed.get(name)) for name in ("stops.txt", "trips.txt", "stop_times.txt"))
-    return f"{out}: {stops:,} stops and stations, {quantity(trips, 'trip')}, {quantity(calls, 'stop time')}"

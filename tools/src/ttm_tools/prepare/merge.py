@@ -1,24 +1,23 @@
-"""Several feeds as one. Where identifiers of one kind collide, all those of that kind of the later feed get its name as
-a prefix, so that they stay apart.
-"""
+"""Several feeds as one. Where identifiers of a kind collide, those of the later feed get its name as a prefix."""
 
+from pathlib import Path
 from typing import Sequence
 
 import numpy as np
 
 from ..faults import BadInput, quantity
 from ..gtfs.feeds import Feed
-from ..gtfs.fields import FILES
+from ..gtfs.fields import FILES, date
 from ..gtfs.identifiers import KINDS, identifiers, rename
-from ..gtfs.tables import Table, joined, read_table
+from ..gtfs.tables import Table, joined, read_table, table_of
 from ..records import shown
-from .feed_info import feed_info_of
 
 ALSO = (  # in addition to what `ttm` reads, files that are merged; all others are left out, and reported
     *("agency.txt", "shapes.txt", "fare_attributes.txt", "fare_rules.txt", "pathways.txt", "levels.txt"),
     *("translations.txt", "attributions.txt", "areas.txt", "stop_areas.txt", "networks.txt", "route_networks.txt"),
 )
 INFO = "feed_info.txt"
+MANY = "mul"  # the language of a feed of several
 OF_AGENCIES = ("agency.txt", "routes.txt", "fare_attributes.txt")  # which name an agency where a feed has several
 HELP = "--same-clock takes their times as those of one"
 
@@ -27,9 +26,10 @@ def merge(feeds: Sequence[Feed], same_clock: bool = False) -> tuple[Feed, list[s
     """One feed of all, and what was done, a sentence a line."""
     lines = list[str]()
     for feed in feeds:
-        read_also(feed)
+        feed.tables |= {name: read_table(name, feed.others[name]) for name in ALSO if name in feed.others}
     refuse_clocks(feeds, same_clock)
-    lines += left_out(feeds)
+    others = [f"{feed.name}/{name}" for feed in feeds for name in sorted(feed.others) if name not in (*ALSO, INFO)]
+    lines += [f"left out, since no rule merges them: {', '.join(others)}"] if others else []
     info = feed_info_of([feed.others.get(INFO) for feed in feeds])
     merged = feeds[0]
     lines += name_agency(merged)
@@ -38,20 +38,15 @@ def merge(feeds: Sequence[Feed], same_clock: bool = False) -> tuple[Feed, list[s
         prefix = f"{free_name(feed.name, merged)}:"
         collided = [kind for kind in KINDS if identifiers(merged, kind) & identifiers(feed, kind) - {""}]
         for kind in collided:
-            add_prefix(feed, kind, prefix)
+            for table in feed.tables.values():
+                rename(table, kind, lambda name: prefix + name)
             lines.append(f"{feed.name}: the identifiers of all {kind}s begin with {prefix}")
-        merged = Feed(merged.name, all_joined(merged, feed))
+        names = [name for name in (*FILES, *ALSO) if name in merged.tables or name in feed.tables]
+        merged = Feed(merged.name, {name: joined(merged.get(name), feed.get(name)) for name in names})
     merged.others = {}
     if info is not None:
         merged.tables[INFO] = info
     return merged, lines
-
-
-def read_also(feed: Feed) -> None:
-    """Reads the other files that are merged."""
-    for name in ALSO:
-        if name in feed.others:
-            feed.tables[name] = read_table(name, feed.others[name])
 
 
 def refuse_clocks(feeds: Sequence[Feed], same_clock: bool) -> None:
@@ -64,16 +59,8 @@ def refuse_clocks(feeds: Sequence[Feed], same_clock: bool) -> None:
         raise BadInput("agency.txt", f"the feeds have several time zones, {zones_stated}: {HELP}")
 
 
-def left_out(feeds: Sequence[Feed]) -> list[str]:
-    """Which files of the feeds are left out."""
-    names = [f"{feed.name}/{name}" for feed in feeds for name in sorted(feed.others) if name not in (*ALSO, INFO)]
-    return [f"left out, since no rule merges them: {', '.join(names)}"] if names else []
-
-
 def name_agency(feed: Feed) -> list[str]:
-    """Has routes and fares name the only agency of a feed, which they needn't there; one without a name gets that of
-    the feed.
-    """
+    """Has routes and fares name the only agency of a feed, which needn't; the feed names one without a name."""
     table = feed.get("agency.txt")
     if len(table) != 1:
         return []
@@ -94,12 +81,19 @@ def free_name(name: str, merged: Feed) -> str:
     return next(name for name in names if not any(text.startswith(f"{name}:") for text in known))
 
 
-def add_prefix(feed: Feed, kind: str, prefix: str) -> None:
-    for table in feed.tables.values():
-        rename(table, kind, lambda name: prefix + name)
-
-
-def all_joined(first: Feed, second: Feed) -> dict[str, Table]:
-    """The tables of two feeds, the records of the second behind those of the first."""
-    names = [name for name in (*FILES, *ALSO) if name in first.tables or name in second.tables]
-    return {name: joined(first.get(name), second.get(name)) for name in names}
+def feed_info_of(paths: Sequence[Path | None]) -> Table | None:
+    """The publishers of all feeds, the days on which all are complete, and for the rest what the first one says."""
+    tables = [read_table(INFO, path) for path in paths if path is not None]
+    records = [table.rows()[0] for table in tables if len(table)]
+    if not records:
+        return None
+    info = {name: text for record in reversed(records) for name, text in record.items()}
+    publishers = dict.fromkeys(stated for record in records if (stated := record.get("feed_publisher_name")))
+    info["feed_publisher_name"] = ", ".join(publishers)
+    if len({record.get("feed_lang", "") for record in records}) > 1:
+        info["feed_lang"] = MANY
+    for name, chosen in (("feed_start_date", max), ("feed_end_date", min)):
+        days = [stated for record in records if date(stated := record.get(name, "")) > 0]
+        if name in info:
+            info[name] = chosen(days) if days else ""
+    return table_of(INFO, list(info), [info])

@@ -1,6 +1,6 @@
 """What of a feed's files refers to records that were left out of others, and is left out with them."""
 
-from typing import Iterator, Mapping, Sequence
+from typing import Iterator, Mapping
 
 import numpy as np
 
@@ -31,32 +31,32 @@ def there(feed: Feed) -> There:
 
 
 def leave_out_references(feed: Feed, before: There) -> list[str]:
-    """Leaves out the records of all files that name what a feed had before and has no more; what was left out, a
-    sentence a line.
-    """
+    """Leaves out the records that name what a feed had before and has no more; what, a sentence a line."""
     after = there(feed)
     gone = {kind: names - after[kind] for kind, names in before.items()}
     counts, lines = dict[str, int](), list[str]()
     for name in [*feed.tables, *sorted(feed.others)]:
         table = feed.tables.get(name)
-        if name in feed.others:
-            table = None
-            try:
-                if name.endswith(".txt") and set(names_of(feed.others[name])) & set(NAMES):
-                    table = read_table(name, feed.others[name])
-            except BadInput as fault:
-                lines.append(f"{name}: copied as it is, since it can't be read ({fault})")
-        if table is None or name in {file for file, _ in GIVEN.values()} | {"stop_times.txt"}:
-            continue
-        count = len(table)
-        table.keep(named_still(table, gone, feed))
-        counts[name] = count - len(table)
-        if name in feed.others and counts[name]:
-            feed.tables[name] = table
-            del feed.others[name]
+        try:
+            if table is None and name.endswith(".txt") and set(names_of(feed.others[name])) & set(NAMES):
+                table = read_table(name, feed.others[name])
+        except BadInput as fault:
+            lines.append(f"{name}: copied as it is, since it can't be read ({fault})")
+        if table is not None and name not in {file for file, _ in GIVEN.values()} | {"stop_times.txt"}:
+            counts[name] = left_out(feed, table, named_still(table, gone, feed))
     counts |= leave_out_fares(feed)
     counts_stated = ", ".join(f"{name} {quantity(count, 'record')}" for name, count in counts.items() if count)
     return [*lines, *([f"removed with what they name: {counts_stated}"] if counts_stated else [])]
+
+
+def left_out(feed: Feed, table: Table, kept: Mask) -> int:
+    """Removes all records but some of a file, which is written anew where it loses some; how many it loses."""
+    lost = len(table) - int(kept.sum())
+    table.keep(kept)
+    if lost and table.name in feed.others:
+        feed.tables[table.name] = table
+        del feed.others[table.name]
+    return lost
 
 
 def named_still(table: Table, gone: Gone, feed: Feed) -> Mask:
@@ -86,16 +86,4 @@ def leave_out_fares(feed: Feed) -> dict[str, int]:
         return {}
     column, table = rules["fare_id"], read_table("fare_attributes.txt", path)
     lost = set(column.categories) - set(used(column))
-    count = len(table)
-    table.keep(~one_of(table["fare_id"], lost))
-    if len(table) < count:
-        feed.tables[table.name] = table
-        del feed.others[table.name]
-    return {table.name: count - len(table)}
-
-
-def left_out_by(feed: Feed, names: Sequence[str], counts: Mapping[str, int]) -> str:
-    """How many records of some files were left out."""
-    lost = {name: counts[name] - len(feed.get(name)) for name in names if name in counts}
-    counts_stated = [f"{name} {count:,} of {counts[name]:,}" for name, count in lost.items() if count]
-    return f"left out: {', '.join(counts_stated)}" if counts_stated else "nothing is left out"
+    return {table.name: left_out(feed, table, ~one_of(table["fare_id"], lost))}

@@ -9,10 +9,10 @@ import numpy.typing as npt
 
 from ..gtfs.columns import one_of, texts_at
 from ..gtfs.feeds import Feed
-from ..gtfs.fields import FILES
+from ..gtfs.fields import FILES, Mask
 from ..gtfs.tables import Table
 from .report import Repaired
-from .rules import RULES
+from .rules import OF_FIELDS, RULES
 
 Rows = npt.NDArray[np.intp]
 
@@ -31,11 +31,10 @@ class Repair:
         values = texts_at(table[column], table[column].codes[rows]) if column else [""] * len(rows)
         file, records = self.label + table.name, table.records[rows].tolist()
         self.changes += [
-            Repaired(file, record, column, *what) for record, *what in zip(records, values, [rule] * len(rows), done)
+            Repaired(file, record, column, value, rule, what) for record, value, what in zip(records, values, done)
         ]
 
     def put(self, table: Table, column: str, rows: Rows, texts: Sequence[str], rule: str) -> None:
-        """Repairs fields."""
         self.note(table, rows, column, rule, [f"now {text}" if text else "emptied" for text in texts])
         table.put(column, rows, texts)
 
@@ -47,12 +46,9 @@ class Repair:
             self.put(table, column, rows, [right[text] for text in wrong], rule)
 
     def leave_out(self, table: Table, rows: Rows, column: str, rule: str) -> None:
-        """Removes records."""
         self.leave_out_both(table, rows, column, np.ones(len(rows), dtype=np.bool_), (rule, rule))
 
-    def leave_out_both(
-        self, table: Table, rows: Rows, column: str, which: npt.NDArray[np.bool_], rules: tuple[str, str]
-    ) -> None:
+    def leave_out_both(self, table: Table, rows: Rows, column: str, which: Mask, rules: tuple[str, str]) -> None:
         """Removes records, some by one rule and the others by another."""
         for rule, some in zip(rules, (rows[which], rows[~which])):
             self.note(table, some, column, rule, ["record left out"] * len(some))
@@ -64,9 +60,7 @@ class Repair:
         table.keep(kept)
 
     def leave_out_trips(self, rule: str, why: dict[str, int]) -> None:
-        """Removes trips, each for a record of stop_times.txt, with their stop times; their headways follow when that
-        file is repaired.
-        """
+        """Removes trips, each for a record of stop_times.txt, and their stop times; headways follow by themselves."""
         table, times = self.feed.tables["trips.txt"], self.feed.tables["stop_times.txt"]
         names = sorted(why, key=lambda name: why[name])
         rows = np.array([why[name] for name in names], dtype=np.intp)
@@ -89,6 +83,6 @@ def repair(feed: Feed, label: str = "") -> list[Repaired]:
 
 def apply(repaired: Repair, table: Table, is_of_fields: bool) -> None:
     """Applies all rules of fields, or all others, to a table, in their order; each function once."""
-    for name in dict.fromkeys(rule.apply for rule in RULES if rule.is_of_fields == is_of_fields):
+    for name in dict.fromkeys(rule.apply for rule in RULES if (rule.apply in OF_FIELDS) == is_of_fields):
         module, function = name.split(".")
         getattr(importlib.import_module(f".{module}", __package__), function)(repaired, table)

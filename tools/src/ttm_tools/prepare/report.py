@@ -5,11 +5,11 @@ from typing import Iterator, Sequence
 
 import numpy as np
 
-from ..faults import one_line, quantity
+from ..faults import BadInput, one_line, quantity
 from ..records import shown
 from .check import Fault
 
-FEW = 8
+FEW = 8  # records that are named
 
 
 @dataclass(frozen=True)
@@ -33,26 +33,21 @@ def escaped(text: str) -> str:
 
 
 def fault_lines(faults: Sequence[Fault]) -> Iterator[str]:
-    """Two lines for each check that failed: what `ttm` would print, and what stands there, what is allowed, how
-    often.
-    """
+    """Two lines for each check that failed: that of `ttm`, and what stands there, what is allowed, how often."""
     for fault in faults:
         yield fault.line()
         value = fault.value()
         found = f'column {fault.column} is "{one_line(shown(value))}"; ' if value is not None else ""
-        often = f"; {len(fault):,} times: records {records_shown(fault)}" if len(fault) > 1 else ""
+        records = ", ".join(map(str, fault.records[:FEW].tolist())) + (", .." if len(fault) > FEW else "")
+        often = f"; {len(fault):,} times: records {records}" if len(fault) > 1 else ""
         yield f"  {found}{fault.allowed}{often}"
 
 
-def counted_errors(count: int) -> str:
-    """How many errors a feed has, before the first of them."""
-    return f"{quantity(count, 'error')}{', the first' if count > 1 else ''}"
-
-
-def records_shown(fault: Fault) -> str:
-    """The first of the records, in the order in which they would be reported."""
-    records = ", ".join(map(str, fault.records[:FEW].tolist()))
-    return records + (", .." if len(fault) > FEW else "")
+def refuse(path: str, faults: Sequence[Fault], hint: str) -> None:
+    """Reports the first of some errors, and how many there are."""
+    if faults:
+        count, first = sum(map(len, faults)), next(fault_lines(faults)).removeprefix("ttm: ")
+        raise BadInput(path, f"{quantity(count, 'error')}{', the first' if count > 1 else ''}: {first} ({hint})")
 
 
 def fault_rows(faults: Sequence[Fault]) -> Iterator[list[object]]:

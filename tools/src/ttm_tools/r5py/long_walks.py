@@ -14,7 +14,7 @@ from ..gtfs.footpaths import Footpaths, direct_walks, joined
 from ..gtfs.stops import Stops, read_stops
 from ..gtfs.timetable import Timetable, read_timetable
 from ..parts import write_stops
-from ..points.study import FEED, FOOTPATHS, PointStudy, prefixes_of, study_of, with_points
+from ..points.study import FEED, FOOTPATHS, PointStudy, prefixes_of, study_of
 from ..points.table import Points
 from ..records import write_rows
 from ..walks import Pace
@@ -49,7 +49,7 @@ class LongWalks:
 
     @cached_property
     def stops(self) -> Stops:
-        return with_points(self.own, self.study)
+        return self.own.followed_by(self.study.points.as_stops())
 
     @cached_property
     def placed(self) -> OnStreets:

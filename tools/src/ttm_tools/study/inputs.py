@@ -232,7 +232,7 @@ def plan_stage(maker: Maker) -> Stage:
     study, named, feed = maker.study, maker.study.scenarios.plan or "", maker.at(maker.feed)
 
     def make() -> list[str]:
-        return plans.make(feed, study.at(named), maker.at(PLANNED), called=PLANNED).lines
+        return plans.make(feed, study.at(named), maker.at(PLANNED), called=PLANNED)[0]
 
     return Sources(study.at, [named]).stage("plan", {"feed": maker.feed_sums}, [PLANNED], make)
 

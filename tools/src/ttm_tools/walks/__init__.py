@@ -12,9 +12,7 @@ __all__ = ["NEAR", "Pace", "Walks", "distances", "footpaths_of", "points_of", "s
 def walks_of(
     stops: Stops, pace: Pace, streets: str | None = None, near: float = NEAR, first: int | None = None
 ) -> Walks:
-    """The walks between all stops by straight lines, or along the streets of a file; between the first ones and all
-    alone, where it is said how many.
-    """
+    """The walks between all stops, or the first ones and all, by straight lines or along the streets of a file."""
     if streets is None:
         return straight_walks(stops, pace, first)
     needs("osmium", "scipy")

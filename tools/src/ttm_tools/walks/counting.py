@@ -1,11 +1,10 @@
 """Ways between places, counted while they are found: more than `ttm` takes are reported before they fill the memory."""
 
-from typing import Callable
-
 import numpy as np
 import numpy.typing as npt
 
 from ..faults import BadInput
+from ..gtfs.columns import begins_run
 from ..gtfs.fields import Floats
 
 Places = npt.NDArray[np.int64]
@@ -20,8 +19,8 @@ class TooManyWalks(BadInput):
 class WaysFound:
     """Ways as they are found, of which several may be between two places."""
 
-    def __init__(self, path: str, first: int | None, least: Callable[[list[Ways]], Ways], directions: int) -> None:
-        self.path, self.first, self.least, self.directions = path, first, least, directions
+    def __init__(self, path: str, first: int | None, directions: int) -> None:
+        self.path, self.first, self.directions = path, first, directions
         self.ways: list[Ways] = []
         self.count = 0
 
@@ -37,9 +36,18 @@ class WaysFound:
 
     def all(self) -> Ways:
         """The shortest way between any two places."""
-        shortest = self.least(self.ways)
+        none = (np.zeros(0, np.int64), np.zeros(0, np.int64), np.zeros(0))
+        shortest = least(*(np.concatenate(columns) for columns in zip(none, *self.ways)))
         self.ways, self.count = [shortest], len(shortest[0])
         if self.count * self.directions > MOST_PAIRS:
             text = f"more than the {MOST_PAIRS:,} walks that ttm takes: use a shorter --limit, or fewer places"
             raise TooManyWalks(self.path, text)
         return shortest
+
+
+def least(a: Places, b: Places, metres: Floats) -> Ways:
+    """Of several ways from one place to another the shortest."""
+    order = np.lexsort((metres, b, a))
+    a, b, metres = a[order], b[order], metres[order]
+    first = begins_run(a, b)
+    return a[first], b[first], metres[first]

@@ -14,6 +14,7 @@ import numpy as np
 import numpy.typing as npt
 
 from ..faults import BadInput, needs
+from ..gtfs.columns import begins_run
 from ..gtfs.fields import Floats
 from ..opening.paths import as_one_line, regular
 
@@ -117,12 +118,11 @@ class Collector:
 
 def each_once(begin: Numbers, end: Numbers, forward: Flags, backward: Flags) -> tuple[Numbers, Numbers, Flags, Flags]:
     """The pieces, each once where several ways have it: one may walk on it as on any of them."""
-    turned = begin > end
-    low, high = np.where(turned, end, begin), np.where(turned, begin, end)
+    turned, low, high = begin > end, np.minimum(begin, end), np.maximum(begin, end)
     up, down = np.where(turned, backward, forward), np.where(turned, forward, backward)
     order = np.lexsort((high, low))
     low, high = low[order], high[order]
-    first = np.flatnonzero(np.concatenate([[True], (low[1:] != low[:-1]) | (high[1:] != high[:-1])])[: len(low)])
+    first = np.flatnonzero(begins_run(low, high))
     if not len(first):
         return low, high, up, down
     up, down = (np.logical_or.reduceat(there[order], first) for there in (up, down))

@@ -54,26 +54,21 @@ class Reach:
         end = np.concatenate([self.end, nodes])
         metres = np.concatenate([np.maximum(self.metres, 1e-9), most - left[places] + 1e-9])
         found = dijkstra(csr_matrix((metres, (begin, end)), shape=(count + 1, count + 1)), indices=count, limit=most)
-        after: Floats = np.where(np.isfinite(found), most - found, -1.0)[:count]
-        return after
+        return np.asarray(np.where(np.isfinite(found), most - found, -1.0)[:count])
 
 
 def reach_of(streets: Streets, latitudes: Floats, longitudes: Floats, pace: Pace, near: float) -> Reach:
-    """The streets with places on them: the way to a street counts as it is up to a distance in metres, and else as a
-    straight line with its detour.
-    """
+    """The streets with places on them, which are near up to a distance in metres."""
     put = snapped(streets, points_of(latitudes, longitudes))
     graph = graph_of(streets, put)
     counts = np.diff(graph.begins)
-    begin, end = np.repeat(np.arange(len(counts)), counts), graph.end
-    beside = np.where(put.metres <= near, put.metres, put.metres * pace.detour)
+    begin, beside = np.repeat(np.arange(len(counts)), counts), put.beside(near, pace)
 
     def along(numbers: Floats) -> Floats:
         low, high = (numbers[ends[put.piece]] for ends in (streets.begin, streets.end))
-        numbers_along: Floats = np.concatenate([numbers, low + put.along * (high - low)])
-        return numbers_along
+        return np.concatenate([numbers, low + put.along * (high - low)])
 
-    return Reach(along(streets.latitudes), along(streets.longitudes), begin, end, graph.metres, beside)
+    return Reach(along(streets.latitudes), along(streets.longitudes), begin, graph.end, graph.metres, beside)
 
 
 def strip(pieces: Floats, kilometres: Callable[[Floats, Floats], tuple[Floats, Floats]], width: float) -> Any:

@@ -14,13 +14,14 @@ import numpy as np
 import numpy.typing as npt
 
 from ..faults import BadInput
+from ..gtfs.columns import coded
 from ..gtfs.fields import Floats
 from ..gtfs.stops import EARTH, Stops
 from ..records import Rounded, rows, shown
 from .counting import WaysFound, Places, Ways
 
-ROUND = list(itertools.product((-1, 0, 1), repeat=3))  # a cube and those that touch it
-HALF = [step for step in ROUND if step >= (0, 0, 0)]
+SIDE = 1 << 21  # cubes along an axis
+ROUND = [(x * SIDE + y) * SIDE + z for x, y, z in itertools.product((-1, 0, 1), repeat=3)]  # to those that touch a cube
 PAIRS_AT_ONCE = 1_000_000
 
 
@@ -37,10 +38,14 @@ class Pace:
         """The longest straight line; a thousandth of a millimetre more, since seconds decide."""
         return self.limit * self.speed / self.detour + 1e-6
 
+    @property
+    def along_streets(self) -> "Pace":
+        """The same without a detour."""
+        return Pace(self.limit, self.speed, 1.0)
+
     def seconds(self, metres: Floats) -> npt.NDArray[np.int64]:
         """The time of straight lines, in whole seconds, rounded up."""
-        whole: npt.NDArray[np.int64] = np.ceil(np.round(metres * self.detour / self.speed, 6)).astype(np.int64)
-        return whole
+        return np.asarray(np.ceil(np.round(metres * self.detour / self.speed, 6)), dtype=np.int64)
 
 
 @dataclass(frozen=True)
@@ -73,57 +78,59 @@ def points_of(latitudes: Floats, longitudes: Floats) -> Floats:
     """Places on the globe, in metres from its middle."""
     north, east = np.radians(latitudes), np.radians(longitudes)
     across = np.cos(north)
-    points: Floats = EARTH * np.stack([across * np.cos(east), across * np.sin(east), np.sin(north)], axis=-1)
-    return points
+    return np.asarray(EARTH * np.stack([across * np.cos(east), across * np.sin(east), np.sin(north)], axis=-1))
 
 
 def distances(a: Floats, b: Floats) -> Floats:
     """Metres over ground between points of the globe."""
     chord = np.sqrt(((a - b) ** 2).sum(axis=-1))
-    metres: Floats = 2 * EARTH * np.arcsin(np.minimum(1.0, chord / (2 * EARTH)))
-    return metres
+    return np.asarray(2 * EARTH * np.arcsin(np.minimum(1.0, chord / (2 * EARTH))))
 
 
 def near_pairs(points: Floats, metres: float) -> Iterator[tuple[Places, Places]]:
-    """Pairs of points that may be within a distance in metres of each other, each once, some at a time, by a grid of
-    cubes of that side.
-    """
-    keys = cubes_of(points, metres)
-    order = np.argsort(keys, kind="stable")
-    sorted_keys = keys[order]
-    for step in HALF:
-        begin, end = cube_beside(sorted_keys, sorted_keys, step)
-        if step == (0, 0, 0):
-            begin = np.arange(1, len(order) + 1)
+    """Pairs of points that may be within a distance in metres, each once, some at a time, by cubes of that side."""
+    cubes = cubes_of(points, metres)
+    for step in (step for step in ROUND if step >= 0):
+        begin, end = cubes.span(cubes.ordered + step)
+        if step == 0:
+            begin = np.arange(1, len(points) + 1)
         for a, b in ranges(begin, np.maximum(begin, end)):
-            yield order[a], order[b]
+            yield cubes.order[a], cubes.order[b]
 
 
 def near_some(points: Floats, some: Places, metres: float) -> Iterator[tuple[Places, Places]]:
-    """The same pairs, but those alone that have one of some points, and two of these twice: where points are many, and
-    these are few, all other pairs would take hours.
-    """
-    keys = cubes_of(points, metres)
-    order = np.argsort(keys, kind="stable")
-    sorted_keys = keys[order]
+    """The same pairs, but those alone with one of some points, and two of these twice; all others would take hours."""
+    cubes = cubes_of(points, metres)
     for step in ROUND:
-        for a, b in ranges(*cube_beside(keys[some], sorted_keys, step)):
-            yield some[a], order[b]
+        for a, b in ranges(*cubes.span(cubes.key[some] + step)):
+            yield some[a], cubes.order[b]
 
 
-def cubes_of(points: Floats, metres: float) -> Places:
-    """The cube of each point, as one number."""
+@dataclass(frozen=True)
+class Cubes:
+    """Points in cubes of space."""
+
+    key: Places  # of each point the number of its cube
+    order: Places  # the points by these numbers
+    ordered: Places  # the numbers in order
+
+    def span(self, keys: Places) -> tuple[Places, Places]:
+        """Where the points of some cubes begin and end in order."""
+        return np.searchsorted(self.ordered, keys, "left"), np.searchsorted(self.ordered, keys, "right")
+
+    def around(self, key: int) -> Places:
+        """The points in a cube and those that touch it."""
+        begins, ends = self.span(key + np.array(ROUND))
+        return np.concatenate([self.order[begin:end] for begin, end in zip(begins.tolist(), ends.tolist())])
+
+
+def cubes_of(points: Floats, metres: float) -> Cubes:
+    """Points in cubes of a side, at least a metre."""
     cubes = np.floor(points / max(metres, 1.0)).astype(np.int64)
     cubes -= cubes.min(axis=0, initial=0) - 1
-    keys: Places = (cubes[:, 0] * (1 << 21) + cubes[:, 1]) * (1 << 21) + cubes[:, 2]
-    return keys
-
-
-def cube_beside(keys: Places, sorted_keys: Places, step: tuple[int, ...]) -> tuple[Places, Places]:
-    """Where the points of the cube that is a step away begin and end among all."""
-    x, y, z = step
-    others = keys + ((x * (1 << 21)) + y) * (1 << 21) + z
-    return np.searchsorted(sorted_keys, others, "left"), np.searchsorted(sorted_keys, others, "right")
+    key = (cubes[:, 0] * SIDE + cubes[:, 1]) * SIDE + cubes[:, 2]
+    order = np.argsort(key, kind="stable")
+    return Cubes(key, order, key[order])
 
 
 def ranges(begin: Places, end: Places) -> Iterator[tuple[Places, Places]]:
@@ -152,9 +159,7 @@ def doors_of(points: Floats, stations: list[str], entrances: dict[str, Floats]) 
 
 def ways(points: Floats, stations: list[str], entrances: dict[str, Floats], metres: float, found: WaysFound) -> Ways:
     """The shortest way between two stops, the lower first, in metres before any detour, where it is at most so long."""
-    doors = doors_of(points, stations, entrances)
-    numbers = {station: number for number, station in enumerate(dict.fromkeys(stations))}
-    station = np.array([numbers[name] for name in stations], dtype=np.int64)
+    doors, station = doors_of(points, stations, entrances), coded(stations).codes
     entered = np.array([name in entrances for name in stations], dtype=np.bool_)
     pairs = near_pairs(doors.point, metres)
     if found.first is not None:
@@ -165,16 +170,15 @@ def ways(points: Floats, stations: list[str], entrances: dict[str, Floats], metr
         a, b, one, other = a[outside], b[outside], one[outside], other[outside]
         length = doors.inside[one] + distances(doors.point[one], doors.point[other]) + doors.inside[other]
         near = length <= metres
-        found.take(a[near], b[near], length[near])
-    for some in inside_ways(points, stations, entrances, metres):
-        found.take(*some)
+        found.take(np.minimum(a, b)[near], np.maximum(a, b)[near], length[near])
+    for a, b, length in inside_ways(points, stations, entrances, metres):
+        found.take(np.minimum(a, b), np.maximum(a, b), length)
     return found.all()
 
 
 def inside_ways(points: Floats, stations: list[str], entrances: dict[str, Floats], metres: float) -> list[Ways]:
     """The ways between two stops within a station that lists its entrances."""
-    numbers = {station: number for number, station in enumerate(dict.fromkeys(stations))}
-    station = np.array([numbers[name] for name in stations], dtype=np.int64)
+    station = coded(stations).codes
     inside = np.flatnonzero([name in entrances for name in stations])
     found = []
     for one, other in near_pairs(points[inside], metres):
@@ -187,20 +191,7 @@ def inside_ways(points: Floats, stations: list[str], entrances: dict[str, Floats
     return found
 
 
-def shortest(found: list[Ways]) -> Ways:
-    """Of several ways between two stops the shortest, the lower stop first."""
-    none = (np.zeros(0, np.int64), np.zeros(0, np.int64), np.zeros(0))
-    a, b, length = (np.concatenate([columns[place] for columns in [none, *found]]) for place in range(3))
-    low, high = np.minimum(a, b), np.maximum(a, b)
-    order = np.lexsort((length, high, low))
-    low, high, length = low[order], high[order], length[order]
-    first = np.ones(len(low), dtype=np.bool_)
-    first[1:] = (low[1:] != low[:-1]) | (high[1:] != high[:-1])
-    return low[first], high[first], length[first]
-
-
 def entrances_of(stops: Stops) -> dict[str, Floats]:
-    """The points of each station's entrances."""
     found: dict[str, list[int]] = {}
     for place in np.flatnonzero((stops.kinds == 2) & stops.placed):
         found.setdefault(stops.stations[place], []).append(int(place))
@@ -213,25 +204,20 @@ def straight_walks(stops: Stops, pace: Pace, first: int | None = None) -> Walks:
     called = stops.kinds == 0
     chosen = np.flatnonzero(called & stops.placed)
     points = points_of(stops.latitudes[chosen], stops.longitudes[chosen])
-    found = WaysFound(stops.path, first and int(np.searchsorted(chosen, first)), shortest, directions=2)
+    found = WaysFound(stops.path, first and int(np.searchsorted(chosen, first)), directions=2)
     stations = [stops.stations[place] for place in chosen]
     low, high, length = ways(points, stations, entrances_of(stops), pace.metres, found)
     seconds = pace.seconds(length)
     near = seconds <= pace.limit
-    a, b, seconds = (
-        np.concatenate([low[near], high[near]]),
-        np.concatenate([high[near], low[near]]),
-        np.tile(seconds[near], 2),
-    )
+    low, high, seconds = low[near], high[near], np.tile(seconds[near], 2)
+    a, b = np.concatenate([low, high]), np.concatenate([high, low])
     order = np.lexsort((b, a))
     lost = int((called & ~stops.placed).sum())
     return Walks(stops.identifiers, chosen[a[order]], chosen[b[order]], seconds[order], lost)
 
 
 def read_walks(path: str, stops: Stops, rounded: Rounded) -> list[tuple[str, str, int]]:
-    """The footpaths between stops of a feed of a table with from_stop_id, to_stop_id and seconds, as an engine of
-    streets writes it.
-    """
+    """The footpaths of a table with from_stop_id, to_stop_id and seconds, as an engine of streets writes it."""
     found = []
     for number, (a, b, seconds) in rows(path, ["from_stop_id", "to_stop_id", "seconds"]):
         for column, stop in (("from_stop_id", a), ("to_stop_id", b)):

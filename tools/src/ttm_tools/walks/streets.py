@@ -1,7 +1,6 @@
 """Walks along streets: stops, entrances and points are put on the nearest way, and the shortest ways between them are
 looked for by Dijkstra's search, cut at the limit.
 
-The way between a place and its street counts as it is where it is near, and else as a straight line, with its detour.
 The search runs cube by cube of space, each as wide as the longest walk: whoever begins in a cube ends in it or in a
 neighbour, so only the streets of these are looked at.
 """
@@ -12,16 +11,27 @@ from typing import Any, Iterator
 import numpy as np
 
 from .. import progress
+from ..gtfs.columns import begins_run
 from ..gtfs.fields import Floats
 from ..gtfs.stops import Stops
-from .counting import WaysFound, Places, Ways
+from .counting import WaysFound, Places, Ways, least
 from .osm import Flags, Streets
-from .straight import Entrances, Pace, Walks, distances, doors_of, entrances_of, inside_ways, points_of, ranges
+from .straight import (
+    Entrances,
+    Pace,
+    Walks,
+    cubes_of,
+    distances,
+    doors_of,
+    entrances_of,
+    inside_ways,
+    points_of,
+    ranges,
+)
 
 PIECE = 100.0  # metres of the pieces in which streets are looked for
 LEAST_SIDE = 300.0  # metres of a cube
 CELLS_AT_ONCE = 20_000_000  # of a search
-SIDE = 1 << 20  # cubes along an axis, more than the globe is wide
 
 
 @dataclass(frozen=True)
@@ -39,6 +49,10 @@ class Snapped:
     piece: Places
     along: Floats  # 0 at the piece's begin to 1 at its end
     metres: Floats
+
+    def beside(self, near: float, pace: Pace) -> Floats:
+        """The metres from each place to its street; with a straight line's detour where that isn't near."""
+        return np.asarray(np.where(self.metres <= near, self.metres, self.metres * pace.detour))
 
 
 @dataclass(frozen=True)
@@ -82,9 +96,7 @@ def short_pieces(begin: Floats, end: Floats) -> tuple[Places, Floats, Floats]:
 
 
 def at(begin: Floats, end: Floats, piece: Places, along: Floats) -> Floats:
-    """Points on pieces."""
-    points: Floats = begin[piece] + (end[piece] - begin[piece]) * along[:, None]
-    return points
+    return np.asarray(begin[piece] + (end[piece] - begin[piece]) * along[:, None])
 
 
 def nearest_on(begin: Floats, end: Floats, piece: Places, points: Floats) -> Snapped:
@@ -104,8 +116,7 @@ def graph_of(streets: Streets, put: Snapped) -> Graph:
     points, count = np.concatenate([nodes, own]), len(nodes)
     order = np.lexsort((put.along, put.piece))
     piece = put.piece[order]
-    new = np.ones(len(piece) + 1, dtype=np.bool_)
-    new[1:-1] = piece[1:] != piece[:-1]
+    new = np.append(begins_run(piece), True)
     before = np.where(new[:-1], streets.begin[piece], np.concatenate([[0], order[:-1]])[: len(order)] + count)
     ends, last = order + count, np.flatnonzero(new[1:])
     begin = np.concatenate([streets.begin, before, order[last] + count])
@@ -118,45 +129,8 @@ def graph_of(streets: Streets, put: Snapped) -> Graph:
     begins = [begin[there], end[back], crossing, at_end + count]
     ends = [end[there], begin[back], at_end + count, crossing]
     lengths = np.concatenate([metres[there], metres[back], np.zeros(2 * len(at_end))])
-    return by_begin(points, np.concatenate(begins), np.concatenate(ends), lengths)
-
-
-def by_begin(points: Floats, begin: Places, end: Places, metres: Floats) -> Graph:
-    """Connections in order, of several between two nodes the shortest alone."""
-    order = np.lexsort((metres, end, begin))
-    begin, end, metres = begin[order], end[order], metres[order]
-    first = np.ones(len(begin), dtype=np.bool_)
-    first[1:] = (begin[1:] != begin[:-1]) | (end[1:] != end[:-1])
-    begins = np.searchsorted(begin[first], np.arange(len(points) + 1))
-    return Graph(points, begins, end[first], metres[first])
-
-
-@dataclass(frozen=True)
-class Cubes:
-    """Space in cubes: the nodes of each, in order."""
-
-    key: Places  # of each node
-    order: Places  # nodes by their key
-    ordered: Places  # these keys
-
-    def around(self, key: int) -> Places:
-        """The nodes in a cube and those next to it."""
-        found = []
-        for x in (-1, 0, 1):
-            for y in (-1, 0, 1):
-                middle = key + (x * SIDE + y) * SIDE
-                begin, end = np.searchsorted(self.ordered, [middle - 1, middle + 2])
-                found.append(self.order[begin:end])
-        return np.concatenate(found)
-
-
-def cubes_of(points: Floats, side: float) -> Cubes:
-    """Points in cubes of a side, metres."""
-    cubes = np.floor(points / side).astype(np.int64)
-    cubes -= cubes.min(axis=0, initial=0) - 1
-    key = (cubes[:, 0] * SIDE + cubes[:, 1]) * SIDE + cubes[:, 2]
-    order = np.argsort(key, kind="stable")
-    return Cubes(key, order, key[order])
+    begin, end, metres = least(np.concatenate(begins), np.concatenate(ends), lengths)
+    return Graph(points, np.searchsorted(begin, np.arange(len(points) + 1)), end, metres)
 
 
 def inner(graph: Graph, nodes: Places, local: Places) -> Any:
@@ -164,7 +138,9 @@ def inner(graph: Graph, nodes: Places, local: Places) -> Any:
     from scipy.sparse import csr_matrix
 
     local[nodes] = np.arange(len(nodes))
-    number, chosen = (np.concatenate(part) for part in zip(*ranges_of(graph, nodes)))
+    none = np.zeros(0, np.int64)
+    spans = ranges(graph.begins[nodes], graph.begins[nodes + 1])
+    number, chosen = (np.concatenate(part) for part in zip((none, none), *spans))
     ends = local[graph.end[chosen]]
     local[nodes] = -1
     there = ends >= 0
@@ -172,21 +148,7 @@ def inner(graph: Graph, nodes: Places, local: Places) -> Any:
     return csr_matrix((graph.metres[chosen][there], ends[there], begins), shape=(len(nodes), len(nodes)))
 
 
-def ranges_of(graph: Graph, nodes: Places) -> Iterator[tuple[Places, Places]]:
-    yield np.zeros(0, np.int64), np.zeros(0, np.int64)
-    yield from ranges(graph.begins[nodes], graph.begins[nodes + 1])
-
-
-def close(points: Floats, nodes: Places, begins: Places, most: float) -> Places:
-    """The nodes that may be within a distance in metres of one of some others."""
-    low, high = points[begins].min(axis=0) - most, points[begins].max(axis=0) + most
-    kept: Places = nodes[((points[nodes] >= low) & (points[nodes] <= high)).all(axis=1)]
-    return kept
-
-
-def searched(
-    graph: Graph, first: int, extra: Floats, most: float, only: Ends
-) -> Iterator[tuple[Places, Places, Floats]]:
+def searched(graph: Graph, first: int, extra: Floats, most: float, only: Ends) -> Iterator[Ways]:
     """The shortest ways between the places that were put behind the streets' own nodes, from `first` on: from which to
     which, and metres with those next to the streets, if these are within a distance. `only` is of these places.
     """
@@ -199,7 +161,9 @@ def searched(
     keys, counts = np.unique(cubes.key[sources], return_counts=True)
     groups = np.split(sources, np.cumsum(counts)[:-1]) if len(keys) else []
     for key, begins in progress.shown(zip(keys.tolist(), groups), len(keys), "streets", "cubes"):
-        nodes = close(graph.points, cubes.around(key), begins, most)
+        nodes = cubes.around(key)
+        low, high = graph.points[begins].min(axis=0) - most, graph.points[begins].max(axis=0) + most
+        nodes = nodes[((graph.points[nodes] >= low) & (graph.points[nodes] <= high)).all(axis=1)]
         ends = nodes[nodes >= first]
         ends = ends[(extra[ends - first] <= most) & only.ends[ends - first]]
         connections = inner(graph, nodes, local)
@@ -225,21 +189,14 @@ class OnStreets:
     beside: Floats  # metres from each door to its street
 
     def ways(self, streets: Streets, pace: Pace, only: Ends) -> Iterator[Ways]:
-        """The shortest ways along streets, and within stations, between those of these stops that may be ends: of
-        several between two stops one is the shortest.
-        """
-        most, may = longest(pace), Ends(only.begins[self.chosen], only.ends[self.chosen])
+        """Ways along streets, and within stations, between those that may be ends; of several one is the shortest."""
+        most, may = pace.along_streets.metres, Ends(only.begins[self.chosen], only.ends[self.chosen])
         extra = self.beside + self.doors.inside * pace.detour
         yield from between_doors(graph_of(streets, self.put), self.doors, extra, most, may)
         for a, b, metres in inside_ways(self.points, self.stations, self.entrances, most / pace.detour):
             for one, other in ((a, b), (b, a)):
                 both = may.begins[one] & may.ends[other]
                 yield one[both], other[both], metres[both] * pace.detour
-
-
-def longest(pace: Pace) -> float:
-    """The longest way in metres; a thousandth of a millimetre more, since seconds decide."""
-    return pace.limit * pace.speed + 1e-6
 
 
 def stops_on_streets(stops: Stops, streets: Streets, pace: Pace, near: float) -> OnStreets:
@@ -249,23 +206,20 @@ def stops_on_streets(stops: Stops, streets: Streets, pace: Pace, near: float) ->
     stations, entrances = [stops.stations[place] for place in chosen], entrances_of(stops)
     doors = doors_of(points, stations, entrances)
     put = snapped(streets, doors.point)
-    beside = np.where(put.metres <= near, put.metres, put.metres * pace.detour)
-    return OnStreets(chosen, points, stations, entrances, doors, put, beside)
+    return OnStreets(chosen, points, stations, entrances, doors, put, put.beside(near, pace))
 
 
 def street_walks(
     stops: Stops, pace: Pace, streets: Streets, near: float, first: int | None = None, only: Ends | None = None
 ) -> Walks:
-    """The footpaths along streets between all stops of a feed at which vehicles call, or between the first ones
-    and all; where it is said which of them may be ends, between these.
-    """
-    called, there, most = stops.kinds == 0, stops_on_streets(stops, streets, pace, near), longest(pace)
-    chosen = there.chosen
-    found = WaysFound(stops.path, first and int(np.searchsorted(chosen, first)), least, directions=1)
+    """The footpaths along streets between all stops, or the first ones and all; of those that may be ends."""
+    called, there = stops.kinds == 0, stops_on_streets(stops, streets, pace, near)
+    chosen, most = there.chosen, pace.along_streets.metres
+    found = WaysFound(stops.path, first and int(np.searchsorted(chosen, first)), directions=1)
     for some in there.ways(streets, pace, only or Ends(called, called)):
         found.take(*some)
     origins, destinations, metres = found.all()
-    seconds = Pace(pace.limit, pace.speed, 1.0).seconds(metres)
+    seconds = pace.along_streets.seconds(metres)
     kept = seconds <= pace.limit
     is_far = (there.put.metres > near) & (there.beside <= most)
     lost, far = int((called & ~stops.placed).sum()), len(np.unique(there.doors.stop[is_far]))
@@ -274,23 +228,10 @@ def street_walks(
     return Walks(stops.identifiers, *ends, seconds[kept], lost, far, apart)
 
 
-def between_doors(
-    graph: Graph, doors: Entrances, extra: Floats, most: float, only: Ends
-) -> Iterator[tuple[Places, Places, Floats]]:
+def between_doors(graph: Graph, doors: Entrances, extra: Floats, most: float, only: Ends) -> Iterator[Ways]:
     """The shortest ways between stops by way of their doors; `only` is of the stops."""
     first, may = len(graph.points) - len(doors.stop), Ends(only.begins[doors.stop], only.ends[doors.stop])
     for one, other, metres in searched(graph, first, extra, most, may):
         a, b = doors.stop[one], doors.stop[other]
         apart = a != b
         yield a[apart], b[apart], metres[apart]
-
-
-def least(found: list[Ways]) -> Ways:
-    """Of several ways from one stop to another the shortest."""
-    none = (np.zeros(0, np.int64), np.zeros(0, np.int64), np.zeros(0))
-    a, b, metres = (np.concatenate([columns[place] for columns in [none, *found]]) for place in range(3))
-    order = np.lexsort((metres, b, a))
-    a, b, metres = a[order], b[order], metres[order]
-    first = np.ones(len(a), dtype=np.bool_)
-    first[1:] = (a[1:] != a[:-1]) | (b[1:] != b[:-1])
-    return a[first], b[first], metres[first]

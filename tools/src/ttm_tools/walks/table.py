@@ -34,11 +34,10 @@ class WalkTable:
             yield rows, self.seconds[rows]
 
     def put(self, ways: Iterable[Ways], pace: Pace) -> None:
-        """Takes in ways between stops."""
         row, column = positions_in(self.begins), positions_in(self.ends)
-        whole = Pace(pace.limit, pace.speed, 1.0)
         for one, other, metres in ways:
-            np.minimum.at(self.seconds, (row[one], column[other]), whole.seconds(metres).astype(np.uint16))
+            seconds = pace.along_streets.seconds(metres)
+            np.minimum.at(self.seconds, (row[one], column[other]), seconds.astype(np.uint16))
 
     def put_direct(self, walks: Direct) -> set[int]:
         """Takes in walks of a feed that are shorter than those that are there; gives the stops that they join."""

@@ -1,8 +1,4 @@
-"""Shortest ways along streets from some places to others: how long each is, and how it goes.
-
-A place is put on its nearest street. The way there counts as it is where the place is near, and else as a straight line
-with its detour: as `streets` does it, and with the same seconds.
-"""
+"""Shortest ways along streets from some places to others, their seconds as `streets` has them, and how they go."""
 
 from dataclasses import dataclass
 from functools import cached_property
@@ -45,13 +41,7 @@ class Ways:
     @cached_property
     def beside(self) -> Floats:
         """How far each place is from its street, metres."""
-        metres: Floats = np.where(self.put.metres <= self.near, self.put.metres, self.put.metres * self.pace.detour)
-        return metres
-
-    @property
-    def most(self) -> float:
-        """The longest way, metres."""
-        return self.pace.limit * self.pace.speed + 1e-6
+        return self.put.beside(self.near, self.pace)
 
     @property
     def first(self) -> int:
@@ -63,29 +53,28 @@ class Ways:
         from scipy.sparse.csgraph import dijkstra
 
         points, connections = self.graph
-        begins = self.first + np.arange(len(self.begins))
+        most, begins = self.pace.along_streets.metres, self.first + np.arange(len(self.begins))
         ends = begins[-1:].max(initial=self.first - 1) + 1 + np.arange(len(self.ends))
         turned = len(ends) < len(begins)  # then the searches begin at the ends
         sources, others, matrix = (ends, begins, connections.T) if turned else (begins, ends, connections)
         found = np.full((len(sources), len(others)), np.inf)
         for some in np.array_split(np.arange(len(sources)), -(-len(sources) * len(points) // CELLS_AT_ONCE) or 1):
-            found[some] = dijkstra(matrix, indices=sources[some], limit=self.most)[:, others]
+            found[some] = dijkstra(matrix, indices=sources[some], limit=most)[:, others]
         metres = found.T if turned else found
         metres = metres + self.beside[: len(begins), None] + self.beside[len(begins) :]
         whole: Seconds = np.full(metres.shape, np.nan)
-        there = metres <= self.most
-        whole[there] = Pace(self.pace.limit, self.pace.speed, 1.0).seconds(metres[there])
+        there = metres <= most
+        whole[there] = self.pace.along_streets.seconds(metres[there])
         return np.where(whole <= self.pace.limit, whole, np.nan)
 
     def way(self, begin: int, end: int) -> tuple[Floats, float]:
-        """The points of the shortest way from one place to another, these with it, and its metres; none where there is
-        none.
-        """
+        """The points of the shortest way from one place to another, and its metres; none where there is none."""
         from scipy.sparse.csgraph import dijkstra
 
         points, connections = self.graph
         source, target = self.first + begin, self.first + len(self.begins) + end
-        found, before = dijkstra(connections, indices=source, limit=self.most, return_predecessors=True)
+        most = self.pace.along_streets.metres
+        found, before = dijkstra(connections, indices=source, limit=most, return_predecessors=True)
         if not np.isfinite(found[target]):
             return np.zeros((0, 3)), float("nan")
         nodes = [target]
@@ -105,7 +94,5 @@ def on_streets(streets: Streets, latitudes: Floats, longitudes: Floats) -> tuple
 def degrees_of(points: Floats) -> Floats:
     """Longitude and latitude of points of the globe."""
     length = np.linalg.norm(points, axis=-1)
-    degrees: Floats = np.degrees(
-        np.stack([np.arctan2(points[..., 1], points[..., 0]), np.arcsin(points[..., 2] / length)], axis=-1)
-    )
-    return degrees
+    east, north = np.arctan2(points[..., 1], points[..., 0]), np.arcsin(points[..., 2] / length)
+    return np.asarray(np.degrees(np.stack([east, north], axis=-1)))

@@ -1,4 +1,4 @@
-"""A route that runs at a headway: copies of a typical trip replace its trips of a period."""
+"""A route that runs at a headway, by copies of a typical trip; or several times as often, by trips in between."""
 
 from dataclasses import replace
 from typing import Sequence
@@ -9,21 +9,18 @@ from ...faults import quantity
 from ...gtfs.fields import clock
 from ..base import Headway
 from ..choice import chosen, directions_of, pattern_of, stop_shown
-from ..days import service_of
-from ...opening.kinds import TIME
+from ..days import runs_of, service_of
+from ...opening.kinds import TIME, whole
 from ...opening.toml_file import Entry
 from ..state import State, Trip, in_range
 from .lines import EVERY
 
+MOST_TIMES = 60
 WHOLE_DAY = 'from = "00:00", to = "30:00"'  # past midnight too; where trips stay, later departures do no harm
 
 
 def headway(state: State, entry: Entry) -> list[str]:
-    """In each direction of the routes, departures from the start of the period on, strictly before its end; or some
-    added between those that are there.
-    """
-    from .oftener import oftener
-
+    """In each direction, departures from the start on, strictly before the end; or some added between others."""
     start, end = time_of(entry, "from"), time_of(entry, "to")
     if end <= start:
         raise entry.fault(f"isn't after from, {clock(start)}", "to", clock(end))
@@ -72,9 +69,7 @@ def departures_in(trip: Trip, start: int, end: int) -> int:
 
 
 def typical_of(trips: Sequence[Trip], start: int, end: int) -> Trip:
-    """Of the pattern with the most departures in the period, with the most calls where several have as many, the trip
-    whose running time is the median; of several the first to leave.
-    """
+    """Of the pattern with the most departures in the period, then calls, the first trip of the median running time."""
     by_pattern: dict[tuple[int, ...], list[Trip]] = {}
     for trip in trips:
         by_pattern.setdefault(pattern_of(trip), []).append(trip)
@@ -94,8 +89,7 @@ def copy_of(state: State, typical: Trip, number: int, time: int, service: str) -
     later = time - int(typical.depart[0])
     arrive, depart = typical.arrive + later, typical.depart + later
     arrive[0] = depart[0]  # nobody arrives there
-    times = {"arrive": arrive, "depart": depart, "headways": ()}
-    return replace(typical, label=f"{name}#{number}", copied=True, service=service, **times)
+    return replace(typical, label=f"{name}#{number}", service=service, arrive=arrive, depart=depart, headways=())
 
 
 def without(trip: Trip, start: int, end: int) -> Trip | None:
@@ -114,3 +108,29 @@ def parts(row: Headway, start: int, end: int) -> list[Headway]:
         if len(some):
             rows.append(Headway(int(some[0]), int(some[-1]) + 1, row.seconds, row.row))
     return rows
+
+
+def oftener(state: State, entry: Entry, trips: Sequence[Trip], start: int, end: int) -> list[str]:
+    """For the trips of one direction: behind each departure of the period copies of its trip, evenly up to the next
+    departure from the same stop on one of its days; strictly before the end of the period.
+    """
+    times = entry.read("times", whole(2, MOST_TIMES))
+    days = {name: runs_of(state.base, name) for name in {trip.service for trip in trips}}
+    beside = {a: {b for b in days if a == b or bool(np.any(days[a] & days[b]))} for a in days}
+    known = [(int(trip.stop[0]), time, trip) for trip in trips for time in sorted(trip.departures)]
+    inside = sorted((time, trip.label, stop) for stop, time, trip in known if start <= time < end)
+    if not inside:
+        return []
+    by_label = {trip.label: trip for trip in trips}
+    added = 0
+    for time, label, stop in inside:
+        trip = by_label[label]
+        others = ((at, other) for place, at, other in known if place == stop and at > time)
+        gap = min((at for at, other in others if other.service in beside[trip.service]), default=time) - time
+        for part in range(1, times):
+            extra = time + gap * part // times
+            if time < extra < end and gap:
+                added += 1
+                state.add(in_range(entry, copy_of(state, trip, added, extra, trip.service)))
+    ends = " to ".join(stop_shown(state, int(trips[0].stop[place])) for place in (0, -1))
+    return [f"route {trips[0].route}, {ends}: {quantity(added, 'departure')} added to {len(inside):,}"]

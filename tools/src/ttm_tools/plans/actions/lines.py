@@ -1,18 +1,23 @@
-"""New lines."""
+"""New lines, how long a vehicle takes along a way for which the feed has no times, and run times that change."""
+
+import math
+from dataclasses import replace
+from fractions import Fraction
 
 import numpy as np
 
-from ...gtfs.fields import Whole, clock
+from ...gtfs.fields import Floats, Whole, clock
+from ...gtfs.stops import Projection
 from ...records import shown
 from ..base import NO_ROW
-from ..choice import stops_named
+from ..choice import chosen, stop_named, stop_shown, stops_named
 from ..days import service_named
-from ...opening.kinds import FLAG, TIME, whole
+from ...opening.kinds import FLAG, TIME, decimal, whole, wholes
 from ...opening.toml_file import Entry
 from ..new_records import ROUTE_TYPE
 from ..state import State, Trip, in_range
-from .times import run_times
 
+MOST = 86_400  # seconds between two stops
 EVERY = whole(1, 86_400)  # seconds
 PERIOD = {"first": TIME, "last": TIME, "every": EVERY}
 
@@ -29,27 +34,20 @@ def add_line(state: State, entry: Entry) -> list[str]:
     way = np.array(stops_named(state, entry, "stops"), dtype=np.int64)
     run, dwell = run_times(state, entry, way)
     service, times = service_named(state.base, entry), departures_of(entry)
-    state.lines[route] = named(entry)
-    for direction, (stops, seconds) in enumerate(
-        ((way, run), (way[::-1], run[::-1]))[: 1 + entry.read("both", FLAG, True)]
-    ):
+    entry.text("name", route)
+    agency = entry.text("agency", "") or state.base.first_agency
+    entry.read("type", ROUTE_TYPE, 3)
+    state.lines[route] = entry
+    ways = ((way, run), (way[::-1], run[::-1]))[: 1 + entry.read("both", FLAG, True)]
+    for direction, (stops, seconds) in enumerate(ways):
         for number, time in enumerate(times, 1):
             arrive, depart = times_of(time, seconds, dwell)
             label, none = f"{route}-{direction}#{number}", np.full(len(stops), NO_ROW)
-            trip = Trip(label, -1, True, route, service, str(direction), stops, arrive, depart, none, redrawn=True)
+            trip = Trip(label, -1, route, service, str(direction), stops, arrive, depart, none, redrawn=True)
             state.add(in_range(entry, trip))
     length = int(run.sum()) + dwell * (len(way) - 2)
     sentence = f"route {route}: {len(way):,} stops in {clock(length)}; {len(times):,} departures from each end"
-    agency = entry.text("agency", "") or state.base.first_agency
     return [sentence, *([f"route {route}: agency {shown(agency)}"] if agency else [])]
-
-
-def named(entry: Entry) -> Entry:
-    """The action, whose words for routes.txt are texts and numbers as they have to be."""
-    entry.text("name", entry.text("route"))
-    entry.text("agency", "")
-    entry.read("type", ROUTE_TYPE, 3)
-    return entry
 
 
 def times_of(time: int, run: Whole, dwell: int) -> tuple[Whole, Whole]:
@@ -69,3 +67,73 @@ def departures_of(entry: Entry) -> list[int]:
             raise period.fault(f"is before first, {clock(first)}", "last", clock(last))
         times.update(range(first, last + 1, every))
     return sorted(times)
+
+
+def run_times(state: State, entry: Entry, way: Whole) -> tuple[Whole, int]:
+    """The seconds between each two stops of a way, as stated or by a speed, rounded up; and at each stop."""
+    dwell = entry.read("dwell", whole(0, 3_600), 0)
+    if entry.one_of("seconds", "speed") == "seconds":
+        return np.array(entry.read("seconds", wholes(len(way) - 1, MOST)), dtype=np.int64), dwell
+    kilometres_an_hour = float(entry.read("speed", decimal("0.1", "1000")))
+    places = state.base.places
+    north, east = places.latitudes[way], places.longitudes[way]
+    for stop in way[np.isnan(north)].tolist():
+        raise entry.fault(f"needs coordinates, and stop {stop_shown(state, stop)} has none: give seconds", "speed")
+    metres = [straight(north[place : place + 2], east[place : place + 2]) for place in range(len(way) - 1)]
+    return np.ceil(np.round(np.array(metres) * 3.6 / kilometres_an_hour, 6)).astype(np.int64), dwell
+
+
+def straight(latitudes: Floats, longitudes: Floats) -> float:
+    """Metres between two places."""
+    projection = Projection(latitudes, longitudes)
+    east, north = projection.east(longitudes), projection.north(latitudes)
+    return 1000 * math.hypot(east[1] - east[0], north[1] - north[0])
+
+
+def speed(state: State, entry: Entry) -> list[str]:
+    """Run times times a factor, or dwell times plus seconds, of routes or between two stops of them."""
+    if entry.one_of("factor", "dwell") == "factor":
+        factor, more = Fraction(entry.read("factor", decimal("0", "100"))), 0
+    else:
+        factor, more = Fraction(1), entry.read("dwell", whole(-3_600, 3_600))
+    found, changed = [(trip, span_of(state, entry, trip)) for trip in chosen(state, entry)], 0
+    spans = [(trip, span) for trip, span in found if span is not None]
+    if not spans:
+        raise entry.fault("no trip of the route calls there and later at to_stop", "from_stop")
+    for trip, span in spans:
+        after = paced(trip, span, factor, more)
+        if (after.arrive != trip.arrive).any() or (after.depart != trip.depart).any():
+            state.change(trip, in_range(entry, after))
+            changed += 1
+    if not changed:
+        raise entry.fault("changes no time", "factor" if entry.has("factor") else "dwell")
+    return [f"{len(spans) - changed:,} of {len(spans):,} trips keep their times"] * (changed < len(spans))
+
+
+def span_of(state: State, entry: Entry, trip: Trip) -> tuple[int, int] | None:
+    """The calls between which a trip changes: its ends, or its first call at one stop and the next one at the other."""
+    begins = np.arange(len(trip.stop))
+    if entry.has("from_stop"):
+        begins = np.flatnonzero(trip.stop == stop_named(state, entry, "from_stop", entry.text("from_stop")))
+        if not len(begins):
+            return None
+    ends = np.arange(begins[0] + 1, len(trip.stop))
+    if entry.has("to_stop"):
+        ends = ends[trip.stop[ends] == stop_named(state, entry, "to_stop", entry.text("to_stop"))][:1]
+    return (int(begins[0]), int(ends[-1])) if len(ends) else None
+
+
+def paced(trip: Trip, span: tuple[int, int], factor: Fraction, more: int) -> Trip:
+    """A trip with other times from one call to another. What all run times up to a call add up to is rounded, to the
+    nearest second, a half up: so they never go back, and no rounding adds up.
+    """
+    first, last = span
+    run, dwell = trip.arrive[1:] - trip.depart[:-1], trip.depart - trip.arrive
+    sums = np.cumsum(run[first:last])
+    sums_paced = (2 * factor.numerator * sums + factor.denominator) // (2 * factor.denominator)
+    run, dwell = run.copy(), dwell.copy()
+    run[first:last] = np.diff(sums_paced, prepend=0)
+    dwell[first + 1 : last] += more
+    later = np.concatenate([[0], np.cumsum(run + dwell[1:])])
+    depart = trip.depart[0] + later
+    return replace(trip, arrive=depart - dwell, depart=depart)
