@@ -118,9 +118,3 @@ marks_then a b c was mid is ab bc h k =
             ],
           );
     }
-
-pub marks_none : {lanes : ℕ} (a : List (List ℕ)) (was : List Bool) → MarksFallenOf lanes a a was was
-marks_none a was = record {
-  same_length = refl;
-  marks = λ p l. (λ s. inl s, λ o. elim o [ inl s ↦ s | inr f ↦ absurd (omega (arith, f.2)) ]);
-}

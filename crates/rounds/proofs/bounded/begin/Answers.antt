@@ -1,5 +1,5 @@
 use Rattle.std.proofs.Common.{rules, ◌≡◌, ◌≢◌, ◌<◌, ◌≤◌, ℕ, List, length, replicate, slice_index, slice_get, get_or, ap}
-use Rattle.std.proofs.Common.{refl, sym, ◌∙◌, arith}
+use Rattle.std.proofs.Common.{◌+◌, refl, sym, ◌∙◌, arith}
 use Rattle.std.proofs.lemmas.Option.{same_Some, slice_get-get_or}
 use Rattle.timetable.specs.Footpaths.{FeetData}
 use Rattle.timetable.specs.RoundSteps.{Lowers}
@@ -152,7 +152,7 @@ returns-clause-workspace g c =
     let ready : length c.walk_marked.new.ready ≡ stops =
     c.walk_marked.auto.ready ∙ (c.bound_ready.auto.labels ∙ (c.clear-2.auto.labels
     ∙ (ap length c.as_mut_slice-ready.ensures.value ∙ c.requires.workspace.ready))) in
-    let before : length c.walk_marked.new.before ≡ stops =
+    let before : length c.walk_marked.new.before ≡ stops + 1 =
     c.walk_marked.auto.before ∙ (ap length c.as_mut_slice-before.ensures.value ∙ c.requires.workspace.before) in
     let marked : length c.set_out.new.marked ≡ stops =
     c.set_out.auto.marked ∙ (ap length c.as_mut_slice-marked.ensures.value ∙ c.requires.workspace.marked) in
@@ -184,7 +184,7 @@ returns-clause-labels g c =
     let ready : length c.walk_marked.new.ready ≡ stops =
     c.walk_marked.auto.ready ∙ (c.bound_ready.auto.labels ∙ (c.clear-2.auto.labels
     ∙ (ap length c.as_mut_slice-ready.ensures.value ∙ c.requires.workspace.ready))) in
-    let before : length c.walk_marked.new.before ≡ stops =
+    let before : length c.walk_marked.new.before ≡ stops + 1 =
     c.walk_marked.auto.before ∙ (ap length c.as_mut_slice-before.ensures.value ∙ c.requires.workspace.before) in
     let marked : length c.set_out.new.marked ≡ stops =
     c.set_out.auto.marked ∙ (ap length c.as_mut_slice-marked.ensures.value ∙ c.requires.workspace.marked) in

@@ -227,7 +227,7 @@ returns-clause-workspace g c =
     let ready : length c.transfer_marked.new.ready ≡ stops =
     c.transfer_marked.auto.ready ∙ (c.bound_ready.auto.labels
     ∙ (ap length c.as_mut_slice-ready.ensures.value ∙ c.requires.workspace.ready)) in
-    let before : length c.transfer_marked.new.before ≡ stops =
+    let before : length c.transfer_marked.new.before ≡ stops + 1 =
     c.transfer_marked.auto.before ∙ (ap length c.as_mut_slice-before.ensures.value ∙ c.requires.workspace.before) in
     let falls : length c.falls_of.new.falls ≡ stops =
     c.falls_of.auto.falls ∙ (ap length c.as_mut_slice-falls.ensures.value ∙ c.requires.workspace.falls) in
@@ -267,7 +267,7 @@ returns-clause-labels g c =
     let ready : length c.transfer_marked.new.ready ≡ stops =
     c.transfer_marked.auto.ready ∙ (c.bound_ready.auto.labels
     ∙ (ap length c.as_mut_slice-ready.ensures.value ∙ c.requires.workspace.ready)) in
-    let before : length c.transfer_marked.new.before ≡ stops =
+    let before : length c.transfer_marked.new.before ≡ stops + 1 =
     c.transfer_marked.auto.before ∙ (ap length c.as_mut_slice-before.ensures.value ∙ c.requires.workspace.before) in
     let falls : length c.falls_of.new.falls ≡ stops =
     c.falls_of.auto.falls ∙ (ap length c.as_mut_slice-falls.ensures.value ∙ c.requires.workspace.falls) in
