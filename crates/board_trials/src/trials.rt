@@ -1,5 +1,5 @@
 //! A trial: several threads at a new board, each with a seat of its own, until the board has nothing left.
-ghost use Rattle.std.specs.Prelude.{◌≡◌, ◌+◌, ◌<◌, ◌≤◌, All, IfOk, vec_len};
+ghost use Rattle.std.specs.Prelude.{◌≡◌, ◌+◌, ◌<◌, ◌≤◌, All, IfOk};
 ghost use Rattle.work_book.specs.Board.{IsOf, seen_by};
 
 use crate::workers::{Tally, Task, Told, work};

@@ -5,12 +5,11 @@ use Rattle.work_book.specs.Steps as book
 use Rattle.work_book.specs.declared.steps.Step.{Step}
 use Rattle.work_book.specs.declared.steps.Answer.{Answer}
 use Rattle.collector.specs.Places.{PlacesData}
-use Rattle.collector.specs.Offers.{offer_of, after_offer}
+use Rattle.collector.specs.Offers.{offer_of, after_offer, offered}
 use Rattle.collector.specs.declared.plain.CoreStep.{CoreStep}
 use Rattle.collector.specs.declared.plain.CoreStep.TheVariants.{Book, Hand}
 use Rattle.collector.specs.declared.plain.CoreAnswer.{CoreAnswer}
 use Rattle.collector.specs.declared.plain.CoreAnswer.TheVariants as answer
-use Rattle.collector.specs.Offers.{offered}
 use Rattle.collector.specs.Plain.{core, answers_of, run_of, book_steps, handed, merged}
 
 pub merged_is : (steps : List CoreStep) (b : BookState) (p : PlacesData) →

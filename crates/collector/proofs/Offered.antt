@@ -1,27 +1,17 @@
 -- A place holds the first row that is offered for it.
 use Rattle.std.proofs.Common.{◌≡◌, ◌≢◌, ◌<◌, ◌+◌, ◌*◌, ◌==◌, ◌&&◌, ℕ, Bool, true, false, not, cond, List, [], ◌∷◌}
 use Rattle.std.proofs.Common.{Option, Some, None, is_some, length, get_or, refl, sym, ap, ◌∙◌, subst, rules, arith}
-use Rattle.std.proofs.Common.{nat_lt, if◌then◌else◌}
+use Rattle.std.proofs.Common.{if◌then◌else◌}
 use Rattle.std.proofs.Math.ListN.{set}
 use Rattle.std.specs.List.{find}
 use Rattle.std.specs.Option.{option_or}
 use Rattle.std.proofs.lemmas.List.{length-set, get_or-set_same, get_or-set_other}
 use Rattle.std.proofs.lemmas.Bool.Decides.{nat_tests}
+use Rattle.std.proofs.lemmas.Bool.{and_parts, eqb-true, ltb-true}
 use Rattle.collector.specs.Row.{RowData}
 use Rattle.collector.specs.Places.{PlacesData, place_of, row_at}
-use Rattle.collector.specs.Offers.{belongs, is_open, after_offer, IsSameSize}
-use Rattle.collector.specs.Offers.{offered}
+use Rattle.collector.specs.Offers.{belongs, is_open, after_offer, IsSameSize, offered}
 use Rattle.collector.specs.Laws.{is_for}
-
-both : (a b : Bool) → (a && b) ≡ true → (a ≡ true) × (b ≡ true)
-both true b h = (refl, h)
-both false b h = cc
-
-lt_true : (a b : ℕ) → nat_lt a b ≡ true → a < b
-lt_true a b h = grind (arith, nat_tests)
-
-pub eq_true : (a b : ℕ) → (a == b) ≡ true → a ≡ b
-eq_true a b h = grind (arith, nat_tests)
 
 eq_false : (a b : ℕ) → (a == b) ≡ false → b ≢ a
 eq_false a b h = λ e. grind (arith, nat_tests)
@@ -31,8 +21,8 @@ in_range a b n k low right = search rules
 
 pub belongs_in : (p : PlacesData) (row : RowData) → belongs p row ≡ true →
     (row.scenario < p.scenarios) × (row.origin < p.origins)
-belongs_in p row h = let a = both _ _ h in let b = both _ _ a.1 in let c = both _ _ b.1 in
-    (lt_true _ _ b.0, lt_true _ _ c.0)
+belongs_in p row h = let a = and_parts _ _ h in let b = and_parts _ _ a.1 in let c = and_parts _ _ b.1 in
+    (ltb-true _ _ b.0, ltb-true _ _ c.0)
 
 pub same_length : (p : PlacesData) (row : RowData) → length (after_offer p row).rows ≡ length p.rows
 same_length p row = go (belongs p row && is_open p row)
@@ -48,20 +38,16 @@ same_length p row = go (belongs p row && is_open p row)
 pub same_test : (p : PlacesData) (row : RowData) (k : ℕ) → is_for (after_offer p row) k ≡ is_for p k
 same_test p row k = go (belongs p row && is_open p row)
   where
-    go : (b : Bool) → is_for (if b then record p {
-      rows =
-          set p.rows (place_of p row.scenario row.origin) (Some row);
-    } else p) k ≡ is_for p k
+    go : (b : Bool) → is_for
+        (if b then record p { rows = set p.rows (place_of p row.scenario row.origin) (Some row) } else p) k ≡ is_for p k
     go true = refl
     go false = refl
 
 pub same_sizes : (p : PlacesData) (row : RowData) → IsSameSize p (after_offer p row)
 same_sizes p row = go (belongs p row && is_open p row)
   where
-    go : (b : Bool) → IsSameSize p (if b then record p {
-      rows =
-          set p.rows (place_of p row.scenario row.origin) (Some row);
-    } else p)
+    go : (b : Bool) → IsSameSize p
+        (if b then record p { rows = set p.rows (place_of p row.scenario row.origin) (Some row) } else p)
     go true = record { scenarios = refl; origins = refl; width = refl; shares = refl; limits = refl }
     go false = record { scenarios = refl; origins = refl; width = refl; shares = refl; limits = refl }
 
@@ -91,10 +77,10 @@ offer_at p row k size = go (belongs p row) (is_open p row) (place_of p row.scena
     go false b e in_is open_is here = sym (none (row_at p k))
     go true false false in_is open_is here = sym (none (row_at p k))
     go true false true in_is open_is here =
-        let same = eq_true _ _ here in
+        let same = eqb-true _ _ here in
         sym (full (row_at p k) (Some row) (ap (λ j. not (is_some (row_at p j))) (sym same) ∙ open_is))
     go true true true in_is open_is here =
-        let same = eq_true _ _ here in
+        let same = eqb-true _ _ here in
         let range = belongs_in p row in_is in
         let there : place_of p row.scenario row.origin < length p.rows =
         subst (λ n. place_of p row.scenario row.origin < n) (sym size) (in_range _ _ _ _ range.0 range.1) in

@@ -1,13 +1,14 @@
 -- What every run of a book and a collector keeps to.
-use Rattle.std.proofs.Common.{◌≡◌, ◌<◌, ◌+◌, ◌*◌, ◌==◌, ◌&&◌, inl, inr, ℕ, zero, suc, Bool, true, false, cond, List, []}
-use Rattle.std.proofs.Common.{◌∷◌, Option, Some, None, length, get_or, replicate, map, refl, sym, ap, ◌∙◌, subst, rules}
-use Rattle.std.proofs.Common.{arith, nat_lt, if◌then◌else◌}
+use Rattle.std.proofs.Common.{◌≡◌, ◌<◌, ◌+◌, ◌*◌, ◌==◌, ℕ, zero, suc, Bool, true, false, cond, List, [], ◌∷◌, Option}
+use Rattle.std.proofs.Common.{Some, None, length, get_or, replicate, map, refl, sym, ap, ◌∙◌, subst, arith, nat_lt}
+use Rattle.std.proofs.Common.{if◌then◌else◌}
 use Rattle.std.specs.List.{find, slice_get, All}
 use Rattle.std.specs.Option.{option_or}
 use Rattle.std.proofs.lemmas.List.{length-replicate}
 use Rattle.std.proofs.lemmas.List.Elements.{All-nil, All-cons, All-head, All-tail}
-use Rattle.std.proofs.lemmas.Bool.{cases_order}
+use Rattle.std.proofs.lemmas.Bool.{and_parts, eqb-true}
 use Rattle.std.proofs.lemmas.Bool.Decides.{nat_tests}
+use Rattle.std.proofs.lemmas.Nat.{same_from_place, mul-add-lt}
 use Rattle.work_book.specs.Steps as book
 use Rattle.work_book.specs.Laws.{drawn_count}
 use Rattle.work_book.specs.declared.steps.Answer.{Answer}
@@ -16,8 +17,7 @@ use Rattle.work_book.proofs.StepsAreFair.{reached_fair, new_fair}
 use Rattle.work_book.proofs.NothingIsLast.{nothing_stays}
 use Rattle.collector.specs.Row.{RowData}
 use Rattle.collector.specs.Places.{PlacesData, place_of, row_at}
-use Rattle.collector.specs.Offers.{belongs}
-use Rattle.collector.specs.Offers.{offered}
+use Rattle.collector.specs.Offers.{belongs, offered}
 use Rattle.collector.specs.Plain.{Core, after, answers_of, handed, book_steps}
 use Rattle.collector.specs.Laws.{Setup, opening, reached, is_for, first_for, ArePlacedFirst, IsRightWhenFinished}
 use Rattle.collector.specs.Laws.{AreMissingUnhanded, AreDrawnAtNothing}
@@ -25,7 +25,7 @@ use Rattle.collector.specs.declared.plain.CoreStep.{CoreStep}
 use Rattle.collector.specs.declared.plain.CoreStep.TheVariants.{Book, Hand}
 use Rattle.collector.specs.declared.plain.CoreAnswer.TheVariants as answer
 use Rattle.collector.proofs.Merge.{run_is}
-use Rattle.collector.proofs.Offered.{offered_at, offered_sizes, offered_length, belongs_in, eq_true, in_range}
+use Rattle.collector.proofs.Offered.{offered_at, offered_sizes, offered_length, belongs_in, in_range}
 
 -- the places of a run, and its book
 places_are : (s : Setup) (steps : List CoreStep) → (reached s steps).places ≡ offered (opening s).places (handed steps)
@@ -92,20 +92,6 @@ there_at [] k h = absurd (omega arith)
 there_at (x ∷ rows) zero h = (x, refl)
 there_at (x ∷ rows) (suc k) h = there_at rows k (omega arith)
 
-both : (a b : Bool) → (a && b) ≡ true → (a ≡ true) × (b ≡ true)
-both true b h = (refl, h)
-both false b h = cc
-
--- a place has one scenario and one origin
-pub one_place : (a b c d n : ℕ) → b < n → d < n → a * n + b ≡ c * n + d → (a ≡ c) × (b ≡ d)
-one_place a b c d n low right same = elim (cases_order a c) [
-  | inl e ↦ (e, (let p : a * n ≡ c * n = ap (λ (x : ℕ). x * n) e in omega arith))
-  | inr h ↦ elim h [
-    | inl l ↦ absurd (let p = in_range a b c n l low in omega arith)
-    | inr l ↦ absurd (let p = in_range c d a n l right in omega arith)
-  ]
-]
-
 pub right_when_finished : (s : Setup) (steps : List CoreStep) → IsRightWhenFinished s steps
 right_when_finished s steps right m are done =
     let sizes = offered_sizes (handed steps) (opening s).places in
@@ -129,11 +115,11 @@ right_when_finished s steps right m are done =
           ∙ there.1 in
           let row = found (λ (r : RowData). belongs (opening s).places r ≡ true →
           r ≡ right r.scenario r.origin) (is_for (opening s).places k) (handed steps) there.0 are at in
-          let test = both (belongs (opening s).places there.0)
+          let test = and_parts (belongs (opening s).places there.0)
           (place_of (opening s).places there.0.scenario there.0.origin == k) row.0 in
           let value : there.0 ≡ right there.0.scenario there.0.origin = row.1 test.0 in
-          let same = one_place there.0.scenario there.0.origin scenario origin s.origins
-          (belongs_in (opening s).places there.0 test.0).1 in_origin (eq_true _ _ test.1) in
+          let same = same_from_place there.0.scenario there.0.origin scenario origin s.origins
+          (belongs_in (opening s).places there.0 test.0).1 in_origin (eqb-true _ _ test.1) in
           map_at m.rows k there.0 there.1 ∙ ap (λ (r : RowData). Some r) (value ∙ (λ i. right (same.0 i) (same.1 i)));
     }
 
@@ -150,9 +136,6 @@ told (Book step ∷ steps) c (suc i) a h = let more = told steps (after c (Book 
 told (Hand seat row ∷ steps) c zero a h = cc
 told (Hand seat row ∷ steps) c (suc i) a h = told steps (after c (Hand seat row)) i a h
 
-below_all : (pass tries job jobs : ℕ) → pass < tries → job < jobs → pass * jobs + job < jobs * tries
-below_all pass tries job jobs low right = let a = in_range pass job tries jobs low right in search rules
-
 one_where : (n next : ℕ) → n < next → (if nat_lt n next then 1 else 0) ≡ suc zero
 one_where n next h = grind (arith, nat_tests)
 
@@ -162,5 +145,5 @@ drawn_at_nothing s steps i told_nothing job pass low right =
     let fair = reached_fair s.jobs s.tries s.seats (book_steps steps) in
     let all = nothing_stays (book_steps steps) (opening s).book (new_fair s.jobs s.tries s.seats) here.0 here.1 in
     let below : pass * s.jobs + job < (book.run_of (opening s).book (book_steps steps)).next =
-    subst (λ n. pass * s.jobs + job < n) (sym all) (below_all pass s.tries job s.jobs right low) in
+    subst (λ n. pass * s.jobs + job < n) (sym all) (mul-add-lt pass s.jobs job s.tries right low) in
     ap (drawn_count (pass * s.jobs + job)) (book_is s steps) ∙ fair.drawn (pass * s.jobs + job) ∙ one_where _ _ below

@@ -1,8 +1,8 @@
 -- The numbers that a text lists: they are read from its parts one by one, and the text lists no others.
-use Rattle.std.proofs.Common.{zero, suc, ◌≡◌, ◌∙◌, ◌<◌, ◌≤◌, ◌+◌, ◌++◌, ◌&&◌, ℕ, Bool, true, false, Bor, List, [], ◌∷◌}
-use Rattle.std.proofs.Common.{map, drop, length, Option, Some, None, option_map, option_and_then, nat_eq, nat_le}
-use Rattle.std.proofs.Common.{nat_lt, slice_index, refl, sym, ap, subst, arith}
-use Rattle.std.proofs.lemmas.Bool.{ltb-true, lt-ltb, leb-true, le-leb}
+use Rattle.std.proofs.Common.{zero, suc, ◌≡◌, ◌∙◌, ◌<◌, ◌≤◌, ◌+◌, ◌++◌, ℕ, Bool, true, false, Bor, List, [], ◌∷◌, map}
+use Rattle.std.proofs.Common.{drop, length, Option, Some, None, option_map, option_and_then, nat_eq, nat_le, nat_lt}
+use Rattle.std.proofs.Common.{slice_index, refl, sym, ap, subst, arith}
+use Rattle.std.proofs.lemmas.Bool.{ltb-true, lt-ltb, leb-true, le-leb, and_parts}
 use Rattle.std.proofs.lemmas.List.{length-map}
 use Rattle.std.proofs.lemmas.List.Splits.{length-slice_split}
 use Rattle.std.proofs.lemmas.Option.{none-some, same_Some}
@@ -21,11 +21,6 @@ from_text texts i = written_by (map (λ text. text.now) (drop i texts))
 
 -- ---- the test of order
 
-both : (a b : Bool) → (a && b) ≡ true → (a ≡ true) × (b ≡ true)
-both true true e = (refl, refl)
-both true false e = (refl, e)
-both false b e = absurd (let bad : false ≡ true = e in cc)
-
 one_on : (n : ℕ) (ns : List ℕ) (k : ℕ) → slice_index (n ∷ ns) (suc k + 1) ≡ slice_index ns (k + 1)
 one_on n ns k = ap (slice_index (n ∷ ns)) more
   where
@@ -35,10 +30,10 @@ one_on n ns k = ap (slice_index (n ∷ ns)) more
 pub rises : (ns : List ℕ) → ascend ns ≡ true → IsStrictlyIncreasing ns
 rises [] e k lt = absurd (omega (arith, lt))
 rises (n ∷ []) e k lt = absurd (omega (arith, lt))
-rises (n ∷ m ∷ ns) e zero lt = ltb-true n m (both (nat_lt n m) (ascend (m ∷ ns)) e).0
+rises (n ∷ m ∷ ns) e zero lt = ltb-true n m (and_parts (nat_lt n m) (ascend (m ∷ ns)) e).0
 rises (n ∷ m ∷ ns) e (suc k) lt =
     subst (λ i. slice_index (m ∷ ns) k < i) (sym (one_on n (m ∷ ns) k))
-    (rises (m ∷ ns) (both (nat_lt n m) (ascend (m ∷ ns)) e).1 k (omega (arith, lt)))
+    (rises (m ∷ ns) (and_parts (nat_lt n m) (ascend (m ∷ ns)) e).1 k (omega (arith, lt)))
 
 pub is_ascending : (ns : List ℕ) → IsStrictlyIncreasing ns → ascend ns ≡ true
 is_ascending [] up = refl
@@ -111,10 +106,8 @@ pub no_list : (text ns : List ℕ) → written_by (parts_of text) ≡ Some ns �
     → (numbers : List ℕ) → Lists text numbers → ⊥
 no_list text ns is unfit numbers lists =
     let same : numbers ≡ ns = same_Some numbers ns (sym (all_written (parts_of text) numbers lists.written) ∙ is) in
-    unfit (subst (λ (them : List ℕ). (length them ≤ MOST_NUMBERS) × IsStrictlyIncreasing them) same (
-      lists.few,
-      lists.ascending,
-    ))
+    unfit (subst (λ (them : List ℕ). (length them ≤ MOST_NUMBERS) × IsStrictlyIncreasing them) same
+    (lists.few, lists.ascending))
 
 pub taken : (text ns : List ℕ) → written_by (parts_of text) ≡ Some ns →
     (length ns ≤ MOST_NUMBERS) × IsStrictlyIncreasing ns → Some ns ≡ numbers_of text

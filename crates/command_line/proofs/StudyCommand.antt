@@ -17,7 +17,7 @@ use Rattle.command_line.specs.declared.task.Opt.{Opt}
 use Rattle.command_line.specs.declared.task.Task.{Task}
 use Rattle.command_line.proofs.Required.{is_fit}
 use Rattle.command_line.specs.Words.{study_app, needed, rule_in, with_rules, is_conversation, is_reported, IsAsked}
-use Rattle.command_line.specs.Words.{NamesFiles, bad_options}
+use Rattle.command_line.specs.Words.{bad_options}
 
 pub study_simple : is_simple study_app ≡ true
 unfolding clap_on_literals

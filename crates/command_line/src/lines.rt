@@ -1,6 +1,6 @@
 //! The lines that tell why there is no answer, and the exit statuses of the program.
 
-ghost use Rattle.std.specs.Prelude.{◌≡◌, ◌≤◌, ◌++◌, ◌∷◌, [], IfOk, codes, decimal, map};
+ghost use Rattle.std.specs.Prelude.{◌≡◌, ◌≤◌, ◌++◌, IfOk, codes, map};
 ghost use Rattle.studies.specs.NamedFile.{NamedBytes};
 ghost use Rattle.command_line.specs.Lines as spec;
 

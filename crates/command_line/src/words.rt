@@ -4,8 +4,8 @@
 //! flag of a report, which has none; and the arguments that belong to no option are scenario files. What the texts say
 //! is read here.
 
-ghost use Rattle.std.specs.Prelude.{◌≡◌, ◌≤◌, ◌+◌, ℕ, [], ◌∷◌, All, map, Some, None, is_some, IfOk, IfErr, IfSome};
-ghost use Rattle.std.specs.Prelude.{IsTrue, option_map, string_bytes, codes, true, false};
+ghost use Rattle.std.specs.Prelude.{◌≡◌, ◌≤◌, ◌+◌, [], map, Some, None, is_some, IfOk, IfErr, IfSome, option_map};
+ghost use Rattle.std.specs.Prelude.{string_bytes, codes, true, false};
 ghost use Rattle.clap.specs.Words.{found_of, rows_of, fault_of};
 ghost use Rattle.jiff.specs.Words.{epoch_day};
 ghost use Rattle.table_records.specs.Faults.{IsFirst};

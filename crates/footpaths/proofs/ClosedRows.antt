@@ -9,6 +9,8 @@ use Rattle.std.proofs.lemmas.List.Sums.{sum_by_push}
 use Rattle.std.proofs.lemmas.Option.{same_Some, slice_get_within, get_or_from_slice_get, slice_get-get_or}
 use Rattle.timetable.specs.declared.trips.StopNo.{StopNo}
 use Rattle.timetable.specs.Footpaths.{FootLists, IsFoot}
+use Rattle.timetable.proofs.MappedLists.{map_put}
+use Rattle.timetable.proofs.ListsAddedTo.{get_kept}
 use Rattle.footpaths.specs.declared.adjacency.Adjacency.{Adjacency}
 use Rattle.footpaths.specs.Direct.{Footpath, DirectLists, LeadsBetween, AreDirect}
 use Rattle.footpaths.specs.Chains.{Leads, HasChain, Foot}
@@ -46,12 +48,6 @@ snoc_cases (w ∷ ws) x (suc k) y e = elim (snoc_cases ws x k y e) [
   | inr h ↦ inr (ap suc h.0, h.1)
 ]
 
-snoc_before : {X : Type 0} (xs : List X) (x : X) (k : ℕ) (y : X) → slice_get xs k ≡ Some y →
-    slice_get (xs ++ x ∷ []) k ≡ Some y
-snoc_before {X} [] x k y e = let w = slice_get_within {A = X} [] k y e in absurd (omega (arith, w))
-snoc_before (w ∷ ws) x zero y e = e
-snoc_before (w ∷ ws) x (suc k) y e = snoc_before ws x k y e
-
 snoc_last : {X : Type 0} (xs : List X) (x : X) → slice_get (xs ++ x ∷ []) (length xs) ≡ Some x
 snoc_last [] x = refl
 snoc_last (w ∷ ws) x = snoc_last ws x
@@ -62,12 +58,6 @@ map_at : {X Y : Type 0} (f : X → Y) (xs : List X) (k : ℕ) (y : Y) → slice_
 map_at {X} {Y} f [] k y e = let w = slice_get_within {A = Y} [] k y e in absurd (omega (arith, w))
 map_at f (x ∷ xs) zero y e = (x, refl, sym (same_Some (f x) y e))
 map_at f (x ∷ xs) (suc k) y e = map_at f xs k y e
-
-at_map : {X Y : Type 0} (f : X → Y) (xs : List X) (k : ℕ) (x : X) → slice_get xs k ≡ Some x →
-    slice_get (map f xs) k ≡ Some (f x)
-at_map {X} f [] k x e = let w = slice_get_within {A = X} [] k x e in absurd (omega (arith, w))
-at_map f (y ∷ xs) zero x e = ap Some (ap f (same_Some y x e))
-at_map f (y ∷ xs) (suc k) x e = at_map f xs k x e
 
 contains_at : (xs : List ℕ) (k x : ℕ) → slice_get xs k ≡ Some x → Contains xs x
 contains_at xs k x e = (k, slice_get_within xs k x e, get_or_from_slice_get xs k x x e)
@@ -109,10 +99,8 @@ row_closed direct limit source leaving m given same all here low st = record {
           get_or m.labels b 0,
           (
             c.0,
-            at_map (λ (stop : ℕ). (
-              record { 0 = stop },
-              get_or m.labels stop 0,
-            )) m.touched c.0 b (slice_get-get_or m.touched c.0 b c.1 ∙ ap Some c.2),
+            map_put (λ (stop : ℕ). (record { 0 = stop }, get_or m.labels stop 0)) m.touched c.0 b
+                (slice_get-get_or m.touched c.0 b c.1 ∙ ap Some c.2),
           ),
         )
         | inr never ↦ absurd (omega (arith, never, label, total, low))
@@ -171,7 +159,7 @@ closed_more direct limit n feet row h r = record {
   ];
   complete = λ a b s l other chain within. elim (cases_lt a n) [
     | inl lt ↦ let w = h.complete a b s lt other chain within in
-        (w.0, (w.1.0, w.1.1, snoc_before feet row a w.1.0 w.1.2, w.1.3))
+        (w.0, (w.1.0, w.1.1, get_kept feet row a w.1.0 w.1.2, w.1.3))
     | inr ge ↦ at_last a b s (omega (arith, ge, l)) other chain within
   ];
 }

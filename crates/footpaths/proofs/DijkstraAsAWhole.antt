@@ -20,10 +20,8 @@ pub way_end : (leaving : Leaving) (stops a b n s : ℕ) → LeadToStops stops le
     b < stops
 way_end leaving stops a b zero s all here c = subst (λ (x : ℕ). x < stops) c.0 here
 way_end leaving stops a b (suc n) s all here c =
-    All-contains (λ (footpath : StopNo × ℕ). footpath.0.0 < stops) (leaving c.0) (
-      record { 0 = b },
-      c.2,
-    ) (all c.0 (way_end leaving stops a c.0 n c.1 all here c.3)) c.4
+    All-contains (λ (footpath : StopNo × ℕ). footpath.0.0 < stops) (leaving c.0) (record { 0 = b }, c.2)
+    (all c.0 (way_end leaving stops a c.0 n c.1 all here c.3)) c.4
 
 -- where nothing is noted, no way is shorter
 pub least : (leaving : Leaving) (stops source limit : ℕ) (m : Marks) → LeadToStops stops leaving → length m.noted ≡ 0 →
@@ -135,10 +133,8 @@ started leaving stops source limit m ks low here fresh moved =
       ];
       passed = λ p h l. elim (cases_eq p source) [
         | inl e ↦ inl (Contains-permutation _ _ _ moved
-            (subst (λ (y : ℕ × ℕ). Contains ((limit, source) ∷ []) y) (start_note p e) (Contains-front (
-              limit,
-              source,
-            ) [])))
+            (subst (λ (y : ℕ × ℕ). Contains ((limit, source) ∷ []) y) (start_note p e)
+            (Contains-front (limit, source) [])))
         | inr n ↦ let v = other p h n in absurd (omega (arith, v, l, low))
       ];
       noted = λ y c. elim (Contains-split (

@@ -158,19 +158,12 @@ leg_passed limit label i leaving old now new d here to low p r = record {
     ]
     | inr f ↦ inr (
       (get_or leaving i d).1,
-      subst (λ (x : ℕ). Contains (take (i + 1) leaving) (
-        record { 0 = x },
-        (get_or leaving i d).1,
-      )) (sym f.0) (Contains-last leaving i d here),
+      subst (λ (x : ℕ). Contains (take (i + 1) leaving) (record { 0 = x }, (get_or leaving i d).1)) (sym f.0)
+          (Contains-last leaving i d here),
       low,
       f.1,
-      subst (λ (l : ℕ). Contains new.noted (
-        limit - l,
-        q,
-      )) (sym f.1) (subst (λ (x : ℕ). Contains new.noted (
-        limit - (label + (get_or leaving i d).1),
-        x,
-      )) (sym f.0) f.2),
+      subst (λ (l : ℕ). Contains new.noted (limit - l, q)) (sym f.1)
+          (subst (λ (x : ℕ). Contains new.noted (limit - (label + (get_or leaving i d).1), x)) (sym f.0) f.2),
     )
   ];
   kept = λ x c. r.kept x (p.kept x c);

@@ -37,10 +37,8 @@ direct_leaving (x ∷ xs) limit stop to w c = elim (cases_Bool (leaves limit sto
   | inl out ↦
       elim (Contains-split (x.1, x.2) (to, w) (legs_of xs limit stop)
       (subst (λ (t : Bool). Contains {X = StopNo
-      × ℕ} (map (λ (path : Footpath). (
-        path.1,
-        path.2,
-      )) (cond t (x ∷ filter (leaves limit stop) xs) (filter (leaves limit stop) xs))) (to, w)) out c)) [
+      × ℕ} (map (λ (path : Footpath). (path.1, path.2))
+      (cond t (x ∷ filter (leaves limit stop) xs) (filter (leaves limit stop) xs))) (to, w)) out c)) [
         | inl later ↦ let r = direct_leaving xs limit stop to w later in (Contains-later x _ xs r.0, r.1)
         | inr here ↦
             let l = leaves_true limit stop x out in
@@ -53,10 +51,8 @@ direct_leaving (x ∷ xs) limit stop to w c = elim (cases_Bool (leaves limit sto
   | inr not ↦
       let r = direct_leaving xs limit stop to w
       (subst (λ (t : Bool). Contains {X = StopNo
-      × ℕ} (map (λ (path : Footpath). (
-        path.1,
-        path.2,
-      )) (cond t (x ∷ filter (leaves limit stop) xs) (filter (leaves limit stop) xs))) (to, w)) not c) in
+      × ℕ} (map (λ (path : Footpath). (path.1, path.2))
+      (cond t (x ∷ filter (leaves limit stop) xs) (filter (leaves limit stop) xs))) (to, w)) not c) in
       (Contains-later x _ xs r.0, r.1)
 ]
   where
@@ -73,25 +69,16 @@ leg_of_direct (x ∷ xs) limit path c low = elim (cases_Bool (leaves limit path.
   | inl out ↦
       subst (λ (t : Bool). Contains {X = StopNo
       × ℕ} (map (λ (p : Footpath). (p.1, p.2))
-      (cond t (x ∷ filter (leaves limit path.0.0) xs) (filter (leaves limit path.0.0) xs))) (
-        path.1,
-        path.2,
-      )) (sym out)
+      (cond t (x ∷ filter (leaves limit path.0.0) xs) (filter (leaves limit path.0.0) xs))) (path.1, path.2)) (sym out)
       (elim (Contains-split x path xs c) [
         | inl later ↦ Contains-later (x.1, x.2) _ _ (leg_of_direct xs limit path later low)
         | inr here ↦ subst (λ (p : Footpath). Contains {X =
-            StopNo × ℕ} ((x.1, x.2) ∷ legs_of xs limit path.0.0) (p.1, p.2)) (sym here) (Contains-front (
-              x.1,
-              x.2,
-            ) _)
+            StopNo × ℕ} ((x.1, x.2) ∷ legs_of xs limit path.0.0) (p.1, p.2)) (sym here) (Contains-front (x.1, x.2) _)
       ])
   | inr not ↦
       subst (λ (t : Bool). Contains {X = StopNo
       × ℕ} (map (λ (p : Footpath). (p.1, p.2))
-      (cond t (x ∷ filter (leaves limit path.0.0) xs) (filter (leaves limit path.0.0) xs))) (
-        path.1,
-        path.2,
-      )) (sym not)
+      (cond t (x ∷ filter (leaves limit path.0.0) xs) (filter (leaves limit path.0.0) xs))) (path.1, path.2)) (sym not)
       (elim (Contains-split x path xs c) [
         | inl later ↦ leg_of_direct xs limit path later low
         | inr here ↦ absurd (false≢true (sym not ∙ ap (λ (p : Footpath). leaves limit path.0.0 p) (sym here)
@@ -161,10 +148,8 @@ way_of_chain direct limit stops leaving (x ∷ xs) o a b n r same between here g
     let footpath : Contains {X = StopNo × ℕ} (leaving a) (x.1, x.2) =
     subst (λ (ls : List (StopNo × ℕ)). Contains {X =
     StopNo × ℕ} ls (x.1, x.2)) (sym (same a here))
-    (subst (λ (q : ℕ). Contains {X = StopNo × ℕ} (legs_of direct limit q) (
-      x.1,
-      x.2,
-    )) start (leg_of_direct direct limit x path first)) in
+    (subst (λ (q : ℕ). Contains {X = StopNo × ℕ} (legs_of direct limit q) (x.1, x.2)) start
+    (leg_of_direct direct limit x path first)) in
     let on : Way leaving o x.1.0 (suc n) (r + x.2) = (a, r, x.2, way, footpath, refl) in
     let place : x.1.0 < stops = (All-contains (LeadsBetween stops) direct x between path).to in
     let rest = way_of_chain direct limit stops leaving xs o x.1.0 b (suc n) (r + x.2) same between place

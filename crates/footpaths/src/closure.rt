@@ -1,5 +1,5 @@
 //! Closed footpaths: the least sums over chains of direct footpaths, within a limit.
-ghost use Rattle.std.specs.Prelude.{◌≡◌, ◌≤◌, ◌↔◌, ℕ, IsTrue, IfOk, IfErr};
+ghost use Rattle.std.specs.Prelude.{◌≤◌, ◌↔◌, IsTrue, IfOk, IfErr};
 ghost use Rattle.timetable.specs.declared.limits.TheConstants.{MOST_FOOT_SECONDS};
 ghost use Rattle.timetable.specs.Footpaths.{rows_of};
 ghost use Rattle.footpaths.specs.Closure.{IsClosure, IsFootFault};

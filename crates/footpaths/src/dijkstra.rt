@@ -1,8 +1,7 @@
 //! Walking times from one stop, by Dijkstra's algorithm as far as a limit.
 //! One table of labels serves all sources in turn: only the labels of stops that were reached are taken back.
 ghost use Rattle.timetable.specs.declared.least.TheConstants.{NEVER};
-ghost use Rattle.std.specs.Prelude.{◌≡◌, ◌<◌, ◌≤◌, ◌+◌, ◌-◌, ◌⊎◌, ℕ, List, [], length, map, slice_index, All, IfOk};
-ghost use Rattle.std.specs.Prelude.{OnOk};
+ghost use Rattle.std.specs.Prelude.{◌≡◌, ◌<◌, ◌≤◌, ◌+◌, ◌-◌, ◌⊎◌, ℕ, [], length, slice_index, All, IfOk, OnOk};
 
 use crate::adjacency::Adjacency;
 use std::alloc::{AllocError, Global};

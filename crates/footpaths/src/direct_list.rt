@@ -1,5 +1,5 @@
 //! Direct footpaths, as rows of `transfers.txt` and of a file of footpaths give them.
-ghost use Rattle.std.specs.Prelude.{◌≡◌, ◌≢◌, ◌<◌, ◌≤◌, ◌++◌, ◌∷◌, [], All, IfOk, OnOk, OnErr, length};
+ghost use Rattle.std.specs.Prelude.{◌≡◌, ◌≢◌, ◌<◌, ◌≤◌, ◌++◌, ◌∷◌, [], All, OnOk, OnErr, length};
 
 use std::alloc::{AllocError, Global};
 use std::marker::Model;

@@ -71,10 +71,7 @@ fn two_by_two(alloc: Global) -> Result<Box<Book>, AllocError>
 
 /// The trial of `Book::new`.
 pub(crate) fn try_book(alloc: Global) -> Outcome {
-    match makes_book(alloc) {
-        Ok(is_right) => Outcome::at_once(is_right),
-        Err(_) => Outcome::again(makes_book(alloc)),
-    }
+    Outcome::of(|| makes_book(alloc))
 }
 
 /// Whether nothing was drawn, kept or settled yet in a new book.
@@ -212,10 +209,7 @@ fn are_told(told: &[CoreAnswer]) -> bool {
 
 /// The trial of `Board::new`.
 pub(crate) fn try_board(alloc: Global) -> Outcome {
-    match makes_board(alloc) {
-        Ok(is_right) => Outcome::at_once(is_right),
-        Err(_) => Outcome::again(makes_board(alloc)),
-    }
+    Outcome::of(|| makes_board(alloc))
 }
 
 /// Whether the first seat of a new board keeps each job, and then finds no more.

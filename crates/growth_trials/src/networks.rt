@@ -5,7 +5,7 @@ ghost use Rattle.service_days.specs.Instances.{IsRun};
 
 use crate::outcomes::{Outcome, told};
 use crate::small_networks::{FIRST, Ride, SECOND, no_walks, trips_of};
-use crate::small_tables::{CUT, LATE, LIMIT, MONDAY, closed_walks, small_feed, small_walks};
+use crate::small_tables::{CUT, LATE, LIMIT, MONDAY, closed_walks, over_small_feed, small_walks};
 use footpaths::{Direct, FootFault, close, limit_fits};
 use gtfs_tables::{Feed, MOST_BYTES, read_date};
 use scenarios::{Scenario, base, network_of, read_scenario};
@@ -189,14 +189,7 @@ fn is_ride(trip: &Trip, ride: Ride) -> bool {
 
 /// The trial of `close`, over the walks of the small feed.
 pub(crate) fn try_close(alloc: Global) -> Outcome {
-    match small_feed(alloc) {
-        Some(feed) => {
-            let outcome = try_close_over(alloc, &feed);
-            drop(feed);
-            outcome
-        }
-        None => Outcome::Inputs,
-    }
+    over_small_feed(alloc, |feed| try_close_over(alloc, feed))
 }
 
 fn try_close_over(alloc: Global, feed: &Feed) -> Outcome {
@@ -207,10 +200,7 @@ fn try_close_over(alloc: Global, feed: &Feed) -> Outcome {
 }
 
 fn try_walks(alloc: Global, walks: &Direct) -> Outcome {
-    match closes(alloc, walks) {
-        Ok(is_right) => Outcome::at_once(is_right),
-        Err(_) => Outcome::again(closes(alloc, walks)),
-    }
+    Outcome::of(|| closes(alloc, walks))
 }
 
 /// Whether `close` joins the two walks.
@@ -238,14 +228,7 @@ fn are_joined(feet: &Feet) -> bool {
 
 /// The trial of `network_of`, over the small feed.
 pub(crate) fn try_network_of(alloc: Global) -> Outcome {
-    match small_feed(alloc) {
-        Some(feed) => {
-            let outcome = try_network_over(alloc, &feed);
-            drop(feed);
-            outcome
-        }
-        None => Outcome::Inputs,
-    }
+    over_small_feed(alloc, |feed| try_network_over(alloc, feed))
 }
 
 /// The runs of the Monday, with a day before and a day after.

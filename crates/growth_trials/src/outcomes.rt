@@ -18,6 +18,16 @@ pub(crate) enum Outcome {
 }
 
 impl Outcome {
+    /// What comes of a call that is made once more where it tells out of memory.
+    pub(crate) fn of<F: Fn() -> Result<bool, AllocError>>(call: F) -> Outcome
+        requires { F.IsAlwaysCallable call }
+    {
+        match call() {
+            Ok(is_right) => Outcome::at_once(is_right),
+            Err(_) => Outcome::again(call()),
+        }
+    }
+
     /// What comes of a call that gave a value at once.
     pub(crate) fn at_once(is_right: bool) -> Outcome {
         if is_right {

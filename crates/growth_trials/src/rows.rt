@@ -130,10 +130,7 @@ pub(crate) fn try_call(alloc: Global, call: Call) -> Outcome {
 }
 
 fn try_over(alloc: Global, study: &Study<'_>, call: Call) -> Outcome {
-    match ask(alloc, study, call) {
-        Ok(is_right) => Outcome::at_once(is_right),
-        Err(_) => Outcome::again(ask(alloc, study, call)),
-    }
+    Outcome::of(|| ask(alloc, study, call))
 }
 
 /// Whether a call gives the row of the second scenario and the first origin, or all rows.

@@ -124,10 +124,7 @@ fn try_cells_over(alloc: Global, network: &Network, call: Cells) -> Outcome {
 }
 
 fn try_cells_of(alloc: Global, found: &Durations, call: Cells) -> Outcome {
-    match ask_cells(alloc, found, call) {
-        Ok(is_right) => Outcome::at_once(is_right),
-        Err(_) => Outcome::again(ask_cells(alloc, found, call)),
-    }
+    Outcome::of(|| ask_cells(alloc, found, call))
 }
 
 /// Whether a call gives the cells of half of the minutes, and of three quarters.

@@ -1,5 +1,6 @@
 //! The small feed and its walks, read; and files of scenarios over it.
 
+use crate::outcomes::Outcome;
 use footpaths::{Direct, close, direct, limit_fits};
 use gtfs_tables::{Feed, file_fits, read_feed};
 use small_feed::{WALKS, small_files};
@@ -24,7 +25,7 @@ shift_trip,T1,300
 
 /// The small feed. None where there is no memory for it; so it is with all inputs of trials. They stand in boxes, so
 /// that whoever holds them drops them in one step.
-pub(crate) fn small_feed(alloc: Global) -> Option<Box<Feed>> {
+fn small_feed(alloc: Global) -> Option<Box<Feed>> {
     let files = small_files();
     if !files.fits() {
         return None;
@@ -32,6 +33,16 @@ pub(crate) fn small_feed(alloc: Global) -> Option<Box<Feed>> {
     match read_feed(alloc, &files) {
         Ok(feed) => Box::new(alloc, feed).ok(),
         Err(_) => None,
+    }
+}
+
+/// What comes of trials over the small feed.
+pub(crate) fn over_small_feed<F: Fn(&Feed) -> Outcome>(alloc: Global, tried: F) -> Outcome
+    requires { F.IsAlwaysCallable tried }
+{
+    match small_feed(alloc) {
+        Some(feed) => tried(feed.as_ref()),
+        None => Outcome::Inputs,
     }
 }
 

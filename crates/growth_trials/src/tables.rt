@@ -1,7 +1,7 @@
 //! The calls that read tables: `read_feed` reads the small feed, and the others go over it.
 
 use crate::outcomes::{Outcome, told};
-use crate::small_tables::{CUT, LATE, MONDAY, small_feed};
+use crate::small_tables::{CUT, LATE, MONDAY, over_small_feed};
 use footpaths::direct;
 use gtfs_tables::{
     Feed, FeedTrip, MOST_BYTES, What, file_fits, read_date, read_feed, read_opportunities,
@@ -43,10 +43,7 @@ const RUNS: [Run; 2] = [
 
 /// The trial of `read_feed`.
 pub(crate) fn try_read_feed(alloc: Global) -> Outcome {
-    match reads_feed(alloc) {
-        Ok(is_right) => Outcome::at_once(is_right),
-        Err(_) => Outcome::again(reads_feed(alloc)),
-    }
+    Outcome::of(|| reads_feed(alloc))
 }
 
 /// Whether `read_feed` gives the tables of the small feed.
@@ -105,21 +102,11 @@ fn event(call: (u32, u32)) -> Event {
 
 /// The trial of a call over the small feed.
 pub(crate) fn try_call(alloc: Global, call: Call) -> Outcome {
-    match small_feed(alloc) {
-        Some(feed) => {
-            let outcome = try_over(alloc, &feed, call);
-            drop(feed);
-            outcome
-        }
-        None => Outcome::Inputs,
-    }
+    over_small_feed(alloc, |feed| try_over(alloc, feed, call))
 }
 
 fn try_over(alloc: Global, feed: &Feed, call: Call) -> Outcome {
-    match ask(alloc, feed, call) {
-        Ok(is_right) => Outcome::at_once(is_right),
-        Err(_) => Outcome::again(ask(alloc, feed, call)),
-    }
+    Outcome::of(|| ask(alloc, feed, call))
 }
 
 /// Whether a call gives the right value.

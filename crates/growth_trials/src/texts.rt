@@ -2,7 +2,7 @@
 
 use crate::outcomes::{Outcome, told};
 use crate::small_rows::small_matrix;
-use crate::small_tables::{CUT, MONDAY, small_feed};
+use crate::small_tables::{CUT, MONDAY, over_small_feed};
 use collector::Matrix;
 use footpaths::FootFault;
 use gtfs_tables::{Feed, What, read_date};
@@ -24,14 +24,7 @@ base,A,50,3,0,600,1800
 
 /// The trial of `write_matrix`.
 pub(crate) fn try_write(alloc: Global) -> Outcome {
-    match small_feed(alloc) {
-        Some(feed) => {
-            let outcome = try_feed(alloc, &feed);
-            drop(feed);
-            outcome
-        }
-        None => Outcome::Inputs,
-    }
+    over_small_feed(alloc, |feed| try_feed(alloc, feed))
 }
 
 fn try_feed(alloc: Global, feed: &Feed) -> Outcome {
@@ -97,10 +90,7 @@ fn writes(
 
 /// The trial of `minute_line`.
 pub(crate) fn try_minute(alloc: Global) -> Outcome {
-    match makes_line(alloc) {
-        Ok(is_right) => Outcome::at_once(is_right),
-        Err(_) => Outcome::again(makes_line(alloc)),
-    }
+    Outcome::of(|| makes_line(alloc))
 }
 
 /// Whether one ride at 08:00 goes from A to B alone.

@@ -56,10 +56,7 @@ const STUDY: [&str; 21] = [
 
 /// The trial of a call without inputs.
 pub(crate) fn try_call(alloc: Global, call: Call) -> Outcome {
-    match ask(alloc, call) {
-        Ok(is_right) => Outcome::at_once(is_right),
-        Err(_) => Outcome::again(ask(alloc, call)),
-    }
+    Outcome::of(|| ask(alloc, call))
 }
 
 /// Whether a call gives the right value.
@@ -128,10 +125,7 @@ fn words_of(alloc: Global, asked: Asked) -> Result<Vec<String>, AllocError> {
 }
 
 fn try_words(alloc: Global, words: &[String], asked: Asked) -> Outcome {
-    match asks(alloc, words, asked) {
-        Ok(is_right) => Outcome::at_once(is_right),
-        Err(_) => Outcome::again(asks(alloc, words, asked)),
-    }
+    Outcome::of(|| asks(alloc, words, asked))
 }
 
 /// Whether the arguments are taken for what they ask.

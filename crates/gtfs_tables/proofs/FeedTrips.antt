@@ -59,10 +59,8 @@ ids-trips_of (id ∷ ids) [] events departures a b d = absurd (omega (arith, a))
 ids-trips_of (id ∷ ids) (n ∷ numbers) [] departures a b d = absurd (omega (arith, b))
 ids-trips_of (id ∷ ids) (n ∷ numbers) (e ∷ events) [] a b d = absurd (omega (arith, d))
 ids-trips_of (id ∷ ids) (n ∷ numbers) (e ∷ events) (x ∷ departures) a b d =
-    ap (λ (l : List (List ℕ)). id ∷ l) (ids-trips_of ids numbers events departures (omega (arith, a)) (omega (
-      arith,
-      b,
-    )) (omega (arith, d)))
+    ap (λ (l : List (List ℕ)). id ∷ l)
+    (ids-trips_of ids numbers events departures (omega (arith, a)) (omega (arith, b)) (omega (arith, d)))
 
 -- what holds of the numbers, the events and the departures holds of the trips
 module _ (N : TripNumbers → Type 0) (E : List Event → Type 0) (D : List Departures → Type 0) (P : FeedTrip → Type 0)
@@ -71,29 +69,23 @@ module _ (N : TripNumbers → Type 0) (E : List Event → Type 0) (D : List Depa
   pub All-trips_of : (ids : List (List ℕ)) (numbers : List TripNumbers) (events : List (List Event))
       (departures : List (List Departures))
       → All N numbers → All E events → All D departures → All P (trips_of ids numbers events departures)
-  All-trips_of [] numbers events departures a b d = All-nil P
-  All-trips_of (id ∷ ids) [] events departures a b d = All-nil P
-  All-trips_of (id ∷ ids) (n ∷ numbers) [] departures a b d = All-nil P
-  All-trips_of (id ∷ ids) (n ∷ numbers) (e ∷ events) [] a b d = All-nil P
   All-trips_of (id ∷ ids) (n ∷ numbers) (e ∷ events) (x ∷ departures) a b d =
       All-cons P (trip_of id n e x) (trips_of ids numbers events departures)
       (makes id n e x (All-head N n numbers a) (All-head E e events b) (All-head D x departures d))
       (All-trips_of ids numbers events departures (All-tail N n numbers a) (All-tail E e events b)
       (All-tail D x departures d))
+  All-trips_of _ _ _ _ a b d = All-nil P
 
 -- no more events than there are
 pub events-trips_of : (ids : List (List ℕ)) (numbers : List TripNumbers) (events : List (List Event))
     (departures : List (List Departures))
     → sum_by (λ (t : FeedTrip). length t.events) (trips_of ids numbers events departures) ≤ sum_by length events
-events-trips_of [] numbers events departures = omega arith
-events-trips_of (id ∷ ids) [] events departures = omega arith
-events-trips_of (id ∷ ids) (n ∷ numbers) [] departures = omega arith
-events-trips_of (id ∷ ids) (n ∷ numbers) (e ∷ events) [] = omega arith
 events-trips_of (id ∷ ids) (n ∷ numbers) (e ∷ events) (d ∷ departures) =
     let mine = sum_by-cons (λ (t : FeedTrip). length t.events) (trip_of id n e d)
     (trips_of ids numbers events departures) in
     let its = sum_by-cons (length {A = Event}) e events in
     omega (arith, mine, its, events-trips_of ids numbers events departures)
+events-trips_of _ _ _ _ = omega arith
 
 -- each trip has a list of departures
 pub length-departures_from : (trips : List (List ℕ)) (rows : List FrequencyRow) (t : ℕ) (ids : List (List ℕ)) →

@@ -235,10 +235,8 @@ module _ (f : FeedFiles) where
       × (length d.services ≤ MOST_DATED_SERVICES)
       → trips.AreTrips routes d.services t (rows_in trips.trip_rows f.trips) × (files.faults_of_trips f ≡ [])
       → IsCatalog (record { places = p; routes = routes; calendar = c.rows; exceptions = d.rows; trips = t }) f
-  is_catalog p routes c d t (places_are, sound) (routes_are, few_routes) weekly (
-    are_exceptions,
-    few_dated,
-  ) (are_trips, no_trips) =
+  is_catalog p routes c d t (places_are, sound) (routes_are, few_routes) weekly (are_exceptions, few_dated)
+      (are_trips, no_trips) =
       let named_in_dates : List (List ℕ) = map (λ (r : dates.DateRow). r.service)
       (rows_in dates.date_rows f.calendar_dates) in
       let named_in_trips : List (List ℕ) = map (λ (r : trips.TripRow). r.service) (rows_in trips.trip_rows f.trips) in

@@ -1,9 +1,9 @@
 -- The first fault of several files: that of the first file that has one.
 use Rattle.std.proofs.Common.{◌≡◌, List, [], ◌++◌, refl}
+use Rattle.trip_events.proofs.EventFacts.{no_parts}
 use Rattle.table_records.specs.Faults.{Tells}
 use Rattle.table_records.specs.declared.fault.FeedFault.{FeedFault}
 use Rattle.table_records.proofs.FaultFacts.{tells_more}
-use Rattle.gtfs_tables.proofs.RowsWithoutFaults.{none_both}
 
 -- a fault of the first file
 pub first_of_three : (e : FeedFault) (a b c : List FeedFault) → Tells e a → Tells e (a ++ b ++ c)
@@ -39,7 +39,7 @@ none_of_five a b c d f no_a no_b no_c no_d no_f = rw (no_a, no_b, no_c, no_d, no
 -- where all have no fault, each has none
 pub none_each : (a b c d f : List FeedFault) → a ++ b ++ c ++ d ++ f ≡ [] → (b ≡ []) × (c ≡ []) × (f ≡ [])
 none_each a b c d f none =
-    let (first, no_f) = none_both (a ++ b ++ c ++ d) f none in
-    let (second, _) = none_both (a ++ b ++ c) d first in
-    let (third, no_c) = none_both (a ++ b) c second in
-    let (_, no_b) = none_both a b third in (no_b, no_c, no_f)
+    let (first, no_f) = no_parts (a ++ b ++ c ++ d) f none in
+    let (second, _) = no_parts (a ++ b ++ c) d first in
+    let (third, no_c) = no_parts (a ++ b) c second in
+    let (_, no_b) = no_parts a b third in (no_b, no_c, no_f)

@@ -8,6 +8,9 @@ use Rattle.std.proofs.lemmas.List.{length-replicate, length-set}
 use Rattle.std.proofs.lemmas.List.Elements.{All-head, All-nil, All-push, All-tail}
 use Rattle.std.proofs.lemmas.List.Folds.{list_any-append}
 use Rattle.std.proofs.lemmas.Slice.Eq.{bytes_eq-Decides}
+use Rattle.std.proofs.lemmas.Bool.{or_right, eq-eqb}
+use Rattle.trip_events.proofs.RecordsAscend.{clean}
+use Rattle.trip_events.proofs.EventFacts.{no_parts}
 use Rattle.std.specs.Prelude.{All, is_none, unwrap_or}
 use Rattle.std.specs.List.{list_any}
 use Rattle.std.specs.Str.{bytes_eq}
@@ -19,11 +22,7 @@ use Rattle.table_records.specs.declared.fault.What.TheVariants as what
 use Rattle.table_records.specs.Identifiers.{number_in}
 use Rattle.gtfs_tables.specs.NamedStops.{AreMarked, stop_checks}
 use Rattle.trip_events.proofs.TimeFacts.{found_below}
-use Rattle.gtfs_tables.proofs.RowsWithoutFaults.{none_both, passes}
 use Rattle.gtfs_tables.proofs.NumbersLeadBack.{at_position}
-
-equal : (m : ℕ) → (m == m) ≡ true
-equal m = grind (arith, nat_tests)
 
 -- two stops have one number where they have one identifier
 same_number : (stops : List (List ℕ)) (n : ℕ) (id b : List ℕ) → Some n ≡ position (bytes_eq id) stops →
@@ -31,7 +30,7 @@ same_number : (stops : List (List ℕ)) (n : ℕ) (id b : List ℕ) → Some n �
 same_number stops n id b here there = by (bytes_eq id b) refl
   where
     same : Some n ≡ position (bytes_eq id) stops → (number_in stops id == n) ≡ true
-    same e = rw (← e) (equal n)
+    same e = rw (← e) (eq-eqb n n refl)
 
     apart : (o : Option ℕ) → o ≡ position (bytes_eq b) stops → is_none o ≡ false → bytes_eq id b ≡ false →
         (unwrap_or o 0 == n) ≡ false
@@ -86,10 +85,6 @@ module _ (stops : List (List ℕ)) (marks : List Bool) (ids : List (List ℕ)) (
       number : number_in stops id ≡ n
       number = rw (← here) refl
 
-      or_true : (b : Bool) → (b || true) ≡ true
-      or_true true = refl
-      or_true false = refl
-
       or_false : (b : Bool) → (b || false) ≡ b
       or_false true = refl
       or_false false = refl
@@ -103,10 +98,10 @@ module _ (stops : List (List ℕ)) (marks : List Bool) (ids : List (List ℕ)) (
             one,
             list_any-append (λ (b : List ℕ). number_in stops b == n) ids (id ∷ []),
             number,
-            equal n,
+            eq-eqb n n refl,
             get_or-set_same marks n true false within,
           )
-          (sym (or_true (list_any (λ (b : List ℕ). number_in stops b == n) ids)))
+          (sym (or_right (list_any (λ (b : List ℕ). number_in stops b == n) ids) true refl))
       by m lt false e =
           let apart : m ≢ n = grind (arith, nat_tests) in
           rw (
@@ -155,11 +150,11 @@ found_stop stops before id n none number =
     let empty : List What = when (is_empty id) what.EmptyId in
     let unknown_stop : List What = when (is_none (position (bytes_eq id) stops)) what.UnknownStop in
     let again : List What = when (list_any (bytes_eq id) before) what.DuplicateId in
-    let (a, new) = none_both (empty ++ unknown_stop) again none in
-    let (_, there) = none_both empty unknown_stop a in
+    let (a, new) = no_parts (empty ++ unknown_stop) again none in
+    let (_, there) = no_parts empty unknown_stop a in
     let known : is_none (position (bytes_eq id) stops) ≡ false =
-    passes (is_none (position (bytes_eq id) stops)) what.UnknownStop there in
-    (by (position (bytes_eq id) stops) refl known number, passes (list_any (bytes_eq id) before) what.DuplicateId new)
+    clean (is_none (position (bytes_eq id) stops)) what.UnknownStop there in
+    (by (position (bytes_eq id) stops) refl known number, clean (list_any (bytes_eq id) before) what.DuplicateId new)
   where
     by : (o : Option ℕ) → o ≡ position (bytes_eq id) stops → is_none o ≡ false → n ≡ unwrap_or o 0 →
         slice_get stops n ≡ Some id

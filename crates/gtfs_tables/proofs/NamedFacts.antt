@@ -3,10 +3,10 @@ use Rattle.std.proofs.Common.{◌≡◌, ◌∙◌, ◌||◌, ℕ, zero, suc, Bo
 use Rattle.std.proofs.Common.{replicate, set, slice_get, refl, sym, ap, subst, if◌then◌else◌}
 use Rattle.std.proofs.lemmas.List.{map-append}
 use Rattle.std.proofs.lemmas.Simd.{splat_is_map}
-use Rattle.std.proofs.lemmas.Slice.Eq.{bytes_eq-Decides}
 use Rattle.std.specs.Prelude.{find, is_none, option_map, unwrap_or}
 use Rattle.std.specs.List.{AllByRecursion, IsDistinct, list_any}
 use Rattle.std.specs.Str.{bytes_eq}
+use Rattle.table_files.proofs.ServiceFacts.{same_text}
 use Rattle.table_records.specs.Faults.{IsFirst}
 use Rattle.table_records.specs.declared.fault.What.{What}
 use Rattle.table_records.specs.declared.fault.What.TheVariants as what
@@ -31,13 +31,10 @@ kept_at (x ∷ rows) r id other = by (bytes_eq id x.stop) (kept_at rows r id oth
     by true e = refl
     by false e = e
 
-same : (a : List ℕ) → bytes_eq a a ≡ true
-same a = (bytes_eq-Decides a a).1 refl
-
 -- the stop that it names, and no record before it, gets its number
 put_at : (rows : List NamedRow) (r : NamedRow) → list_any (bytes_eq r.stop) (stops_named rows) ≡ false →
     at_stop (rows ++ r ∷ []) r.stop ≡ count_of r
-put_at [] r new = rw (same r.stop) refl
+put_at [] r new = rw (same_text r.stop) refl
 put_at (x ∷ rows) r new = by (bytes_eq r.stop x.stop) new (λ e. put_at rows r e)
   where
     by : (b : Bool) → (b || list_any (bytes_eq r.stop) (stops_named rows)) ≡ false →

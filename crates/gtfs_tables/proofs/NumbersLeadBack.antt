@@ -6,12 +6,7 @@ use Rattle.std.proofs.lemmas.Slice.Eq.{bytes_eq-Decides}
 use Rattle.std.specs.Prelude.{slice_get, not}
 use Rattle.std.specs.List.{AllByRecursion, IsDistinct, position_or_len}
 use Rattle.std.specs.Str.{bytes_eq}
-
-same : (a b : List ℕ) → a ≡ b → bytes_eq a b ≡ true
-same a b e = grind (arith, bytes_eq-Decides)
-
-are_same : (a b : List ℕ) → bytes_eq a b ≡ true → a ≡ b
-are_same a b e = grind (arith, bytes_eq-Decides)
+use Rattle.table_records.proofs.DistinctTexts.{found_same, same_bytes}
 
 pub flipped : (a b : List ℕ) → bytes_eq a b ≡ false → bytes_eq b a ≡ false
 flipped a b e = grind (arith, bytes_eq-Decides)
@@ -29,7 +24,7 @@ unfolding IsDistinct
 found_at [] s id apart e = cc e
 found_at (x ∷ ids) zero id apart e =
     let is : x ≡ id = cc e in
-    let here : bytes_eq id x ≡ true = same id x (sym is) in
+    let here : bytes_eq id x ≡ true = same_bytes id x (sym is) in
     (rw here refl, omega arith)
 found_at (x ∷ ids) (suc s) id apart e =
     let other : bytes_eq id x ≡ false = flipped x id (differs x ids s id apart.0 e) in
@@ -53,7 +48,7 @@ found (x ∷ ids) id lt = by (bytes_eq id x) refl (found ids id) lt
         slice_get ids (position_or_len (bytes_eq id) ids) ≡ Some id)
         → cond (not b) (1 + position_or_len (bytes_eq id) ids) 0 < length (x ∷ ids) →
         slice_get (x ∷ ids) (cond (not b) (1 + position_or_len (bytes_eq id) ids) 0) ≡ Some id
-    by true e more less = ap Some (sym (are_same id x e))
+    by true e more less = ap Some (sym (found_same id x e))
     by false e more less =
         let next : 1 + position_or_len (bytes_eq id) ids ≡ suc (position_or_len (bytes_eq id) ids) = omega arith in
         ap (slice_get (x ∷ ids)) next ∙ more (omega (arith, less))

@@ -24,15 +24,9 @@ use Rattle.table_records.specs.Identifiers.{number_in}
 use Rattle.table_files.proofs.ServiceFacts.{found}
 use Rattle.table_files.proofs.NewIds.{distinct_push}
 use Rattle.trip_events.proofs.TimeFacts.{time_small}
+use Rattle.trip_events.proofs.EventFacts.{no_parts, none_mapped}
+use Rattle.trip_events.proofs.RecordsAscend.{clean}
 use Rattle.gtfs_tables.specs.Feed.{IsDeparting}
-
-pub none_both : {X : Type 0} (xs ys : List X) → xs ++ ys ≡ [] → (xs ≡ []) × (ys ≡ [])
-none_both [] ys e = (refl, e)
-none_both (x ∷ xs) ys e = cc e
-
-none_mapped : {X Y : Type 0} (f : X → Y) (xs : List X) → map f xs ≡ [] → xs ≡ []
-none_mapped f [] e = refl
-none_mapped f (x ∷ xs) e = cc e
 
 -- what each record keeps, all records have
 module _ {R : Type 0} (name : FileName) (checks : List R → R → List What) (P : List R →
@@ -40,7 +34,7 @@ module _ {R : Type 0} (name : FileName) (checks : List R → R → List What) (P
   kept : (before rows : List R) → P before → faults_after name checks before rows ≡ [] → P (before ++ rows)
   kept before [] p none = subst P (sym (append-nil before)) p
   kept before (r ∷ rows) p none =
-      let (here, rest) = none_both (faults_at name checks before r) (faults_after name checks (before ++ r ∷ []) rows)
+      let (here, rest) = no_parts (faults_at name checks before r) (faults_after name checks (before ++ r ∷ []) rows)
       none in
       subst P (append_assoc before (r ∷ []) rows)
       (kept (before ++ r ∷ []) rows (step before r p (none_mapped _ (checks before r) here)) rest)
@@ -56,10 +50,6 @@ module _ {R : Type 0} (name : FileName) (checks : List R → R → List What) (P
       by true e = cc e
       by false e = kept [] (map (row header) rest) start e
 
-pub passes : (b : Bool) (w : What) → when b w ≡ [] → b ≡ false
-passes true w e = cc e
-passes false w e = refl
-
 nothing_distinct : IsDistinct bytes_eq []
 unfolding IsDistinct
 nothing_distinct = tt
@@ -74,9 +64,9 @@ distinct_routes bytes = kept_rows file.Routes routes.checks (λ rows. IsDistinct
         → IsDistinct bytes_eq (routes.routes_of (before ++ r ∷ []))
     step before r apart none =
         let repeated : List What = when (list_any (bytes_eq r.id) (routes.routes_of before)) what.DuplicateId in
-        let (_, new) = none_both (when (is_empty r.id) what.EmptyId) repeated none in
+        let (_, new) = no_parts (when (is_empty r.id) what.EmptyId) repeated none in
         let fresh : list_any (bytes_eq r.id) (routes.routes_of before) ≡ false =
-        passes (list_any (bytes_eq r.id) (routes.routes_of before)) what.DuplicateId new in
+        clean (list_any (bytes_eq r.id) (routes.routes_of before)) what.DuplicateId new in
         rw (map-append (λ (x : routes.RouteRow). x.id) before (r ∷ []))
         (distinct_push (routes.routes_of before) r.id apart fresh)
 
@@ -96,13 +86,13 @@ distinct_calendar bytes = kept_rows file.Calendar calendar.checks
         in
         let days : List What = when (is_none (calendar.days_of r.days)) what.BadNumber in
         let first : List What = when (is_none (date_of r.first)) what.BadDate in
-        let (a, _) = none_both (unnamed ++ repeated ++ days ++ first) (when (is_none (date_of r.last)) what.BadDate)
+        let (a, _) = no_parts (unnamed ++ repeated ++ days ++ first) (when (is_none (date_of r.last)) what.BadDate)
         none in
-        let (b, _) = none_both (unnamed ++ repeated ++ days) first a in
-        let (d, _) = none_both (unnamed ++ repeated) days b in
-        let (_, new) = none_both unnamed repeated d in
+        let (b, _) = no_parts (unnamed ++ repeated ++ days) first a in
+        let (d, _) = no_parts (unnamed ++ repeated) days b in
+        let (_, new) = no_parts unnamed repeated d in
         let fresh : list_any (bytes_eq r.service) (calendar.services_of before) ≡ false =
-        passes (list_any (bytes_eq r.service) (calendar.services_of before)) what.DuplicateId new in
+        clean (list_any (bytes_eq r.service) (calendar.services_of before)) what.DuplicateId new in
         rw (map-append (λ (x : calendar.ServiceRow). x.service) before (r ∷ []))
         (distinct_push (calendar.services_of before) r.service apart fresh)
 
@@ -140,16 +130,16 @@ trips_listed ids bytes =
         let no_service : List What = when (is_empty r.service) what.EmptyId in
         let unnamed : List What = when (is_empty r.id) what.EmptyId in
         let repeated : List What = when (list_any (bytes_eq r.id) (trips.trip_ids before)) what.DuplicateId in
-        let (a, new) = none_both (full ++ no_route ++ unknown ++ no_service ++ unnamed) repeated none in
-        let (b, _) = none_both (full ++ no_route ++ unknown ++ no_service) unnamed a in
-        let (d, _) = none_both (full ++ no_route ++ unknown) no_service b in
-        let (e, known) = none_both (full ++ no_route) unknown d in
-        let (many, _) = none_both full no_route e in
-        let room : nat_le 1000000 (length before) ≡ false = passes (nat_le 1000000 (length before)) what.TooMany many in
+        let (a, new) = no_parts (full ++ no_route ++ unknown ++ no_service ++ unnamed) repeated none in
+        let (b, _) = no_parts (full ++ no_route ++ unknown ++ no_service) unnamed a in
+        let (d, _) = no_parts (full ++ no_route ++ unknown) no_service b in
+        let (e, known) = no_parts (full ++ no_route) unknown d in
+        let (many, _) = no_parts full no_route e in
+        let room : nat_le 1000000 (length before) ≡ false = clean (nat_le 1000000 (length before)) what.TooMany many in
         let fresh : list_any (bytes_eq r.id) (trips.trip_ids before) ≡ false =
-        passes (list_any (bytes_eq r.id) (trips.trip_ids before)) what.DuplicateId new in
+        clean (list_any (bytes_eq r.id) (trips.trip_ids before)) what.DuplicateId new in
         let there : is_none (position (bytes_eq r.route) ids) ≡ false =
-        passes (is_none (position (bytes_eq r.route) ids)) what.UnknownRoute known in
+        clean (is_none (position (bytes_eq r.route) ids)) what.UnknownRoute known in
         record {
           few = let some : length before < 1000000 = grind (arith, nat_tests) in
               omega (arith, some, length-append before (r ∷ []));
@@ -197,12 +187,12 @@ rows_departing ids bytes =
         let no_start : List What = when (is_none (time_of r.start)) what.BadTime in
         let no_end : List What = when (is_none (time_of r.end)) what.BadTime in
         let no_headway : List What = when (is_none (frequencies.headway_of r.headway)) what.BadNumber in
-        let (a, some) = none_both (unnamed ++ unknown ++ no_start ++ no_end) no_headway none in
-        let (b, last) = none_both (unnamed ++ unknown ++ no_start) no_end a in
-        let (_, first) = none_both (unnamed ++ unknown) no_start b in
+        let (a, some) = no_parts (unnamed ++ unknown ++ no_start ++ no_end) no_headway none in
+        let (b, last) = no_parts (unnamed ++ unknown ++ no_start) no_end a in
+        let (_, first) = no_parts (unnamed ++ unknown) no_start b in
         All-push (λ (x : frequencies.FrequencyRow). IsDeparting (frequencies.departures_at x)) before r are
         (record {
-          start = time r.start (passes (is_none (time_of r.start)) what.BadTime first);
-          end = time r.end (passes (is_none (time_of r.end)) what.BadTime last);
-          headway = headway r.headway (passes (is_none (frequencies.headway_of r.headway)) what.BadNumber some);
+          start = time r.start (clean (is_none (time_of r.start)) what.BadTime first);
+          end = time r.end (clean (is_none (time_of r.end)) what.BadTime last);
+          headway = headway r.headway (clean (is_none (frequencies.headway_of r.headway)) what.BadNumber some);
         })

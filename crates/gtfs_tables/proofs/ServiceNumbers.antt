@@ -1,9 +1,10 @@
 -- Services that are named one after another: each stands once, keeps its number, and is found.
-use Rattle.std.proofs.Common.{◌≡◌, ◌<◌, ◌≤◌, ◌+◌, ◌∙◌, ◌&&◌, ℕ, Bool, true, false, List, [], ◌∷◌, ◌++◌, Option, Some}
-use Rattle.std.proofs.Common.{None, length, map, position, refl, sym, ap, arith, append_assoc, if◌then◌else◌}
+use Rattle.std.proofs.Common.{◌≡◌, ◌<◌, ◌≤◌, ◌+◌, ◌∙◌, ℕ, Bool, true, false, List, [], ◌∷◌, ◌++◌, Option, Some, None}
+use Rattle.std.proofs.Common.{length, map, position, refl, sym, ap, arith, append_assoc, if◌then◌else◌}
 use Rattle.std.proofs.lemmas.List.{append-nil, length-append}
 use Rattle.std.proofs.lemmas.List.Elements.{All-cons, All-head, All-nil, All-tail, All-weaker}
 use Rattle.std.proofs.lemmas.List.Folds.{list_any-append}
+use Rattle.std.proofs.lemmas.Bool.{and_parts}
 use Rattle.std.specs.Prelude.{All, unwrap_or}
 use Rattle.std.specs.List.{IsDistinct, list_all, list_any}
 use Rattle.std.specs.Str.{bytes_eq}
@@ -72,14 +73,11 @@ known_below ids id known = by (position (bytes_eq id) ids) refl
     by (Some n) e = (found (bytes_eq id) ids n e).0
 
 -- what a test says of all, it says of each
-all_pass : {R : Type 0} (test : R → Bool) (xs : List R) → list_all test xs ≡ true → All (λ x. test x ≡ true) xs
+pub all_pass : {R : Type 0} (test : R → Bool) (xs : List R) → list_all test xs ≡ true → All (λ x. test x ≡ true) xs
 all_pass test [] h = All-nil (λ x. test x ≡ true)
-all_pass test (x ∷ xs) h = by (test x) refl h (λ e. all_pass test xs e)
-  where
-    by : (b : Bool) → test x ≡ b → (b && list_all test xs) ≡ true →
-        (list_all test xs ≡ true → All (λ y. test y ≡ true) xs) → All (λ y. test y ≡ true) (x ∷ xs)
-    by true e rest more = All-cons (λ y. test y ≡ true) x xs e (more rest)
-    by false e rest more = cc rest
+all_pass test (x ∷ xs) h =
+    let (here, rest) = and_parts (test x) (list_all test xs) h in
+    All-cons (λ y. test y ≡ true) x xs here (all_pass test xs rest)
 
 -- rows, each with an identifier
 module _ {R : Type 0} (key : R → List ℕ) where

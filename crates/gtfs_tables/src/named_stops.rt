@@ -1,6 +1,6 @@
 //! The files of an analysis whose records name stops of the feed, each once: the origins, the opportunities.
 
-ghost use Rattle.std.specs.Prelude.{◌≡◌, ◌<◌, ◌≤◌, ◌∷◌, ◌++◌, [], ℕ, List, false, length, map, replicate, IfOk, IfErr};
+ghost use Rattle.std.specs.Prelude.{◌≡◌, ◌<◌, ◌≤◌, ◌∷◌, ◌++◌, [], ℕ, List, false, length, map, IfOk, IfErr};
 ghost use Rattle.csv.specs.Records.{fields_of};
 ghost use Rattle.table_records.specs.Faults.{IsFirst, Tells};
 ghost use Rattle.table_records.specs.declared.limits.TheConstants.{MOST_BYTES};

@@ -1,7 +1,7 @@
 //! A feed from the bytes of its files.
 //! A big value is held in a box, which is dropped in one step: else the prover follows each drop at every way out.
 
-ghost use Rattle.std.specs.Prelude.{◌≡◌, ◌≤◌, ◌++◌, [], All, length, map, IfOk, IfErr};
+ghost use Rattle.std.specs.Prelude.{◌≡◌, ◌≤◌, [], All, length, map, IfOk, IfErr};
 ghost use Rattle.timetable.specs.declared.limits.TheConstants.{MOST_STOPS, MOST_TRIPS};
 ghost use Rattle.table_records.specs.Faults.{Tells};
 ghost use Rattle.table_files.specs.Transfers.{IsLink};

@@ -1,10 +1,9 @@
 -- Texts that are put out in parts, the last of them perhaps cut off.
-use Rattle.std.proofs.Common.{◌≡◌, ◌<◌, ◌+◌, ℕ, zero, suc, List, ◌++◌, Option, Some, None, inl, inr, ◌⊎◌, take}
-use Rattle.std.proofs.Common.{drop, sym, ap, ◌∙◌, subst, arith, append_assoc, take-append-drop, length}
-use Rattle.std.proofs.Common.{length-drop}
+use Rattle.std.proofs.Common.{◌≡◌, ◌<◌, ◌+◌, ℕ, zero, suc, List, ◌++◌, Option, inl, inr, ◌⊎◌, take, drop, sym, ap, ◌∙◌}
+use Rattle.std.proofs.Common.{subst, arith, append_assoc, take-append-drop, length, length-drop}
 use Rattle.std.proofs.KnownBytes.{Appends-trans}
 use Rattle.std.proofs.lemmas.Bool.{cases_order}
-use Rattle.std.specs.Io.KnownBytes.{Appends, Keeps}
+use Rattle.std.specs.Io.KnownBytes.{Appends}
 use Rattle.matrix_text.specs.Prefixes.{PutsPart, PutsPrefix}
 use Rattle.matrix_text.specs.Text.{texts_below}
 
@@ -23,13 +22,6 @@ part_out a b text n few h =
       some_left = omega (arith, length-drop n text);
       appended = h;
     }
-
--- and still are where a write that failed kept them
-pub kept_out : (a b c : Option (List ℕ)) (text : List ℕ) → Appends a b text → Keeps b c → Appends a c text
-kept_out None b c text p q = tt
-kept_out (Some x) None c text p q = absurd p
-kept_out (Some x) (Some y) None text p q = absurd q
-kept_out (Some x) (Some y) (Some z) text p q = q ∙ p
 
 -- a prefix of the first part
 pub cut_before : (a b : Option (List ℕ)) (first more : List ℕ) → PutsPrefix a b first → PutsPrefix a b (first ++ more)

@@ -1,5 +1,5 @@
 //! A line of the text, formed whole before it is put out.
-ghost use Rattle.std.specs.Prelude.{◌≡◌, ◌++◌, ◌∷◌, [], decimal, OnOk, OnErr, IfOk, IfErr};
+ghost use Rattle.std.specs.Prelude.{◌≡◌, ◌++◌, ◌∷◌, [], OnOk, OnErr, IfOk, IfErr};
 ghost use Rattle.std.specs.Io.KnownBytes.{Appends};
 ghost use Rattle.csv.specs.Records.{fields_of};
 ghost use Rattle.matrix_text.specs.Text.{line_text, limit_field, cell_field};

@@ -51,12 +51,8 @@ pub row_lowered : {A : Type 0} (labels : A → List ℕ) (rows : List A) (s l : 
     (lane l (labels_in labels (set rows s low)))
 row_lowered labels rows s l row low bound is within lower =
     let xs = labels_in labels rows in
-    let long : s < length (lane l xs) = omega (
-      arith,
-      length-map xs (λ w. slice_index w l),
-      length-map rows labels,
-      within,
-    ) in
+    let long : s < length (lane l xs) =
+    omega (arith, length-map xs (λ w. slice_index w l), length-map rows labels, within) in
     rw (
       map-set labels rows s low,
       map-set (λ w. slice_index w l) xs s (labels low),

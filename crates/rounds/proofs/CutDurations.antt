@@ -79,32 +79,24 @@ module _ (n : Net) (ok : IsNet n) (base cap origin since depart : ℕ) (counted 
       IsReached n (record { stop = origin; time = depart }) k p (arrival ride ready p + base)
   cut_found reached =
       reached_whole n ok base cap origin since depart counted live k p (arrival ride ready p)
-      (arrival_found_to cap (cut_net base cap n) (record {
-        stop = origin;
-        time = since;
-      }) k ride ready s p there reached) reached
+      (arrival_found_to cap (cut_net base cap n)
+      (record { stop = origin; time = since }) k ride ready s p there reached) reached
 
   -- and none ends earlier than any label
   pub cut_least : (time : ℕ) → IsReached n (record { stop = origin; time = depart }) k p time →
       arrival ride ready p + base ≤ time
   cut_least time r =
-      let early = not_before n ok (record { stop = origin; time = depart }) r.legs (record {
-        stop = p;
-        time = time;
-      }) r.journey in
-      let fits = arrival_fits_to cap (cut_net base cap n) (record {
-        stop = origin;
-        time = since;
-      }) k ride ready s p there in
+      let early = not_before n ok (record { stop = origin; time = depart }) r.legs
+      (record { stop = p; time = time }) r.journey in
+      let fits = arrival_fits_to cap (cut_net base cap n) (record { stop = origin; time = since }) k ride
+      ready s p there in
       let x = time - base in
       let same : x + base ≡ time = omega arith in
       elim (cases_lt x cap) [
         | inl l ↦
             let whole = subst (IsReached n (record { stop = origin; time = depart }) k p) (sym same) r in
-            let low = arrival_least_to cap (cut_net base cap n) (record {
-              stop = origin;
-              time = since;
-            }) k ride ready s p there x
+            let low = arrival_least_to cap (cut_net base cap n) (record { stop = origin; time = since }) k ride
+            ready s p there x
             (reached_cut n ok base cap origin since depart counted live k p x whole l) in
             omega arith
         | inr g ↦ omega arith
@@ -119,10 +111,8 @@ module _ (n : Net) (ok : IsNet n) (base cap origin since depart : ℕ) (counted 
   pub cut_since : arrival ride ready p < cap → since ≤ arrival ride ready p
   cut_since reached =
       let r = cut_found reached in
-      let early = not_before n ok (record { stop = origin; time = depart }) r.legs (record {
-        stop = p;
-        time = arrival ride ready p + base;
-      }) r.journey in
+      let early = not_before n ok (record { stop = origin; time = depart }) r.legs
+      (record { stop = p; time = arrival ride ready p + base }) r.journey in
       omega arith
 
   -- a label below never tells the least duration
@@ -141,10 +131,8 @@ module _ (n : Net) (ok : IsNet n) (base cap origin since depart : ℕ) (counted 
       (arrival ride ready p ≡ cap → (time : ℕ) → IsReached n (record { stop = origin; time = depart }) k p time →
       time < base + cap) → IsLeastOrNever (IsDuration n origin depart k p) new
   cut_duration new small never later late =
-      let fits = arrival_fits_to cap (cut_net base cap n) (record {
-        stop = origin;
-        time = since;
-      }) k ride ready s p there in
+      let fits = arrival_fits_to cap (cut_net base cap n) (record { stop = origin; time = since }) k ride
+      ready s p there in
       elim (cases_lt (arrival ride ready p) cap) [
         | inl l ↦
             let e = later (λ z. omega arith) in
@@ -161,8 +149,6 @@ module _ (n : Net) (ok : IsNet n) (base cap origin since depart : ℕ) (counted 
   -- who leaves at never, or later, reaches nothing before it
   pub cut_dead : cap ≤ since → arrival ride ready p ≡ cap
   cut_dead late =
-      let fits = arrival_fits_to cap (cut_net base cap n) (record {
-        stop = origin;
-        time = since;
-      }) k ride ready s p there in
+      let fits = arrival_fits_to cap (cut_net base cap n) (record { stop = origin; time = since }) k ride
+      ready s p there in
       elim (cases_lt (arrival ride ready p) cap) [ inl l ↦ let low = cut_since l in omega arith | inr g ↦ omega arith ]

@@ -44,10 +44,8 @@ module _ (n : Net) (ok : IsNet n) (base cap origin since depart : ℕ) (counted 
       let shift = ready_shift before a.stop x in (
         record { stop = a.stop; time = x },
         led,
-        cut_ride base cap n.trips trip k i (record {
-          stop = a.stop;
-          time = x;
-        }) (ready_at (cut_net base cap n) before (record { stop = a.stop; time = x }))
+        cut_ride base cap n.trips trip k i (record { stop = a.stop; time = x })
+            (ready_at (cut_net base cap n) before (record { stop = a.stop; time = x }))
             (record { stop = p; time = time }) (record {
               t = r.t;
               on = r.on;
@@ -83,15 +81,11 @@ module _ (n : Net) (ok : IsNet n) (base cap origin since depart : ℕ) (counted 
       let t : time + base ≡ depart = omega (arith, at) in
       rw (stop, t) refl
   journey_whole (Ride trip k i ∷ before) p time (a, jo, r) soon =
-      let early = not_before (cut_net base cap n) (cut_net_is_net base cap n ok) (record {
-        stop = origin;
-        time = since;
-      }) before a jo in
+      let early = not_before (cut_net base cap n) (cut_net_is_net base cap n ok)
+      (record { stop = origin; time = since }) before a jo in
       let ready = not_early (cut_net base cap n) (record { stop = origin; time = since }) before a in
-      let c = from_cut base cap n.trips trip k i a (ready_at (cut_net base cap n) before a) (record {
-        stop = p;
-        time = time;
-      }) r in
+      let c = from_cut base cap n.trips trip k i a (ready_at (cut_net base cap n) before a)
+      (record { stop = p; time = time }) r in
       let rise = ride_rises n ok trip k i c.t c.on c.off c.runs c.ride in
       let end : time ≡ cut base cap c.off.arrive = ap (λ (v : Whereabouts). v.time) c.there in
       let led = journey_whole before a.stop a.time jo (omega (arith, c.in_time, end)) in
@@ -135,10 +129,7 @@ module _ (n : Net) (ok : IsNet n) (base cap origin since depart : ℕ) (counted 
   pub reached_whole : (k p time : ℕ) → IsReached (cut_net base cap n) (record {
     stop = origin;
     time = since;
-  }) k p time → time < cap → IsReached n (record {
-    stop = origin;
-    time = depart;
-  }) k p (time + base)
+  }) k p time → time < cap → IsReached n (record { stop = origin; time = depart }) k p (time + base)
   reached_whole k p time r soon = record {
     legs = r.legs;
     journey = journey_whole r.legs p time r.journey soon;
@@ -168,10 +159,8 @@ module _ (n : Net) (ok : IsNet n) (base cap origin since depart : ℕ) (counted 
   pub ready_cut : (k p time : ℕ) → IsReady n (record { stop = origin; time = depart }) k p (time + base) → time < cap →
       IsReady (cut_net base cap n) (record { stop = origin; time = since }) k p time
   ready_cut k p time r soon =
-      let early = not_before n ok (record { stop = origin; time = depart }) r.legs (record {
-        stop = p;
-        time = r.end;
-      }) r.journey in
+      let early = not_before n ok (record { stop = origin; time = depart }) r.legs
+      (record { stop = p; time = r.end }) r.journey in
       let ready = not_early n (record { stop = origin; time = depart }) r.legs (record { stop = p; time = r.end }) in
       let x = r.end - base in
       let same : x + base ≡ r.end = omega arith in
@@ -187,10 +176,8 @@ module _ (n : Net) (ok : IsNet n) (base cap origin since depart : ℕ) (counted 
   pub ready_whole : (k p time : ℕ) → IsReady (cut_net base cap n) (record { stop = origin; time = since }) k p time →
       time < cap → IsReady n (record { stop = origin; time = depart }) k p (time + base)
   ready_whole k p time r soon =
-      let ready = not_early (cut_net base cap n) (record { stop = origin; time = since }) r.legs (record {
-        stop = p;
-        time = r.end;
-      }) in
+      let ready = not_early (cut_net base cap n) (record { stop = origin; time = since }) r.legs
+      (record { stop = p; time = r.end }) in
       let shift = ready_shift r.legs p r.end in
       record {
         legs = r.legs;

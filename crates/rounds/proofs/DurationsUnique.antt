@@ -1,8 +1,9 @@
 -- The durations of a window are unique.
 use Rattle.std.proofs.Common.{◌≡◌, ◌<◌, ◌+◌, ◌*◌, ◌/◌, ◌%◌, ℕ, zero, suc, List, Option, Some, None, length}
 use Rattle.std.proofs.Common.{slice_index_or, refl, sym, ap, ◌∙◌, subst, arith}
-use Rattle.std.proofs.Math.Nat.{div-lt_iff_lt-mul, mod-lt, div-add-mod, mul_comm}
+use Rattle.std.proofs.Math.Nat.{div-lt_iff_lt-mul, mod-lt}
 use Rattle.std.proofs.lemmas.List.{ext_get_or}
+use Rattle.std.proofs.lemmas.Nat.{div-add-mod'}
 use Rattle.timetable.proofs.LeastUnique.{least_unique}
 use Rattle.timetable.specs.Journeys.{IsDuration}
 use Rattle.rounds.specs.Table.{at, IsLeastOrNone}
@@ -20,9 +21,6 @@ some_minute : (stops minutes i : ℕ) → i < stops * minutes → 0 < minutes
 some_minute stops zero i h = omega arith
 some_minute stops (suc minutes) i h = omega arith
 
-joined : (minutes i : ℕ) → (i / minutes) * minutes + i % minutes ≡ i
-joined minutes i = let e = div-add-mod i minutes in let f = mul_comm (i / minutes) minutes in omega arith
-
 -- lists that agree at each stop and minute are equal
 same_positions : (stops minutes : ℕ) (xs ys : List (Option ℕ)) → length xs ≡ stops * minutes →
     length ys ≡ stops * minutes
@@ -33,7 +31,7 @@ same_positions stops minutes xs ys long too agree =
     let low : i < stops * minutes = omega (arith, long) in
     let some = some_minute stops minutes i low in
     let there = agree (i / minutes) (i % minutes) ((div-lt_iff_lt-mul some).1 low) (mod-lt i some) in
-    subst (λ k. slice_index_or xs k None ≡ slice_index_or ys k None) (joined minutes i) there)
+    subst (λ k. slice_index_or xs k None ≡ slice_index_or ys k None) (div-add-mod' i minutes) there)
 
 pub durations_unique : DurationsAreUnique
 durations_unique n origin w k s t a b =

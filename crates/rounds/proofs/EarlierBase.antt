@@ -90,14 +90,10 @@ module _ (n : Net) (ok : IsNet n) (cap origin depart base since base' since' : �
     ≡ depart) (live : (0 < since) ⊎ (base ≡ 0)) (counted' : since' + base' ≡ depart) (live' : (0 < since')
     ⊎ (base' ≡ 0)) (below : base' ≤ base) where
   pub rebased : (k : ℕ) (ride ready : List ℕ) →
-      LaneStateTo cap (cut_net base cap n) (record {
-        stop = origin;
-        time = since;
-      }) k (map (cut base cap) ride) (map (cut base cap) ready) →
-      LaneStateTo cap (cut_net base' cap n) (record {
-        stop = origin;
-        time = since';
-      }) k (map (cut base' cap) ride) (map (cut base' cap) ready)
+      LaneStateTo cap (cut_net base cap n) (record { stop = origin; time = since }) k (map (cut base cap) ride)
+      (map (cut base cap) ready) →
+      LaneStateTo cap (cut_net base' cap n) (record { stop = origin; time = since' }) k (map (cut base' cap) ride)
+      (map (cut base' cap) ready)
   rebased k ride ready s =
       let o : Whereabouts = record { stop = origin; time = depart } in
       let oc : Whereabouts = record { stop = origin; time = since } in

@@ -90,10 +90,8 @@ module _ (n : Net) (ok : IsNet n) (o : Whereabouts) where
       let early = not_before before a j in
       let on = r.in_time in
       let late = not_early n o before a in
-      let rise = rises n ok trip r.t r.runs (i - k - 1) k i r.on r.off (omega (
-        arith,
-        r.ride.later,
-      )) r.ride.from r.ride.to in
+      let rise = rises n ok trip r.t r.runs (i - k - 1) k i r.on r.off (omega (arith, r.ride.later))
+      r.ride.from r.ride.to in
       rw r.there (omega arith)
   not_before (Walk ∷ before) b (a, j, no_walk, w) =
       let early = not_before before a j in

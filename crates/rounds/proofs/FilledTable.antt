@@ -1,8 +1,7 @@
 -- A table of labels, in which the lanes of a stop stand side by side, is filled minute by minute or batch by batch.
-use Rattle.std.proofs.Common.{◌≡◌, ℕ, ◌+◌, ◌*◌, ◌<◌, ◌==◌, ◌/◌, ◌%◌, inl, inr, Bool, false, List, [], length}
-use Rattle.std.proofs.Common.{get_or}
-use Rattle.std.proofs.Common.{replicate, slice_index, ap, ◌∙◌, set, Some, None, if◌then◌else◌, sym, subst, arith}
-use Rattle.std.proofs.lemmas.Bool.{cases_eq}
+use Rattle.std.proofs.Common.{◌≡◌, ℕ, ◌+◌, ◌*◌, ◌<◌, ◌/◌, ◌%◌, inl, inr, Bool, List, [], length, get_or, replicate}
+use Rattle.std.proofs.Common.{slice_index, ap, ◌∙◌, set, Some, None, if◌then◌else◌, sym, subst, arith}
+use Rattle.std.proofs.lemmas.Bool.{cases_eq, ne_eqb}
 use Rattle.std.proofs.lemmas.List.{get_or-set_same, get_or-set_other, get_or-replicate}
 use Rattle.timetable.specs.declared.least.TheConstants.{NEVER}
 use Rattle.timetable.specs.Least.{IsLeastOrNever}
@@ -25,19 +24,14 @@ placed labels v w p b room = get_or-set_same labels (p * w + b) v [] room
 pub apart : (labels : List (List ℕ)) (v : List ℕ) (w p b q k : ℕ) → b < w → k < w → ((q ≡ p) × (k ≡ b) → ⊥) →
     get_or (set labels (p * w + b) v) (q * w + k) [] ≡ get_or labels (q * w + k) []
 apart labels v w p b q k l r ne =
-    get_or-set_other labels (p * w + b) (q * w + k) v [] (λ e. ne (
-      one_stop w q p k b r l e,
-      one_minute_of w q p k b r l e,
-    ))
-
-differs : (x : ℕ) → (x ≡ NEVER → ⊥) → (x == NEVER) ≡ false
-differs x d = grind (arith, d)
+    get_or-set_other labels (p * w + b) (q * w + k) v []
+    (λ e. ne (one_stop w q p k b r l e, one_minute_of w q p k b r l e))
 
 -- a label that is least, or NEVER, tells a duration that is least, or none
 pub known_least : (P : ℕ → Type 0) (x : ℕ) → IsLeastOrNever P x → IsLeastOrNone P (known_of x)
 known_least P x is = elim (cases_eq x NEVER) [
   | inl e ↦ subst (λ (y : ℕ). IsLeastOrNone P (known_of y)) (sym e) (is.none e)
-  | inr d ↦ subst (λ (b : Bool). IsLeastOrNone P (if b then None else Some x)) (sym (differs x d))
+  | inr d ↦ subst (λ (b : Bool). IsLeastOrNone P (if b then None else Some x)) (sym (ne_eqb x NEVER d))
       (record { holds = is.holds d; least = is.least })
 ]
 

@@ -29,10 +29,8 @@ module _ (never : ℕ) (n : Net) (ok : IsNet n) where
   late_ride : (trip : ℕ) (t : Trip) → slice_get n.trips trip ≡ Some t → (ready : List ℕ) (p x : ℕ) →
       (c : Carries ready t p x) → slice_index ready c.on.stop.0 ≤ x
   late_ride trip t runs ready p x c =
-      let rise = rises n ok trip t runs (c.i - c.j - 1) c.j c.i c.on c.off (omega (
-        arith,
-        c.ride.later,
-      )) c.ride.from c.ride.to in
+      let rise = rises n ok trip t runs (c.i - c.j - 1) c.j c.i c.on c.off (omega (arith, c.ride.later))
+      c.ride.from c.ride.to in
       omega (arith, c.in_time, c.time)
 
   -- after a round, no trip has anything lower to offer from the labels that it began with

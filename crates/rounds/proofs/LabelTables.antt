@@ -115,10 +115,8 @@ module _ (never : ℕ) where
     ridden_on k ready ready_len table trip t runs p time below ca =
         let event : IsEvent n.trips trip ca.j ca.on = (t, runs, ca.ride.from) in
         let stop = event_stop n ok trip ca.j ca.on event in
-        let rise = rises n ok trip t runs (ca.i - ca.j - 1) ca.j ca.i ca.on ca.off (omega (
-          arith,
-          ca.ride.later,
-        )) ca.ride.from ca.ride.to in
+        let rise = rises n ok trip t runs (ca.i - ca.j - 1) ca.j ca.i ca.on ca.off (omega (arith, ca.ride.later))
+        ca.ride.from ca.ride.to in
         let soon : slice_index ready ca.on.stop.0 < never = omega (arith, ca.in_time, ca.time) in
         let r = table.found ca.on.stop.0 (omega (arith, stop)) (λ h. omega arith) in
         record {
@@ -404,7 +402,5 @@ module _ (never : ℕ) where
                       ]
                     ];
               })
-              (λ p time l r. let e = no_earlier_transfer r.legs p r.end (omega (
-                arith,
-                low.same_length,
-              )) r.journey r.few in omega (arith, e, r.ready))
+              (λ p time l r. let e = no_earlier_transfer r.legs p r.end
+              (omega (arith, low.same_length)) r.journey r.few in omega (arith, e, r.ready))

@@ -17,8 +17,7 @@ use Rattle.rounds.specs.declared.window.Window.{Window}
 use Rattle.rounds.specs.Window.{departure, AreDurations}
 use Rattle.rounds.specs.Batches.{AreLabels}
 use Rattle.rounds.specs.Table.{IsDurationTable, AreLanes, table_of, durations_of, batches_of, label_in, label_of}
-use Rattle.rounds.specs.Table.{known_of, at}
-use Rattle.rounds.specs.Table.{IsLeastOrNone}
+use Rattle.rounds.specs.Table.{known_of, at, IsLeastOrNone}
 use Rattle.rounds.proofs.FilledTable.{known_least}
 
 length_durations : (stops minutes : ℕ) (numbers : List ℕ) (labels : List (List ℕ)) →
@@ -63,10 +62,7 @@ part_at labels minutes p m all r =
     let w = batches_of minutes in
     let b : m / 16 < w = omega (arith, r) in
     let one : get_or (slice_range labels (p * w) (p * w + w)) (m / 16) [] ≡ get_or labels (p * w + m / 16) [] =
-    rw (
-      between_is labels (p * w) (p * w + w),
-      get_or-drop (p * w) (take (p * w + w) labels) (m / 16) [],
-    )
+    rw (between_is labels (p * w) (p * w + w), get_or-drop (p * w) (take (p * w + w) labels) (m / 16) [])
     (get_or-take (p * w + w) labels (p * w + m / 16) [] (omega (arith, b))) in
     ap (λ (row : List ℕ). slice_index row (m % 16)) one
 

@@ -29,10 +29,8 @@ module _ (n : Net) (ok : IsNet n) (base cap origin time depart : ℕ) (counted :
   -- no stop is reached before the departure
   pub lane_since : arrival ride ready p ≢ cap → time ≤ arrival ride ready p
   lane_since reached =
-      let fits = arrival_fits_to cap (cut_net base cap n) (record {
-        stop = origin;
-        time = time;
-      }) rides ride ready state p there in
+      let fits = arrival_fits_to cap (cut_net base cap n) (record { stop = origin; time = time }) rides ride ready
+      state p there in
       cut_since n ok base cap origin time depart counted live rides ride ready state p there (omega (arith, reached))
 
   -- and counted from it, the label is the least duration, if nobody gets there too late for labels
@@ -73,17 +71,13 @@ cleared_bounds stops base cap kept e fits =
 
 pub kept_never : (n : Net) (ok : IsNet n) (base cap origin later rides : ℕ) (kept : List Kept) →
     All (λ x. (x.ride.items ≡ replicate n.stops NEVER) × (x.ready.items ≡ replicate n.stops NEVER)) kept →
-    base + cap ≤ NEVER → later ≡ NEVER → AreKept cap base n (record {
-      stop = origin;
-      time = cut base cap later;
-    }) rides kept
+    base + cap ≤ NEVER → later ≡ NEVER → AreKept cap base n
+    (record { stop = origin; time = cut base cap later }) rides kept
 kept_never n ok base cap origin later rides kept none fits late k x few here =
     let e = all_at (λ (x : Kept). (x.ride.items ≡ replicate n.stops NEVER)
     × (x.ready.items ≡ replicate n.stops NEVER)) kept k x none here in
-    never_state cap (cut_net base cap n) (cut_net_is_net base cap n ok) (record {
-      stop = origin;
-      time = cut base cap later;
-    }) (omega arith) k (bounds_in base cap x.ride.items)
+    never_state cap (cut_net base cap n) (cut_net_is_net base cap n ok)
+    (record { stop = origin; time = cut base cap later }) (omega arith) k (bounds_in base cap x.ride.items)
     (bounds_in base cap x.ready.items)
     (cleared_bounds n.stops base cap x.ride.items e.0 fits)
     (cleared_bounds n.stops base cap x.ready.items e.1 fits)
@@ -103,8 +97,5 @@ kept_rebased n ok base cap origin time later rides kept early within before shor
     let live : (0 < time) ⊎ (base ≡ 0) = elim before [ inl none ↦ inr none | inr l ↦ inl (omega arith) ] in
     let live' : (0 < cut sooner cap later) ⊎ (sooner ≡ 0) =
     elim at.live [ inl none ↦ inr none | inr l ↦ inl (omega (arith, l.0)) ] in
-    rebased n ok cap origin later base time sooner (cut sooner cap later) (omega arith) live (omega (
-      arith,
-      near,
-      below,
-    )) live' below k x.ride.items x.ready.items (states k x few here)
+    rebased n ok cap origin later base time sooner (cut sooner cap later) (omega arith) live
+    (omega (arith, near, below)) live' below k x.ride.items x.ready.items (states k x few here)

@@ -17,10 +17,8 @@ sooner_reached : (n : Net) (origin first k p depart time : ℕ) → first ≤ de
     IsReached n (record { stop = origin; time = depart }) k p time →
     (x : ℕ) × IsReached n (record { stop = origin; time = first }) k p x × (x ≤ time)
 sooner_reached n origin first k p depart time le r =
-    let s = same_legs n (record { stop = origin; time = first }) (record {
-      stop = origin;
-      time = depart;
-    }) refl le r.legs (record { stop = p; time = time }) r.journey in
+    let s = same_legs n (record { stop = origin; time = first }) (record { stop = origin; time = depart }) refl le
+    r.legs (record { stop = p; time = time }) r.journey in
     (s.0, record { legs = r.legs; journey = s.1; few = r.few }, s.2)
 
 module _ (n : Net) (ok : IsNet n) (origin first k : ℕ) (ride ready : List ℕ)

@@ -28,11 +28,8 @@ module _ (n : Net) (o other : Whereabouts) (here : o.stop ≡ other.stop) where
   stayed : (a : Whereabouts) → a ≡ o → (a.time ≡ o.time) × (a.stop ≡ o.stop)
       × (record { stop = a.stop; time = other.time } ≡ other)
   stayed a j =
-      let stop : a.stop ≡ o.stop = ap (λ (v : Whereabouts). v.stop) j in (
-        ap (λ (v : Whereabouts). v.time) j,
-        stop,
-        ap (λ (s : ℕ). record { stop = s; time = other.time }) (stop ∙ here),
-      )
+      let stop : a.stop ≡ o.stop = ap (λ (v : Whereabouts). v.stop) j in
+      (ap (λ (v : Whereabouts). v.time) j, stop, ap (λ (s : ℕ). record { stop = s; time = other.time }) (stop ∙ here))
 
   pub unridden : (legs : List Leg) (a : Whereabouts) → rides legs ≡ 0 → Journey n o legs a → Unridden n o other legs a
   unridden [] a none j =
@@ -213,10 +210,8 @@ module _ (n : Net) (origin sooner later : ℕ) (le : sooner ≤ later) (none : M
           let u = unridden n first last refl r.legs (record { stop = p; time = time }) alone r.journey in
           inl (u.seconds, u.near, u.time)
       | inr more ↦
-          let e = same_ends n first last refl none r.legs (record { stop = p; time = time }) r.journey (omega (
-            arith,
-            more,
-          )) in
+          let e = same_ends n first last refl none r.legs (record { stop = p; time = time }) r.journey
+          (omega (arith, more)) in
           let count = e.same in
           let few = r.few in
           inr (record {
@@ -258,10 +253,8 @@ module _ (n : Net) (origin sooner later : ℕ) (le : sooner ≤ later) (none : M
       -- no duration is as great as never
       below_never : (d : ℕ) → IsDuration n origin sooner k p d → d < NEVER
       below_never d r =
-          let b = in_bounds n ok first there (omega (arith, le, axis)) r.legs (record {
-            stop = p;
-            time = sooner + d;
-          }) r.journey in
+          let b = in_bounds n ok first there (omega (arith, le, axis)) r.legs
+          (record { stop = p; time = sooner + d }) r.journey in
           let soon : sooner + d < END_OF_AXIS + MOST_FOOT_SECONDS = b.1 in
           omega (arith, soon)
 
@@ -270,10 +263,8 @@ module _ (n : Net) (origin sooner later : ℕ) (le : sooner ≤ later) (none : M
       by_ride d ride =
           let legs : IsReached n last k p (sooner + d) =
           record { legs = ride.legs; journey = ride.journey; few = ride.few } in
-          let after : later ≤ sooner + d = not_before n ok last ride.legs (record {
-            stop = p;
-            time = sooner + d;
-          }) ride.journey in
+          let after : later ≤ sooner + d = not_before n ok last ride.legs (record { stop = p; time = sooner + d })
+          ride.journey in
           let same : sooner + d ≡ later + (sooner + d - later) = omega (arith, after) in
           let lasts : IsDuration n origin later k p (sooner + d - later) =
           subst (IsReached n last k p) same legs in

@@ -3,8 +3,7 @@ use Rattle.std.specs.Prelude.{◌≡◌, ℕ, ◌+◌, ◌*◌, ◌<◌, ◌≤�
 use Rattle.timetable.specs.declared.least.TheConstants.{NEVER}
 use Rattle.timetable.specs.Networks.{Net}
 use Rattle.timetable.specs.Least.{IsLeastOrNever}
-use Rattle.timetable.specs.Journeys.{IsDuration}
-use Rattle.timetable.specs.Journeys.{Whereabouts}
+use Rattle.timetable.specs.Journeys.{IsDuration, Whereabouts}
 use Rattle.rounds.specs.declared.bounded.Batch.{Batch}
 use Rattle.rounds.specs.declared.bounded.Kept.{Kept}
 use Rattle.rounds.specs.declared.query.Query.{Query}

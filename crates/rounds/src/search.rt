@@ -189,7 +189,7 @@ fn by_narrow(
     ensures told { IfOk result (λ told. IsTrue told → AreFound query.entry labels.new) }
 {
     query.network.known();
-    workspace.fit(alloc, query.network.stops() as usize, query.lines)?;
+    workspace.fit(alloc, query.network.stops(), query.lines)?;
     run_window(alloc, query, workspace, wide, last, labels)
 }
 
@@ -206,7 +206,7 @@ fn by_wide(
     ensures { OnOk result (AreFound query.entry labels.new) }
 {
     query.network.known();
-    workspace.fit(alloc, query.network.stops() as usize, query.lines)?;
+    workspace.fit(alloc, query.network.stops(), query.lines)?;
     let mut none = Workspace::new(alloc);
     run_window(alloc, query, workspace, &mut none, last, labels)?;
     Ok(())

@@ -1,5 +1,5 @@
 //! The minutes of a window that aren't searched: which they are, and their durations.
-ghost use Rattle.std.specs.Prelude.{◌≡◌, ◌*◌, ◌<◌, IfOk, OnOk};
+ghost use Rattle.std.specs.Prelude.{◌*◌, ◌<◌, IfOk, OnOk};
 ghost use Rattle.useful_minutes.specs.Plan.{IsPlan, SkipsNothing};
 ghost use Rattle.trip_lanes.specs.declared.lanes.TheConstants.{LANES};
 ghost use Rattle.rounds.specs.Batches.{AreLabels, ArePacked};

@@ -87,7 +87,7 @@ pub(crate) fn leave_out_unreached(
     ensures falls { (p : ℕ) → slice_index last.new p ≤ slice_index last.old p }
 {
     query.network.known();
-    workspace.fit(alloc, query.network.stops() as usize, query.lines)?;
+    workspace.fit(alloc, query.network.stops(), query.lines)?;
     run_first(alloc, query, workspace)?;
     let ride = workspace.ride.as_slice();
     let ready = workspace.ready.labels.as_slice();

@@ -13,7 +13,7 @@ pub(crate) struct Readiness<R> {
     pub labels: Vec<R>,
     /// Whether a label fell.
     pub fallen: Vec<bool>,
-    /// The labels before the first fall; of the stops in `fallen` alone.
+    /// The labels before the first fall; of the stops in `fallen` alone. The last row is of no stop.
     pub before: Vec<R>,
 }
 
@@ -48,20 +48,16 @@ impl<R: LaneLabels> Workspace<R> {
     }
 
     /// Makes each list anew whose size isn't that of the network's stops or lines.
-    pub(crate) fn fit(
-        &mut self,
-        alloc: Global,
-        stops: usize,
-        lines: &Lines,
-    ) -> Result<(), AllocError>
+    pub(crate) fn fit(&mut self, alloc: Global, stops: u32, lines: &Lines) -> Result<(), AllocError>
         ensures { OnOk result (IsWorkspaceFor stops lines.now self.new) }
     {
-        make_labels(alloc, &mut self.ride, stops)?;
-        make_labels(alloc, &mut self.ready.labels, stops)?;
-        make_labels(alloc, &mut self.ready.before, stops)?;
-        make_falls(alloc, &mut self.falls, stops)?;
-        make_marks(alloc, &mut self.marked, stops)?;
-        make_marks(alloc, &mut self.ready.fallen, stops)?;
+        let count = stops as usize;
+        make_labels(alloc, &mut self.ride, count)?;
+        make_labels(alloc, &mut self.ready.labels, count)?;
+        make_labels(alloc, &mut self.ready.before, count + 1)?;
+        make_falls(alloc, &mut self.falls, count)?;
+        make_marks(alloc, &mut self.marked, count)?;
+        make_marks(alloc, &mut self.ready.fallen, count)?;
         make_due(alloc, &mut self.due, lines.count())
     }
 }

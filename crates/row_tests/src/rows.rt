@@ -82,50 +82,17 @@ fn gives_one(alloc: Global, study: &Study, access: u64, cells: [Option<u32>; 3])
     gives(alloc, study, (1, 1, 3), &[(0, 0, access, cells)])
 }
 
-/// What the tests want of studies over some networks.
-#[derive(Clone, Copy)]
-enum Wanted {
-    Shares,
-    SharesAtOnce,
-    Reach,
-    Destinations,
-    OneRide,
-    EveryRow,
-    OneRow,
-    WholeDay,
-    NoOrigins,
-    Limits,
-    Rising,
-    Opportunities,
-    Origins,
-    Scenarios,
-}
-
-/// Whether the networks of these scenarios' rides give what is wanted.
-fn are_right(alloc: Global, scenarios: &[&[Ride]], wanted: Wanted) -> bool {
+/// Whether this holds of the networks of these scenarios' rides.
+fn are_right<F: Fn(Global, &[Network]) -> bool>(
+    alloc: Global,
+    scenarios: &[&[Ride]],
+    holds: F,
+) -> bool
+    requires { F.IsAlwaysCallable holds }
+{
     match networks_of(alloc, scenarios) {
-        Ok(networks) => give(alloc, &networks, wanted),
+        Ok(networks) => holds(alloc, networks.as_slice()),
         Err(_) => false,
-    }
-}
-
-/// Whether networks give what is wanted.
-fn give(alloc: Global, networks: &[Network], wanted: Wanted) -> bool {
-    match wanted {
-        Wanted::Shares => give_the_nearest_rank(alloc, networks),
-        Wanted::SharesAtOnce => give_each_share_and_limit(alloc, networks),
-        Wanted::Reach => sum_the_opportunities(alloc, networks),
-        Wanted::Destinations => give_the_destinations(alloc, networks),
-        Wanted::OneRide => count_rides(alloc, networks),
-        Wanted::EveryRow => give_every_row(alloc, networks),
-        Wanted::OneRow => give_one_row(alloc, networks),
-        Wanted::WholeDay => give_the_row_of_a_day(alloc, networks),
-        Wanted::NoOrigins => give_no_rows(alloc, networks),
-        Wanted::Limits => fit_up_to_each_limit(networks),
-        Wanted::Rising => fit_with_theirs(networks),
-        Wanted::Opportunities => fit_an_opportunity_for_each_stop(networks),
-        Wanted::Origins => fit_up_to_the_most_origins(alloc, networks),
-        Wanted::Scenarios => fit_sixteen_scenarios(networks),
     }
 }
 
@@ -161,7 +128,7 @@ fn give_the_nearest_rank(alloc: Global, networks: &[Network]) -> bool {
 /// `one_thread`.
 #[test]
 fn gives_the_nearest_rank_of_the_minutes(rt: HostRuntime) {
-    assert!(rt; are_right(rt.alloc(), BASE, Wanted::Shares));
+    assert!(rt; are_right(rt.alloc(), BASE, give_the_nearest_rank));
 }
 
 /// What the shares 1, 25, 50, 75 and 100 of the minutes from 07:58 to 08:01 give from A, within 700 and within 1,800
@@ -205,7 +172,7 @@ fn give_each_share_and_limit(alloc: Global, networks: &[Network]) -> bool {
 /// `one_thread`.
 #[test]
 fn gives_each_share_its_cells_and_each_limit_its_sum(rt: HostRuntime) {
-    assert!(rt; are_right(rt.alloc(), BASE, Wanted::SharesAtOnce));
+    assert!(rt; are_right(rt.alloc(), BASE, give_each_share_and_limit));
 }
 
 /// The access, of what is reached within a limit.
@@ -227,7 +194,7 @@ fn sum_the_opportunities(alloc: Global, networks: &[Network]) -> bool {
 /// `one_thread`.
 #[test]
 fn sums_the_opportunities_within_reach(rt: HostRuntime) {
-    assert!(rt; are_right(rt.alloc(), BASE, Wanted::Reach));
+    assert!(rt; are_right(rt.alloc(), BASE, sum_the_opportunities));
 }
 
 /// Whether the first row of a matrix has these access sums and cells for each of its shares.
@@ -288,7 +255,7 @@ fn give_the_destinations(alloc: Global, networks: &[Network]) -> bool {
 /// `one_thread`.
 #[test]
 fn gives_the_cells_of_the_destinations_and_the_access_of_all_stops(rt: HostRuntime) {
-    assert!(rt; are_right(rt.alloc(), BASE, Wanted::Destinations));
+    assert!(rt; are_right(rt.alloc(), BASE, give_the_destinations));
 }
 
 /// One ride, where C wants two.
@@ -303,7 +270,7 @@ fn count_rides(alloc: Global, networks: &[Network]) -> bool {
 /// `one_thread`.
 #[test]
 fn counts_rides(rt: HostRuntime) {
-    assert!(rt; are_right(rt.alloc(), BASE, Wanted::OneRide));
+    assert!(rt; are_right(rt.alloc(), BASE, count_rides));
 }
 
 /// The feed as it is, without its second trip, and with its first trip 300 seconds late.
@@ -339,7 +306,7 @@ fn give_every_row(alloc: Global, networks: &[Network]) -> bool {
 /// The rows of all three scenarios, from each stop.
 #[test]
 fn has_a_row_per_scenario_and_origin(rt: HostRuntime) {
-    assert!(rt; are_right(rt.alloc(), EDITED, Wanted::EveryRow));
+    assert!(rt; are_right(rt.alloc(), EDITED, give_every_row));
 }
 
 /// The row of the second scenario and the second origin, by itself.
@@ -363,7 +330,7 @@ fn give_one_row(alloc: Global, networks: &[Network]) -> bool {
 #[test]
 fn gives_one_row_alone(rt: HostRuntime) {
     let scenarios: [&[Ride]; 2] = [&[FIRST, SECOND], &[FIRST]];
-    assert!(rt; are_right(rt.alloc(), &scenarios, Wanted::OneRow));
+    assert!(rt; are_right(rt.alloc(), &scenarios, give_one_row));
 }
 
 /// The row of all minutes of a day, of which 481 leave before the only trips: a third of them is 476 minutes.
@@ -379,7 +346,7 @@ fn give_the_row_of_a_day(alloc: Global, networks: &[Network]) -> bool {
 /// `one_thread`.
 #[test]
 fn gives_the_row_of_a_days_window(rt: HostRuntime) {
-    assert!(rt; are_right(rt.alloc(), BASE, Wanted::WholeDay));
+    assert!(rt; are_right(rt.alloc(), BASE, give_the_row_of_a_day));
 }
 
 /// No rows without origins, and none without scenarios.
@@ -394,7 +361,7 @@ fn give_no_rows(alloc: Global, networks: &[Network]) -> bool {
 /// `one_thread`.
 #[test]
 fn has_no_rows_without_origins_or_scenarios(rt: HostRuntime) {
-    assert!(rt; are_right(rt.alloc(), BASE, Wanted::NoOrigins));
+    assert!(rt; are_right(rt.alloc(), BASE, give_no_rows));
 }
 
 /// Whether the study that asks for so many minutes and rides fits.
@@ -417,7 +384,7 @@ fn fits_to(networks: &[Network], destinations: &[StopNo]) -> bool {
 }
 
 /// Rides, minutes, origins and destinations, at each limit and past it.
-fn fit_up_to_each_limit(networks: &[Network]) -> bool {
+fn fit_up_to_each_limit(_alloc: Global, networks: &[Network]) -> bool {
     let fits = |minutes, rides| fits_with(networks, minutes, rides);
     let rides = !fits(1, 0) && fits(1, 1) && fits(1, 8) && !fits(1, 9);
     let minutes = !fits(0, 1) && fits(1_440, 1) && !fits(1_441, 1);
@@ -429,7 +396,7 @@ fn fit_up_to_each_limit(networks: &[Network]) -> bool {
 /// `one_thread`.
 #[test]
 fn fits_up_to_each_limit(rt: HostRuntime) {
-    assert!(rt; are_right(rt.alloc(), BASE, Wanted::Limits));
+    assert!(rt; are_right(rt.alloc(), BASE, fit_up_to_each_limit));
 }
 
 /// Shares, and whether a study fits with them.
@@ -456,7 +423,7 @@ const LIMITS: [(&[u32], bool); 6] = [
 ];
 
 /// Each of the shares, and each of the limits.
-fn fit_with_theirs(networks: &[Network]) -> bool {
+fn fit_with_theirs(_alloc: Global, networks: &[Network]) -> bool {
     for (shares, want) in &SHARES {
         let study = Study {
             shares,
@@ -481,11 +448,11 @@ fn fit_with_theirs(networks: &[Network]) -> bool {
 /// `one_thread`.
 #[test]
 fn fits_with_one_to_eight_rising_shares_and_limits(rt: HostRuntime) {
-    assert!(rt; are_right(rt.alloc(), BASE, Wanted::Rising));
+    assert!(rt; are_right(rt.alloc(), BASE, fit_with_theirs));
 }
 
 /// One opportunity too few, and one too many.
-fn fit_an_opportunity_for_each_stop(networks: &[Network]) -> bool {
+fn fit_an_opportunity_for_each_stop(_alloc: Global, networks: &[Network]) -> bool {
     let few = Study {
         opportunities: &[1, 1],
         ..study_of(networks)
@@ -500,7 +467,7 @@ fn fit_an_opportunity_for_each_stop(networks: &[Network]) -> bool {
 /// `one_thread`.
 #[test]
 fn fits_an_opportunity_for_each_stop(rt: HostRuntime) {
-    assert!(rt; are_right(rt.alloc(), BASE, Wanted::Opportunities));
+    assert!(rt; are_right(rt.alloc(), BASE, fit_an_opportunity_for_each_stop));
 }
 
 /// Whether the study of some networks fits with these origins.
@@ -523,11 +490,11 @@ fn fit_up_to_the_most_origins(alloc: Global, networks: &[Network]) -> bool {
 /// `one_thread`.
 #[test]
 fn fits_up_to_the_most_origins(rt: HostRuntime) {
-    assert!(rt; are_right(rt.alloc(), BASE, Wanted::Origins));
+    assert!(rt; are_right(rt.alloc(), BASE, fit_up_to_the_most_origins));
 }
 
 /// Sixteen of seventeen scenarios, and all.
-fn fit_sixteen_scenarios(networks: &[Network]) -> bool {
+fn fit_sixteen_scenarios(_alloc: Global, networks: &[Network]) -> bool {
     networks.len() == 17 && study_of(&networks[..16]).fits() && !study_of(networks).fits()
 }
 
@@ -535,7 +502,7 @@ fn fit_sixteen_scenarios(networks: &[Network]) -> bool {
 #[test]
 fn fits_sixteen_scenarios(rt: HostRuntime) {
     let one: &[Ride] = &[FIRST];
-    assert!(rt; are_right(rt.alloc(), &[one; 17], Wanted::Scenarios));
+    assert!(rt; are_right(rt.alloc(), &[one; 17], fit_sixteen_scenarios));
 }
 
 /// `Gate::after`.

@@ -1,6 +1,6 @@
 -- The faults of a record of a scenario's file, each explained by a check.
 use Rattle.std.proofs.Common.{◌≡◌, ◌++◌, ℕ, Bool, true, false, List, [], ◌∷◌, Option, Some, None, inl, inr, refl}
-use Rattle.std.specs.Prelude.{All, is_none, slice_get}
+use Rattle.std.specs.Prelude.{is_none, slice_get}
 use Rattle.std.proofs.lemmas.List.Elements.{All-append, All-cons, All-nil}
 use Rattle.table_records.specs.Columns.{column, field}
 use Rattle.gtfs_tables.specs.Feed.{FeedData}

@@ -10,6 +10,8 @@ use Rattle.std.specs.List.{cons_option}
 use Rattle.std.specs.Str.{bytes_eq}
 use Rattle.table_records.specs.Reading.{lacks_column}
 use Rattle.table_records.specs.Table.{records_of}
+use Rattle.table_records.proofs.RowFacts.{first_map}
+use Rattle.table_records.proofs.FaultFacts.{first_append}
 use Rattle.gtfs_tables.specs.Feed.{FeedData}
 use Rattle.gtfs_tables.specs.declared.trip.FeedTrip.{FeedTrip}
 use Rattle.scenarios.specs.EditRows.{EditRow, edit_by, edit_of, route_no, row_at, row_faults, seconds_of, trip_no}
@@ -23,10 +25,6 @@ use Rattle.scenarios.specs.declared.edits.Edit.{Edit}
 use Rattle.scenarios.specs.declared.edits.Edit.TheVariants as edit
 use Rattle.scenarios.specs.declared.faults.ScenarioFault.{ScenarioFault}
 use Rattle.scenarios.specs.declared.faults.ScenarioWhat.{ScenarioWhat}
-
-first_append : {X : Type 0} (xs ys : List X) (x : X) → slice_get xs 0 ≡ Some x → slice_get (xs ++ ys) 0 ≡ Some x
-first_append [] ys x h = cc h
-first_append (z ∷ xs) ys x h = h
 
 tells_more : (e : ScenarioFault) (xs ys : List ScenarioFault) → Tells e xs → Tells e (xs ++ ys)
 tells_more e xs ys t = elim t [ inl m ↦ inl m | inr h ↦ inr (first_append xs ys e h) ]
@@ -107,11 +105,6 @@ record_passes feed xs r at is none h =
     let here : row_faults feed (length xs + 2) r ≡ [] = subst (λ n. row_faults feed n r ≡ []) is h in
     from_append feed 2 xs (r ∷ []) ∙ rw (none, here) refl
 
-first_map : {X Y : Type 0} (f : X → Y) (xs : List X) (x : X) → slice_get xs 0 ≡ Some x →
-    slice_get (map f xs) 0 ≡ Some (f x)
-first_map f [] x h = cc h
-first_map f (y ∷ ys) x h = ap (λ z. Some (f z)) (same_Some y x h)
-
 -- the first fault of a record is that of all records, where those before it have none
 pub record_refused : (feed : FeedData) (xs ys : List EditRow) (r : EditRow) (at : ℕ) (w : ScenarioWhat) →
     at ≡ length xs + 2 → faults_from feed 2 xs ≡ [] → slice_get (row_faults feed at r) 0 ≡ Some w
@@ -121,10 +114,8 @@ record_refused feed xs ys r at w is none h =
     let here : slice_get (row_faults feed n r) 0 ≡ Some w =
     subst (λ m. slice_get (row_faults feed m r) 0 ≡ Some w) is h in
     let first = first_append (map (λ w. record { at = n; what = w }) (row_faults feed n r))
-    (faults_from feed (n + 1) ys) (record {
-      at = n;
-      what = w;
-    }) (first_map (λ (w : ScenarioWhat). record { at = n; what = w }) (row_faults feed n r) w here) in
+    (faults_from feed (n + 1) ys) (record { at = n; what = w })
+    (first_map (λ (w : ScenarioWhat). record { at = n; what = w }) (row_faults feed n r) w here) in
     let all : faults_from feed 2 (xs ++ r ∷ ys) ≡ faults_from feed n (r ∷ ys) =
     from_append feed 2 xs (r ∷ ys) ∙ ap (λ (l : List ScenarioFault). l ++ faults_from feed n (r ∷ ys)) none in
     inr (rw is (ap (λ (l : List ScenarioFault). slice_get l 0) all ∙ first))

@@ -1,5 +1,5 @@
 -- The trip of a run that a scenario keeps.
-use Rattle.std.proofs.Common.{◌≡◌, ◌∙◌, ◌&&◌, ℕ, ℤ, Bool, true, false, [], ◌∷◌, Option, Some, length, refl}
+use Rattle.std.proofs.Common.{◌≡◌, ◌∙◌, ℕ, ℤ, true, [], ◌∷◌, Option, Some, length, refl}
 use Rattle.std.specs.List.{list_all}
 use Rattle.std.proofs.lemmas.List.{length-map}
 use Rattle.gtfs_tables.specs.declared.trip.FeedTrip.{FeedTrip}
@@ -21,7 +21,3 @@ module _ (scenario : ScenarioData) (run : Run) (o : Option FeedTrip) (t : FeedTr
 
   pub stays_by_events : stays scenario run o ≡ list_all (is_event_on_axis (sum_of scenario run)) (instance_events t)
   stays_by_events = rw (is, keeps) refl
-
-pub and_false : (a b : Bool) → b ≡ false → (a && b) ≡ false
-and_false true b h = h
-and_false false b h = refl

@@ -2,7 +2,7 @@ mod ShiftBounds
 mod MovedEvents
 mod KeptRuns
 mod RunsTooLarge
-mod MovedTrips
+pub mod MovedTrips
 mod AddedShift
 mod MovedRanges
 mod RowRanges

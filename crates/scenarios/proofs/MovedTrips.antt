@@ -1,7 +1,7 @@
 -- What is true of the trips of runs: stops in range, times that never fall, and all of them on the axis.
 use Rattle.std.proofs.Common.{◌≡◌, ◌∙◌, ◌<◌, ◌≤◌, ◌+◌, ◌&&◌, ℕ, zero, suc, ℤ, pos, negsuc, ◌+ℤ◌, Bool, true, false, not}
-use Rattle.std.proofs.Common.{if◌then◌else◌, List, [], ◌∷◌, Option, Some, None, length, map, get_or, ap, sym, subst}
-use Rattle.std.proofs.Common.{refl, arith}
+use Rattle.std.proofs.Common.{if◌then◌else◌, List, [], ◌∷◌, Option, Some, None, length, map, get_or, ap, sym, refl}
+use Rattle.std.proofs.Common.{arith}
 use Rattle.std.specs.Prelude.{All, int_lt, nat_le, option_map, slice_get, sum_by, unsigned_abs}
 use Rattle.std.specs.List.{list_all}
 use Rattle.std.proofs.lemmas.Bool.Decides.{nat_tests}
@@ -9,7 +9,7 @@ use Rattle.std.proofs.lemmas.Int.{ints}
 use Rattle.std.proofs.lemmas.List.{length-map}
 use Rattle.std.proofs.lemmas.List.Elements.{All-cons, All-head, All-map, All-nil, All-tail, All-weaker}
 use Rattle.std.proofs.lemmas.Option.{same_Some, slice_get-get_or, slice_get-map, slice_get_within}
-use Rattle.std.proofs.lemmas.Option.{get_or_from_slice_get}
+use Rattle.std.proofs.lemmas.Bool.{and_parts}
 use Rattle.timetable.specs.Trips.{EventsRise}
 use Rattle.timetable.specs.Faults.{IsNetFault}
 use Rattle.timetable.specs.Footpaths.{FeetData}
@@ -21,25 +21,16 @@ use Rattle.timetable.specs.declared.trips.Event.{Event}
 use Rattle.timetable.specs.declared.trips.Trip.{Trip}
 use Rattle.gtfs_tables.specs.declared.trip.FeedTrip.{FeedTrip}
 use Rattle.gtfs_tables.specs.Feed.{FeedData, IsFeed}
+use Rattle.gtfs_tables.proofs.ServiceNumbers.{all_pass}
 use Rattle.service_days.specs.Instances.{has_rows, instance_events}
 use Rattle.service_days.specs.declared.run.Run.{Run}
 use Rattle.service_days.proofs.RunFacts.{all_parts}
+use Rattle.service_days.proofs.RunLists.{all_at}
 use Rattle.scenarios.specs.Edits.{keeps_of}
 use Rattle.scenarios.specs.Networks.{are_few, are_on_axis, fits, is_event_on_axis, is_on_axis, kept_trip, moved_event}
 use Rattle.scenarios.specs.Networks.{moved_time, moved_trip, stays, sum_of, trips_of}
 use Rattle.scenarios.specs.Moving.{arriving}
 use Rattle.scenarios.specs.ScenarioData.{ScenarioData}
-
-pub all_at : {A : Type 0} (P : A → Type 0) (xs : List A) (i : ℕ) (x : A) → slice_get xs i ≡ Some x → All P xs → P x
-all_at P xs i x at all = subst P (get_or_from_slice_get xs i x x at) (all i x (slice_get_within xs i x at))
-
-both : (a b : Bool) → (a && b) ≡ true → (a ≡ true) × (b ≡ true)
-both true b h = (refl, h)
-both false b h = cc h
-
-all_true : {A : Type 0} (p : A → Bool) (xs : List A) → list_all p xs ≡ true → All (λ x. p x ≡ true) xs
-all_true p [] h = All-nil (λ x. p x ≡ true)
-all_true p (x ∷ xs) h = let b = both (p x) (list_all p xs) h in All-cons (λ x. p x ≡ true) x xs b.0 (all_true p xs b.1)
 
 -- a moved time that is on the axis
 on_axis : (z : ℤ) (time : ℕ) → is_on_axis z time ≡ true →
@@ -48,7 +39,7 @@ on_axis z time h = moved (pos time +ℤ z) h
   where
     moved : (s : ℤ) → (not (int_lt s (pos 0)) && int_lt s (pos END_OF_AXIS)) ≡ true →
         (pos (unsigned_abs s) ≡ s) × (unsigned_abs s < END_OF_AXIS)
-    moved (pos n) h = let b = both (not (int_lt (pos n) (pos 0))) (int_lt (pos n) (pos END_OF_AXIS)) h in
+    moved (pos n) h = let b = and_parts (not (int_lt (pos n) (pos 0))) (int_lt (pos n) (pos END_OF_AXIS)) h in
         (refl, grind (arith, nat_tests, b.1))
     moved (negsuc n) h = cc h
 
@@ -70,19 +61,19 @@ at_map g xs k e at =
 rises_moved : (z : ℤ) (xs : List Event) → EventsRise xs → list_all (is_event_on_axis z) xs ≡ true →
     EventsRise (map (moved_event z) xs)
 rises_moved z xs rise on =
-    let fits : All (λ x. is_event_on_axis z x ≡ true) xs = all_true (is_event_on_axis z) xs on in
+    let fits : All (λ x. is_event_on_axis z x ≡ true) xs = all_pass (is_event_on_axis z) xs on in
     record {
       stays = All-map (λ e. e.arrive ≤ e.depart) (moved_event z) xs
           (λ k d lt.
           let x = get_or xs k d in
-          let b = both (is_on_axis z x.arrive) (is_on_axis z x.depart) (fits k d lt) in
+          let b = and_parts (is_on_axis z x.arrive) (is_on_axis z x.depart) (fits k d lt) in
           no_later z x.arrive x.depart b.0 b.1 (rise.stays k d lt));
       moves = λ k e f at next.
           let x = at_map (moved_event z) xs k e at in
           let y = at_map (moved_event z) xs (k + 1) f next in
-          let bx = both (is_on_axis z x.0.arrive) (is_on_axis z x.0.depart)
+          let bx = and_parts (is_on_axis z x.0.arrive) (is_on_axis z x.0.depart)
           (all_at (λ x. is_event_on_axis z x ≡ true) xs k x.0 x.1 fits) in
-          let by = both (is_on_axis z y.0.arrive) (is_on_axis z y.0.depart)
+          let by = and_parts (is_on_axis z y.0.arrive) (is_on_axis z y.0.depart)
           (all_at (λ x. is_event_on_axis z x ≡ true) xs (k + 1) y.0 y.1 fits) in
           let le = no_later z x.0.depart y.0.arrive bx.1 by.0 (rise.moves k x.0 y.0 x.1 y.1) in
           let ex = ap (λ (e : Event). e.depart) x.2 in
@@ -95,10 +86,8 @@ pub rises_arriving : (departs : Bool) (events : List Event) → EventsRise event
 rises_arriving false events rise = rise
 rises_arriving true [] rise = rise
 rises_arriving true (first ∷ events) rise = record {
-  stays = All-cons (λ e. e.arrive ≤ e.depart) (record first {
-    arrive =
-        first.depart;
-  }) events (omega arith) (All-tail (λ e. e.arrive ≤ e.depart) first events rise.stays);
+  stays = All-cons (λ e. e.arrive ≤ e.depart) (record first { arrive = first.depart }) events (omega arith)
+      (All-tail (λ e. e.arrive ≤ e.depart) first events rise.stays);
   moves = λ k e f at next. moved k e f at next;
 }
   where
@@ -121,10 +110,8 @@ at_stops : (stops : ℕ) (departs : Bool) (events : List Event) → All (λ e. e
 at_stops stops false events h = h
 at_stops stops true [] h = h
 at_stops stops true (first ∷ events) h =
-    All-cons (λ e. e.stop.0 < stops) (record first {
-      arrive =
-          first.depart;
-    }) events (All-head (λ e. e.stop.0 < stops) first events h)
+    All-cons (λ e. e.stop.0 < stops) (record first { arrive = first.depart }) events
+    (All-head (λ e. e.stop.0 < stops) first events h)
     (All-tail (λ e. e.stop.0 < stops) first events h)
 
 -- a trip that a network can have
@@ -149,8 +136,8 @@ fit_trip feed is scenario run t at on =
           (all_at (λ (t : FeedTrip). EventsRise t.events) feed.trips run.trip t at is.rise)) on;
       axis = All-map (λ e. e.depart < END_OF_AXIS) (moved_event z) events
           (All-weaker (λ e. is_event_on_axis z e ≡ true) (λ e. moved_time z e.depart < END_OF_AXIS)
-          (λ e h. (on_axis z e.depart (both (is_on_axis z e.arrive) (is_on_axis z e.depart) h).1).1) events
-          (all_true (is_event_on_axis z) events on));
+          (λ e h. (on_axis z e.depart (and_parts (is_on_axis z e.arrive) (is_on_axis z e.depart) h).1).1) events
+          (all_pass (is_event_on_axis z) events on));
     }
 
 fit_run : (feed : FeedData) → IsFeed feed → (scenario : ScenarioData) (run : Run) (o : Option FeedTrip) →
@@ -175,9 +162,9 @@ fit_trips feed is scenario runs h =
     (All-weaker (λ run. stays scenario run (slice_get feed.trips run.trip)
     ≡ true) (λ run. All (IsFit (length feed.stops)) (kept_trip scenario run (slice_get feed.trips run.trip)))
     (λ run on. fit_run feed is scenario run (slice_get feed.trips run.trip) refl on) runs
-    (all_true (λ run. stays scenario run (slice_get feed.trips run.trip)) runs h))
+    (all_pass (λ run. stays scenario run (slice_get feed.trips run.trip)) runs h))
 
-only_memory : (e : NetFault) (n : Net) → NetInRange n → All (λ t. EventsRise t.events) n.trips → NetWithin n.trips →
+pub only_memory : (e : NetFault) (n : Net) → NetInRange n → All (λ t. EventsRise t.events) n.trips → NetWithin n.trips →
     IsNetFault e n → e ≡ Memory
 only_memory StopRange n range rise within h = absurd (h range)
 only_memory TimesGoBack n range rise within h = absurd (h.1 rise)
@@ -191,10 +178,10 @@ pub memory_is_left : (feed : FeedData) → IsFeed feed →
     trips ≡ trips_of feed scenario runs
     → (e : NetFault) → IsNetFault e (record { stops = stops; trips = trips; feet = feet }) → e ≡ Memory
 memory_is_left feed is scenario runs feet stops trips same lists fit made e h =
-    let f = both (are_few (trips_of feed scenario runs)) (are_on_axis feed scenario runs) fit in
+    let f = and_parts (are_few (trips_of feed scenario runs)) (are_on_axis feed scenario runs) fit in
     let few : are_few trips ≡ true = ap are_few made ∙ f.0 in
-    let counts = both (nat_le (length trips) MOST_TRIPS) (nat_le (sum_by (λ t. length t.events) trips) MOST_EVENTS) few
-    in
+    let counts = and_parts (nat_le (length trips) MOST_TRIPS)
+    (nat_le (sum_by (λ t. length t.events) trips) MOST_EVENTS) few in
     let good : All (IsFit stops) trips = rw (same, made) (fit_trips feed is scenario runs f.1) in
     only_memory e (record { stops = stops; trips = trips; feet = feet })
     (record {

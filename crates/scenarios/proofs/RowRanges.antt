@@ -6,13 +6,13 @@ use Rattle.std.proofs.lemmas.Bool.Decides.{nat_tests}
 use Rattle.std.proofs.lemmas.List.Folds.{list_all-map, list_all_at}
 use Rattle.std.proofs.lemmas.List.FromFn.{get_or-range_with_len, length-range_with_len}
 use Rattle.std.proofs.lemmas.List.Elements.{All-head, All-tail}
+use Rattle.std.proofs.lemmas.Bool.{and_right}
 use Rattle.std.specs.Prelude.{All}
 use Rattle.std.specs.List.{filter, list_all, range_with_len}
 use Rattle.gtfs_tables.specs.Feed.{IsDeparting}
 use Rattle.table_files.specs.declared.frequencies.Departures.{Departures}
 use Rattle.service_days.specs.Instances.{departures_of}
 use Rattle.scenarios.specs.ShiftedTimes.{begins_in_range, ends_in_range, is_departure_in_range}
-use Rattle.scenarios.proofs.KeptRuns.{and_false}
 use Rattle.scenarios.proofs.MovedRanges.{begins_later, ends_earlier}
 
 pub list_all-filter : {A : Type 0} (p q : A → Bool) (xs : List A) →
@@ -124,7 +124,7 @@ module _ (z : ℤ) (span : ℕ) (row : Departures) (is : IsDeparting row) where
         let (at, within, below) = last_time in
         let ends : ends_in_range z (time number + span) ≡ false = ap (λ t. ends_in_range z (t + span)) (sym at) ∙ he in
         sym (one_below passes row.end number below (before number (omega arith)
-        ∙ and_false (begins_in_range z (time number)) (ends_in_range z (time number + span)) ends))
+        ∙ and_right (begins_in_range z (time number)) (ends_in_range z (time number + span)) ends))
 
     -- its first and its last departure decide
     pub row_by_ends : (begins_in_range z row.start && ends_in_range z (last + span))

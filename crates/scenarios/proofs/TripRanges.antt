@@ -8,6 +8,7 @@ use Rattle.std.proofs.lemmas.Int.{ints}
 use Rattle.std.proofs.lemmas.List.Elements.{All-from_get_or, All-get_or}
 use Rattle.std.proofs.lemmas.List.Folds.{list_all-append, list_all-map, list_all_at}
 use Rattle.std.proofs.lemmas.Option.{slice_get-get_or}
+use Rattle.std.proofs.lemmas.Bool.{and_right}
 use Rattle.timetable.specs.Trips.{EventsRise}
 use Rattle.timetable.specs.declared.trips.Event.{Event}
 use Rattle.table_files.specs.declared.frequencies.Departures.{Departures}
@@ -17,7 +18,6 @@ use Rattle.service_days.specs.declared.run.Run.{Run}
 use Rattle.scenarios.specs.ShiftedTimes.{begins_in_range, ends_in_range, is_departure_in_range, is_event_in_range}
 use Rattle.scenarios.specs.ShiftedTimes.{is_trip_in_range, stays_in_range}
 use Rattle.scenarios.specs.declared.edits.TheConstants.{END_OF_TIMES}
-use Rattle.scenarios.proofs.KeptRuns.{and_false}
 use Rattle.scenarios.proofs.MovedEvents.{same_length}
 use Rattle.scenarios.proofs.MovedTrips.{rises_arriving}
 use Rattle.scenarios.proofs.MovedRanges.{begins_later, ends_earlier}
@@ -79,8 +79,8 @@ module _ (events : List Event) (d : Event) (rise : EventsRise events) where
     by_ends true false hb he =
         let last = get_or events (length events - 1) d in
         sym (list_all_at (is_event_in_range z) events (length events - 1) d (omega arith)
-        (and_false (stays_in_range z last.arrive) (stays_in_range z last.depart)
-        (and_false (begins_in_range z last.depart) (ends_in_range z last.depart) he)))
+        (and_right (stays_in_range z last.arrive) (stays_in_range z last.depart)
+        (and_right (begins_in_range z last.depart) (ends_in_range z last.depart) he)))
 
     pub events_by_ends : (begins_in_range z (get_or events 0 d).arrive && ends_in_range z
         (get_or events (length events - 1) d).depart) ≡ list_all (is_event_in_range z) events

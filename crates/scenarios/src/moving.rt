@@ -1,8 +1,8 @@
 //! The trip of a run: its events at the times of the axis.
-ghost use Rattle.std.specs.Prelude.{◌≡◌, ◌≤ℤ◌, ◌⊎◌, IfErr, IfOk, false, map, neg_ℤ, pos, true};
+ghost use Rattle.std.specs.Prelude.{◌≡◌, ◌⊎◌, IfErr, IfOk, false, map, true};
 ghost use Rattle.std.specs.List.{list_all};
 ghost use Rattle.timetable.specs.declared.faults.NetFault.TheVariants as net_fault;
-ghost use Rattle.service_days.specs.Instances.{has_rows, instance_events};
+ghost use Rattle.service_days.specs.Instances.{instance_events};
 ghost use Rattle.scenarios.specs.Moving.{IsSum, arriving, moved_if_on_axis, time_if_on_axis};
 ghost use Rattle.scenarios.specs.Networks as spec;
 

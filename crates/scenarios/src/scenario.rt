@@ -1,7 +1,5 @@
 //! Scenarios: which trips they keep, and by how much they shift them.
-ghost use Rattle.std.specs.Prelude.{◌≡◌, ◌<◌, ◌≤ℤ◌, [], IfSome, Some, codes, length, neg_ℤ, pos, slice_get};
-ghost use Rattle.std.specs.Prelude.{slice_index_or, false};
-ghost use Rattle.std.specs.Option.{option_map};
+ghost use Rattle.std.specs.Prelude.{◌≡◌, ◌<◌, ◌≤ℤ◌, [], Some, codes, length, neg_ℤ, pos, slice_get, false};
 
 use crate::edits::Edit;
 use crate::name::Name;

@@ -1,4 +1,4 @@
 mod ServiceMarks
-mod RunLists
+pub mod RunLists
 mod DepartureCounts
 pub mod RunFacts

@@ -7,6 +7,7 @@ use Rattle.std.specs.List.{enumerate_from, filter, flat_map, range_with_len}
 use Rattle.std.proofs.lemmas.Bool.Decides.{nat_tests}
 use Rattle.std.proofs.lemmas.Int.{ints}
 use Rattle.std.proofs.lemmas.List.Elements.{All-append, All-cons, All-head, All-map, All-nil, All-tail, All-weaker}
+use Rattle.std.proofs.lemmas.List.Elements.{filter_passes}
 use Rattle.std.proofs.lemmas.List.FromFn.{get_or-enumerate_from, get_or-range_with_len, length-enumerate_from}
 use Rattle.std.proofs.lemmas.List.FromFn.{length-range_with_len}
 use Rattle.std.proofs.lemmas.Option.{slice_get-get_or, slice_get_within}
@@ -27,15 +28,6 @@ pub all_parts : {A B : Type 0} (P : B → Type 0) (f : A → List B) (xs : List 
 all_parts P f [] h = All-nil P
 all_parts P f (x ∷ xs) h = All-append P (f x) (flat_map f xs) (All-head (λ x. All P (f x)) x xs h)
     (all_parts P f xs (All-tail (λ x. All P (f x)) x xs h))
-
-keep_one : {A : Type 0} (p : A → Bool) (x : A) (rest : List A) (b : Bool) → p x ≡ b → All (λ x. p x ≡ true) rest →
-    All (λ x. p x ≡ true) (if b then x ∷ rest else rest)
-keep_one p x rest true h so = All-cons (λ x. p x ≡ true) x rest h so
-keep_one p x rest false h so = so
-
-all_kept : {A : Type 0} (p : A → Bool) (xs : List A) → All (λ x. p x ≡ true) (filter p xs)
-all_kept p [] = All-nil (λ x. p x ≡ true)
-all_kept p (x ∷ xs) = keep_one p x (filter p xs) (p x) refl (all_kept p xs)
 
 -- no event of a trip departs before the first
 departs_later : (events : List Event) → EventsRise events → (k : ℕ) (first e : Event) →
@@ -123,7 +115,7 @@ module _ (feed : FeedData) (is : IsFeed feed) (base : ℕ) (low : base
       All-map (IsRun feed) (departing base n (first_departure t.events)) (departures_of row)
       (All-weaker (λ time. p time ≡ true) (λ time. IsRun feed (departing base n (first_departure t.events) time))
       (λ time h. let l : time < row.end = grind (arith, nat_tests) in departed b time (omega (arith, departs.end)))
-      (departures_of row) (all_kept p (map (λ x. row.start + x * row.headway) (range_with_len 0 row.end))))
+      (departures_of row) (filter_passes p (map (λ x. row.start + x * row.headway) (range_with_len 0 row.end))))
 
 trip_runs : (feed : FeedData) → IsFeed feed → (base : ℕ) → base ≤ LAST_START → (n : ℕ) (t : FeedTrip) →
     slice_get feed.trips n ≡ Some t → All (IsRun feed) (runs_of_trip base n t)
@@ -137,17 +129,12 @@ trip_runs feed is base low n t at = by_events (length t.events == 0) refl
         (All-weaker IsDeparting (λ row. All (IsRun feed) (runs_of_row base n (first_departure t.events) row))
         (row_runs feed is base low n t at has b) t.departures
         (all_at (λ (t : FeedTrip). All IsDeparting t.departures) feed.trips n t at is.departing))
-    by_rows false b has = All-cons (IsRun feed) (record {
-      trip = n;
-      shift = pos base;
-    }) [] (once feed is base low n t at has b) (All-nil (IsRun feed))
+    by_rows false b has = All-cons (IsRun feed) (record { trip = n; shift = pos base }) []
+        (once feed is base low n t at has b) (All-nil (IsRun feed))
 
     by_events : (e : Bool) → (length t.events == 0) ≡ e
         → All (IsRun feed) (if e then [] else (if has_rows t then flat_map
-        (runs_of_row base n (first_departure t.events)) t.departures else record {
-          trip = n;
-          shift = pos base;
-        } ∷ []))
+        (runs_of_row base n (first_departure t.events)) t.departures else record { trip = n; shift = pos base } ∷ []))
     by_events true e = All-nil (IsRun feed)
     by_events false e = by_rows (has_rows t) refl (grind (arith, nat_tests))
 

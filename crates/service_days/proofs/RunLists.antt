@@ -1,11 +1,11 @@
 -- Lists of runs, part by part.
 use Rattle.std.proofs.Common.{◌≡◌, ◌∙◌, ◌<◌, ◌≤◌, ◌+◌, ℕ, Bool, true, false, if◌then◌else◌, List, [], ◌∷◌, ◌++◌, take}
 use Rattle.std.proofs.Common.{length, get_or, sym, ap, subst, refl, arith, append_assoc, length-append}
-use Rattle.std.proofs.lemmas.List.{append-nil, take_all, take_more}
+use Rattle.std.proofs.lemmas.List.{append-nil, take_all, take_more, get_or_default}
 use Rattle.std.proofs.lemmas.List.Folds.{length-flat_map-take}
 use Rattle.std.proofs.lemmas.List.FromFn.{get_or-enumerate_from, get_or-range_with_len}
 use Rattle.std.proofs.lemmas.Grind.{flat_map-append}
-use Rattle.std.proofs.lemmas.Option.{get_or_from_slice_get, same_Some, slice_get-get_or, slice_get_within}
+use Rattle.std.proofs.lemmas.Option.{get_or_from_slice_get, slice_get_within}
 use Rattle.std.specs.Prelude.{All, Some, slice_get}
 use Rattle.std.specs.List.{enumerate_from, flat_map, range_with_len}
 use Rattle.service_days.specs.Instances.{IsListFault}
@@ -63,14 +63,10 @@ number_at n i lt = let zero : 0 + i ≡ i = omega arith in sym (get_or-range_wit
 pub all_at : {A : Type 0} (P : A → Type 0) (xs : List A) (i : ℕ) (x : A) → slice_get xs i ≡ Some x → All P xs → P x
 all_at P xs i x at all = subst P (get_or_from_slice_get xs i x x at) (all i x (slice_get_within xs i x at))
 
-same_at : {A : Type 0} (xs : List A) (i : ℕ) (d e : A) → i < length xs → get_or xs i d ≡ get_or xs i e
-same_at xs i d e lt = same_Some (get_or xs i d) (get_or xs i e) (sym (slice_get-get_or xs i d lt)
-    ∙ slice_get-get_or xs i e lt)
-
 -- what stands at a position
 pub read_at : {A : Type 0} (xs : List A) (i : ℕ) (x d y : A) → i < length xs → x ≡ get_or xs i x → get_or xs i d ≡ y →
     x ≡ y
-read_at xs i x d y lt is so = is ∙ same_at xs i x d lt ∙ so
+read_at xs i x d y lt is so = is ∙ get_or_default xs i x d lt ∙ so
 
 -- a part is left out, or added
 pub left_out : {A : Type 0} (b : Bool) (part runs : List A) → b ≡ false → runs ≡ runs ++ (if b then part else [])

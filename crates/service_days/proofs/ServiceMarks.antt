@@ -1,46 +1,39 @@
 -- Marks of the services that run on a day, row by row.
-use Rattle.std.proofs.Common.{◌≡◌, ◌<◌, ◌+◌, ◌==◌, ◌&&◌, ◌||◌, ◌∙◌, if◌then◌else◌, ℕ, Bool, true, false, not, List, []}
-use Rattle.std.proofs.Common.{◌∷◌, length, map, take, get_or, refl, sym, ap}
+use Rattle.std.proofs.Common.{◌≡◌, ◌<◌, ◌+◌, ◌==◌, ◌&&◌, ◌||◌, ◌∙◌, if◌then◌else◌, ℕ, Bool, true, false, not, List}
+use Rattle.std.proofs.Common.{length, map, take, get_or, refl, sym, ap}
 use Rattle.std.specs.List.{list_any}
 use Rattle.std.proofs.lemmas.List.Folds.{list_any_more}
+use Rattle.std.proofs.lemmas.Bool.{or_right, and_right}
+use Rattle.table_records.proofs.MappedTests.{list_any-map}
 use Rattle.table_files.specs.declared.calendar.CalendarRow.{CalendarRow}
 use Rattle.table_files.specs.declared.calendar_dates.ExceptionRow.{ExceptionRow}
 use Rattle.gtfs_tables.specs.Feed.{FeedData, calendar_data, exception_data}
 use Rattle.service_days.specs.Services.{adds, removes, schedules}
-
-list_any-map : {A B : Type 0} (p : B → Bool) (h : A → B) (xs : List A) →
-    list_any p (map h xs) ≡ list_any (λ x. p (h x)) xs
-list_any-map p h [] = refl
-list_any-map p h (x ∷ xs) = ap (λ b. p (h x) || b) (list_any-map p h xs)
 
 -- what the rows of a feed say of a service on a day
 module _ (feed : FeedData) (service day n : ℕ) (same : n ≡ day) where
   pub added_by_rows : (exceptions : List ExceptionRow) → map exception_data exceptions ≡ feed.exceptions → (a : Bool)
       → a ≡ list_any (λ r. adds service n (exception_data r)) exceptions →
       a ≡ list_any (adds service day) feed.exceptions
-  added_by_rows exceptions e a h = h ∙ sym (list_any-map (adds service n) exception_data exceptions)
+  added_by_rows exceptions e a h = h ∙ sym (list_any-map exception_data (adds service n) exceptions)
       ∙ (λ k. list_any (adds service (same k)) (e k))
 
   pub removed_by_rows : (exceptions : List ExceptionRow) → map exception_data exceptions ≡ feed.exceptions → (a : Bool)
       → a ≡ list_any (λ r. removes service n (exception_data r)) exceptions →
       a ≡ list_any (removes service day) feed.exceptions
-  removed_by_rows exceptions e a h = h ∙ sym (list_any-map (removes service n) exception_data exceptions)
+  removed_by_rows exceptions e a h = h ∙ sym (list_any-map exception_data (removes service n) exceptions)
       ∙ (λ k. list_any (removes service (same k)) (e k))
 
   pub scheduled_by_rows : (calendar : List CalendarRow) → map calendar_data calendar ≡ feed.calendar → (a : Bool)
       → a ≡ list_any (λ r. schedules service n (calendar_data r)) calendar →
       a ≡ list_any (schedules service day) feed.calendar
-  scheduled_by_rows calendar e a h = h ∙ sym (list_any-map (schedules service n) calendar_data calendar)
+  scheduled_by_rows calendar e a h = h ∙ sym (list_any-map calendar_data (schedules service n) calendar)
       ∙ (λ k. list_any (schedules service (same k)) (e k))
 
 -- marked where scheduled, unmarked where removed, marked where added
 marks_are_runs : (a s r before last : Bool) → before ≡ false → last ≡ (((before || s) && not r) || a) →
     last ≡ (a || (s && not r))
-marks_are_runs true s r before last h e = rw h at e ∙ last_true ((false || s) && not r)
-  where
-    last_true : (b : Bool) → (b || true) ≡ true
-    last_true true = refl
-    last_true false = refl
+marks_are_runs true s r before last h e = rw h at e ∙ or_right ((false || s) && not r) true refl
 marks_are_runs false s r before last h e = rw h at e ∙ last_false ((false || s) && not r)
   where
     last_false : (b : Bool) → (b || false) ≡ b
@@ -74,10 +67,6 @@ and_false false b = refl
 and_false true true = refl
 and_false true false = refl
 
-and_no : (a : Bool) → (a && false) ≡ false
-and_no true = refl
-and_no false = refl
-
 -- a mark is set, or kept, by one row more
 set_or : (here start before : Bool) → (if here then true else (start || before)) ≡ (start || (before || (here && true)))
 set_or true start before = or_true start before
@@ -101,7 +90,7 @@ module _ {A : Type 0} (of : A → ℕ) (says : A →
   said h = more ∙ ap (λ b. before || ((of x == s) && b)) h
 
   silent : says x ≡ false → list_any (λ r. (of r == s) && says r) (take (i + 1) rows) ≡ (before || false)
-  silent h = more ∙ ap (λ b. before || ((of x == s) && b)) h ∙ ap (λ b. before || b) (and_no (of x == s))
+  silent h = more ∙ ap (λ b. before || ((of x == s) && b)) h ∙ ap (λ b. before || b) (and_right (of x == s) false refl)
 
   pub marked : (start old new : Bool) → says x ≡ true → new ≡ (if of x == s then true else old)
       → old ≡ (start || list_any (λ r. (of r == s) && says r) (take i rows))

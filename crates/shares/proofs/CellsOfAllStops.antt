@@ -1,6 +1,5 @@
 -- The cells of all stops, named one after the other, are a cell for each stop.
-use Rattle.std.proofs.Common.{◌≡◌, ◌<◌, ◌∙◌, ℕ, List, Option, Some, Vec, Global, length, get_or, map, ap}
-use Rattle.std.proofs.Common.{arith}
+use Rattle.std.proofs.Common.{◌≡◌, ◌<◌, ◌∙◌, ℕ, List, Option, Some, Vec, Global, length, get_or, map, ap, arith}
 use Rattle.std.specs.List.{All, range_with_len, slice_get}
 use Rattle.std.proofs.lemmas.List.FromFn.{get_or-map-range_with_len, length-map-range_with_len}
 use Rattle.std.proofs.lemmas.Option.{slice_get-get_or}

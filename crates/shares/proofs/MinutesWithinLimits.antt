@@ -2,13 +2,12 @@
 use Rattle.std.proofs.Math.ListN.{get_or-append}
 use Rattle.std.proofs.Math.Seq.{get_or-append_seam}
 use Rattle.std.proofs.lemmas.Bool.{cases_lt, cases_eq}
-use Rattle.rounds.specs.Table.{DurationTable}
+use Rattle.rounds.specs.Table.{DurationTable, known_of, IsLeastOrNone}
 use Rattle.std.proofs.Common.{List, [], ◌∷◌, ◌++◌, get_or, length, sym, subst, inl, inr, ◌≡◌, ◌≤◌, ◌<◌, ◌+◌, ℕ, zero}
-use Rattle.std.proofs.Common.{suc, false, Option, Some, None, nat_le, arith, refl, if◌then◌else◌, ◌==◌}
-use Rattle.std.proofs.Common.{ap, ◌∙◌}
+use Rattle.std.proofs.Common.{suc, false, Option, Some, None, nat_le, arith, refl, if◌then◌else◌, ◌==◌, ap, ◌∙◌}
 use Rattle.timetable.specs.declared.least.TheConstants.{NEVER}
-use Rattle.rounds.specs.Table.{known_of, IsLeastOrNone}
 use Rattle.std.proofs.lemmas.Bool.Decides.{nat_tests}
+use Rattle.std.proofs.lemmas.Option.{same_Some}
 use Rattle.timetable.specs.declared.trips.StopNo.{StopNo}
 use Rattle.std.specs.List.{slice_get}
 use Rattle.shares.specs.Opportunities.{counted}
@@ -70,9 +69,6 @@ cells_more t share cs c n same before last p h = elim (cases_lt p n) [
       subst (λ (o : Option ℕ). IsCell t share p o) row (subst (λ (k : ℕ). IsCell t share k c) there last)
 ]
 
-inner : (a b : StopNo) → Some a ≡ Some b → a ≡ b
-inner a b e = cc
-
 -- a cell more, of one more destination
 pub cells_at_more : (t : DurationTable) (share : ℕ) (ds : List StopNo) (cs : List (Option ℕ)) (c : Option ℕ) (k : ℕ)
     (stop : StopNo) → length cs ≡ k
@@ -88,7 +84,7 @@ cells_at_more t share ds cs c k stop same before here last j other h at = elim (
   | inr g ↦
       let there : k ≡ j = omega (arith, h, g) in
       let end : length cs ≡ j = omega (arith, h, g, same) in
-      let is : stop ≡ other = inner stop other (sym here ∙ ap (λ (n : ℕ). slice_get ds n) there ∙ at) in
+      let is : stop ≡ other = same_Some stop other (sym here ∙ ap (λ (n : ℕ). slice_get ds n) there ∙ at) in
       let row : c ≡ get_or (cs ++ c ∷ []) j None =
       subst (λ (n : ℕ). c ≡ get_or (cs ++ c ∷ []) n None) end (sym (get_or-append_seam cs c [] None)) in
       subst (λ (o : Option ℕ). IsCell t share other.0 o) row (subst (λ (p : StopNo). IsCell t share p.0 c) is last)
@@ -98,10 +94,8 @@ cells_at_more t share ds cs c k stop same before here last j other h at = elim (
 pub count_alike : (some others : ℕ → Option ℕ) (d n : ℕ) → ((m : ℕ) → m < n → some m ≡ others m) →
     minutes_within some d n ≡ minutes_within others d n
 count_alike some others d zero h = refl
-count_alike some others d (suc n) h = rw (
-  h n (omega arith),
-  count_alike some others d n (λ m l. h m (omega (arith, l))),
-) refl
+count_alike some others d (suc n) h =
+    rw (h n (omega arith), count_alike some others d n (λ m l. h m (omega (arith, l)))) refl
 
 pub cell_alike : (some others : ℕ → Option ℕ) (n share : ℕ) (c : Option ℕ) → ((m : ℕ) → m < n → some m ≡ others m) →
     IsLeastOrNone (Attains some n share) c → IsLeastOrNone (Attains others n share) c

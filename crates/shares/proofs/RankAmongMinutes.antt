@@ -1,13 +1,14 @@
 -- The place of a share among the minutes, and the lists of cells that grow stop by stop.
 use Rattle.std.proofs.Common.{List, [], ◌∷◌, ◌++◌, get_or, length, take, sym, ap, subst, inl, inr, ◌∙◌, ◌≡◌, ◌≤◌, ◌<◌}
-use Rattle.std.proofs.Common.{◌+◌, ◌*◌, ◌/◌, ◌-◌, ℕ, zero, suc, Option, Some, None, Vec, Global, arith, refl, rules}
+use Rattle.std.proofs.Common.{◌+◌, ◌*◌, ◌/◌, ◌-◌, ℕ, Option, Some, None, Vec, Global, arith, rules}
 use Rattle.std.specs.List.{slice_get}
 use Rattle.std.proofs.Math.Seq.{take-append_seam}
 use Rattle.std.proofs.Math.ListN.{set, drop}
 use Rattle.std.proofs.lemmas.List.{length-append, length-set}
-use Rattle.std.proofs.lemmas.Option.{slice_get_within, slice_get-get_or}
+use Rattle.std.proofs.lemmas.Option.{slice_get_within, slice_get-get_or, same_Some}
 use Rattle.std.proofs.lemmas.Bool.{cases_lt}
 use Rattle.timetable.specs.declared.trips.StopNo.{StopNo}
+use Rattle.timetable.proofs.ListsAddedTo.{set_same, set_other}
 use Rattle.rounds.specs.Table.{DurationTable, at, known_of, label_in}
 use Rattle.shares.specs.Percentiles.{IsCell}
 use Rattle.shares.specs.Ranks.{IsLonger, AreLonger}
@@ -38,23 +39,6 @@ pub record AreBegun (t : DurationTable) (destinations : List StopNo) (shares : L
       (j : ℕ) (stop : StopNo) → j < n → slice_get destinations j ≡ Some stop →
       IsCell t share stop.0 (get_or cells.items j None)
 
-get_set_same : (xs : List (Vec (Option ℕ) Global)) (k : ℕ) (x : Vec (Option ℕ) Global) → k < length xs →
-    slice_get (set xs k x) k ≡ Some x
-get_set_same [] k x h = absurd (omega (arith, h))
-get_set_same (y ∷ ys) zero x h = refl
-get_set_same (y ∷ ys) (suc k) x h = get_set_same ys k x (omega (arith, h))
-
-get_set_other : (xs : List (Vec (Option ℕ) Global)) (j k : ℕ) (x : Vec (Option ℕ) Global) → (j ≡ k → ⊥) →
-    slice_get (set xs k x) j ≡ slice_get xs j
-get_set_other [] j k x h = refl
-get_set_other (y ∷ ys) zero zero x h = absurd (h refl)
-get_set_other (y ∷ ys) zero (suc k) x h = refl
-get_set_other (y ∷ ys) (suc j) zero x h = refl
-get_set_other (y ∷ ys) (suc j) (suc k) x h = get_set_other ys j k x (λ e. h (ap suc e))
-
-inner : {A : Type 0} (x y : A) → Some x ≡ Some y → x ≡ y
-inner x y e = cc
-
 -- the first k lists became longer, and the rest are as they were
 pub record AreLongerBelow (lanes : List (List ℕ)) (minutes : ℕ) (shares : List ℕ) (old : List (Vec (Option ℕ) Global))
     (k : ℕ) (lists : List (Vec (Option ℕ) Global)) : Type 0 where
@@ -72,20 +56,20 @@ longer_next lanes minutes shares old lists k share was new below here of_share l
   count = length-set lists k new ∙ below.count;
   done = λ j other before after low of_other of_old of_new. elim (cases_lt j k) [
     | inl l ↦ below.done j other before after l of_other of_old
-        (sym (get_set_other lists j k new (λ e. omega (arith, e, l))) ∙ of_new)
+        (sym (set_other lists k j new (λ e. omega (arith, e, l))) ∙ of_new)
     | inr g ↦
         let same : j ≡ k = omega (arith, low, g) in
-        let is_new : new ≡ after = inner new after (sym (get_set_same lists k new (slice_get_within lists k was here))
+        let is_new : new ≡ after = same_Some new after (sym (set_same lists k new (slice_get_within lists k was here))
         ∙ subst (λ (i : ℕ). slice_get (set lists k new) i ≡ Some after) same of_new) in
-        let is_was : was ≡ before = inner was before (sym here ∙ below.rest k (omega arith)
+        let is_was : was ≡ before = same_Some was before (sym here ∙ below.rest k (omega arith)
         ∙ subst (λ (i : ℕ). slice_get old i ≡ Some before) same of_old) in
-        let is_share : share ≡ other = inner share other (sym of_share
+        let is_share : share ≡ other = same_Some share other (sym of_share
         ∙ subst (λ (i : ℕ). slice_get shares i ≡ Some other) same of_other) in
         subst (λ (s : ℕ). IsLonger lanes minutes s before after) is_share
         (subst (λ (v : Vec (Option ℕ) Global). IsLonger lanes minutes share v after) is_was
         (subst (λ (v : Vec (Option ℕ) Global). IsLonger lanes minutes share was v) is_new longer))
   ];
-  rest = λ j above. get_set_other lists j k new (λ e. omega (arith, e, above)) ∙ below.rest j (omega (arith, above));
+  rest = λ j above. set_other lists k j new (λ e. omega (arith, e, above)) ∙ below.rest j (omega (arith, above));
 }
 
 -- a destination more

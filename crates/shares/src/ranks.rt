@@ -1,6 +1,6 @@
 //! The cells of several shares: the labels of a stop are laid out bit by bit once, and each share looks up its rank
 //! there. A single share is quicker by halving.
-ghost use Rattle.std.specs.Prelude.{◌≡◌, ◌<◌, ◌≤◌, ◌+◌, ◌^◌, ◌∷◌, [], ℕ, All, length, IfOk, OnOk};
+ghost use Rattle.std.specs.Prelude.{◌≡◌, ◌<◌, ◌≤◌, ◌+◌, ◌^◌, ◌∷◌, [], All, length, IfOk, OnOk};
 ghost use Rattle.rounds.specs.Table.{known_of, label_in, IsLeastOrNone};
 ghost use Rattle.shares.specs.Percentiles.{Attains, AreCellsOf, AreCellsOfAt, HoldMinutes, IsTop};
 ghost use Rattle.shares.specs.declared.planes.TheConstants.{PLANES as PLANES_VALUE};

@@ -1,5 +1,5 @@
 -- Answers to questions, one after another.
-use Rattle.std.proofs.Common.{List, [], ◌∷◌, ◌++◌, Ok, Err, Result}
+use Rattle.std.proofs.Common.{List, [], ◌∷◌, ◌++◌, Ok, Err}
 use Rattle.std.specs.Prelude.{IfErr, IfOk}
 use Rattle.workers.specs.Held.{Decides, WasTold}
 use Rattle.studies.specs.declared.question.Question.{Question}

@@ -23,29 +23,13 @@ module _ (decides : Decides) (was_told : WasTold) where
     }
 
     pub any_gate : (e : StudyFault) → TellsBy decides was_told e i s → Tells e i s
-    any_gate fault.Scenarios h = h
-    any_gate (fault.Name k) h = h
-    any_gate (fault.Feed e) h = h
-    any_gate (fault.Scenario k e) h = h
-    any_gate (fault.Days e) h = h
-    any_gate (fault.Feet e) h = h
-    any_gate (fault.Net k e) h = h
     any_gate (fault.Run e) (inl h) = inl (any_run e h)
     any_gate (fault.Run e) (inr h) = absurd h
-    any_gate (fault.Text e) h = h
-    any_gate fault.Memory h = h
+    any_gate _ h = h
 
     pub by_gate : (e : StudyFault) → IsOfNoRun e → Tells e i s → TellsBy decides was_told e i s
-    by_gate fault.Scenarios other h = h
-    by_gate (fault.Name k) other h = h
-    by_gate (fault.Feed e) other h = h
-    by_gate (fault.Scenario k e) other h = h
-    by_gate (fault.Days e) other h = h
-    by_gate (fault.Feet e) other h = h
-    by_gate (fault.Net k e) other h = h
     by_gate (fault.Run e) other h = absurd other
-    by_gate (fault.Text e) other h = h
-    by_gate fault.Memory other h = h
+    by_gate _ other h = h
 
     pub any_gates : {V : Type 0} (r : Result V StudyFault) → IfErr r (λ e. TellsBy decides was_told e i s) →
         IfErr r (λ e. Tells e i s)
@@ -55,23 +39,9 @@ module _ (decides : Decides) (was_told : WasTold) where
 pub names_no_run : (e : StudyFault) (files : List NamedBytes) → TellsNames e files → IsOfNoRun e
 names_no_run fault.Scenarios files h = tt
 names_no_run (fault.Name k) files h = tt
-names_no_run (fault.Feed e) files h = absurd h
-names_no_run (fault.Scenario k e) files h = absurd h
-names_no_run (fault.Days e) files h = absurd h
-names_no_run (fault.Feet e) files h = absurd h
-names_no_run (fault.Net k e) files h = absurd h
-names_no_run (fault.Run e) files h = absurd h
-names_no_run (fault.Text e) files h = absurd h
-names_no_run fault.Memory files h = absurd h
+names_no_run _ files h = absurd h
 
 pub tables_no_run : (e : StudyFault) (i : InputFiles) (feed : FeedData) → TellsTables e i feed → IsOfNoRun e
-tables_no_run fault.Scenarios i feed h = absurd h
-tables_no_run (fault.Name k) i feed h = absurd h
 tables_no_run (fault.Feed e) i feed h = tt
-tables_no_run (fault.Scenario k e) i feed h = absurd h
-tables_no_run (fault.Days e) i feed h = absurd h
-tables_no_run (fault.Feet e) i feed h = absurd h
-tables_no_run (fault.Net k e) i feed h = absurd h
-tables_no_run (fault.Run e) i feed h = absurd h
-tables_no_run (fault.Text e) i feed h = absurd h
 tables_no_run fault.Memory i feed h = tt
+tables_no_run _ i feed h = absurd h

@@ -1,5 +1,5 @@
 -- There are no more origins, and no more destinations, than stops: a file names no stop twice.
-use Rattle.std.proofs.Common.{◌≡◌, ◌≤◌, ℕ, true, List, [], ◌∷◌, ◌++◌, All, Option, Some, None, length, refl, arith}
+use Rattle.std.proofs.Common.{◌≡◌, ◌≤◌, ℕ, List, [], ◌∷◌, ◌++◌, All, Option, Some, None, length, refl, arith}
 use Rattle.std.proofs.lemmas.Cmp.{nat_list_eq_equiv}
 use Rattle.std.proofs.lemmas.List.{length-map, map-append}
 use Rattle.std.proofs.lemmas.List.Elements.{All-contains, All-nil, All-push}
@@ -8,12 +8,12 @@ use Rattle.std.proofs.lemmas.Map.Keys.{IsDistinct-push}
 use Rattle.std.proofs.lemmas.Map.Made.{length-le_from_is_member}
 use Rattle.std.proofs.lemmas.Map.Views.{Contains-from_any, list_any-from_Contains}
 use Rattle.std.proofs.lemmas.Option.{get_or_from_slice_get, slice_get_within}
-use Rattle.std.proofs.lemmas.Slice.Eq.{bytes_eq-Decides}
 use Rattle.std.specs.List.{Contains, IsDistinct}
 use Rattle.std.specs.Str.{bytes_eq}
 use Rattle.table_records.specs.Table.{records_of}
 use Rattle.table_records.specs.declared.fault.FileName.{FileName}
 use Rattle.table_records.specs.Identifiers.{number_in}
+use Rattle.table_records.proofs.DistinctTexts.{found_same}
 use Rattle.timetable.specs.declared.trips.StopNo.{StopNo}
 use Rattle.gtfs_tables.specs.Feed.{FeedData}
 use Rattle.gtfs_tables.specs.NamedStops.{NamedRow, named_rows, named_stop, row_of, stops_named}
@@ -46,16 +46,13 @@ one_more stops before r once none =
           (All-push (Contains stops) (stops_named before) r.stop once.known there);
     }
 
-equal : (x y : List ℕ) → bytes_eq x y ≡ true → x ≡ y
-equal x y e = grind (arith, bytes_eq-Decides)
-
 few_rows : (stops : List (List ℕ)) (rows : List NamedRow) → NameOnce stops rows →
     length (stops_named rows) ≤ length stops
 few_rows stops rows once =
     length-le_from_is_member nat_list_eq_equiv (stops_named rows) stops once.distinct
     (λ q named. list_any-from_Contains nat_list_eq_equiv q stops
     (All-contains (Contains stops) (stops_named rows) q once.known
-    (Contains-from_any equal q (stops_named rows) named)))
+    (Contains-from_any found_same q (stops_named rows) named)))
 
 pub few_origins : (name : FileName) (bytes : Option (List ℕ)) (feed : FeedData) (origins : List StopNo) →
     stops_faults name bytes feed ≡ [] → origins ≡ origins_of bytes feed → length origins ≤ length feed.stops

@@ -10,9 +10,6 @@ first_left e (x ∷ xs) ys h = h
 pub first_right : {F : Type 0} (e : F) (xs ys : List F) → xs ≡ [] → IsFirst e ys → IsFirst e (xs ++ ys)
 first_right e xs ys none h = rw none h
 
-pub tells_left : (e : FeedFault) (xs ys : List FeedFault) → Tells e xs → Tells e (xs ++ ys)
-tells_left e xs ys h = elim h [ inl m ↦ inl m | inr f ↦ inr (first_left e xs ys f) ]
-
 pub tells_right : (e : FeedFault) (xs ys : List FeedFault) → xs ≡ [] → Tells e ys → Tells e (xs ++ ys)
 tells_right e xs ys none h = elim h [ inl m ↦ inl m | inr f ↦ inr (first_right e xs ys none f) ]
 

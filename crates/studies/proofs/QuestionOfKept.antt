@@ -1,5 +1,5 @@
 -- What is kept of a study, with a question's files and settings in place of its own.
-use Rattle.std.proofs.Common.{◌≡◌, ◌∙◌, List, [], subst, sym}
+use Rattle.std.proofs.Common.{◌≡◌, ◌∙◌, [], subst, sym}
 use Rattle.footpaths.specs.Walks.{direct_faults}
 use Rattle.gtfs_tables.specs.Feed.{FeedData}
 use Rattle.studies.specs.declared.fault.StudyFault.{StudyFault}
@@ -8,7 +8,7 @@ use Rattle.studies.specs.declared.question.Question.{Question}
 use Rattle.studies.specs.Answers.{IsQuestion, asked_files}
 use Rattle.studies.specs.Inputs.{InputFiles, inputs_of}
 use Rattle.studies.specs.Kept.{IsKept, lasting_files, lasting_settings}
-use Rattle.studies.specs.Parts.{feed_in, point_faults}
+use Rattle.studies.specs.Parts.{point_faults}
 use Rattle.studies.specs.Settings.{SettingsData}
 use Rattle.studies.specs.Stages.{IsFeedOf, TellsTables}
 use Rattle.studies.specs.Study.{AreNetworks, Tells}

@@ -6,6 +6,7 @@ use Rattle.std.specs.Result.{IsErrAnd}
 use Rattle.std.proofs.lemmas.List.{length-map}
 use Rattle.std.proofs.lemmas.Result.{err_from_is_err_and}
 use Rattle.std.proofs.lemmas.List.Elements.{All-cons, All-nil}
+use Rattle.table_records.proofs.FaultFacts.{tells_more}
 use Rattle.table_records.specs.Faults.{IsFirst}
 use Rattle.table_records.specs.Faults as records
 use Rattle.table_records.specs.declared.fault.FeedFault.{FeedFault}
@@ -59,7 +60,7 @@ use Rattle.studies.specs.Stages.{AreNetworkParts, AreTables, IsFeedOf, TellsEdit
 use Rattle.studies.specs.Stages.{TellsTables, TellsText}
 use Rattle.studies.specs.Study.{AreDated, AreEdited, AreNamed, AreNetworks, AreRead, AreWalked, IsFaultOfRun}
 use Rattle.studies.specs.Study.{IsStudyText, Means, Tells, TellsBy}
-use Rattle.studies.proofs.FirstOfLists.{first_left, first_right, none_of_both, tells_left, tells_right}
+use Rattle.studies.proofs.FirstOfLists.{first_left, first_right, none_of_both, tells_right}
 
 -- settings, by their fields
 abbrev pub seen : Inside → SettingsData
@@ -85,14 +86,7 @@ module _ (i : InputFiles) (s : SettingsData) where
   pub names_told : (e : StudyFault) → TellsNames e i.scenarios → Tells e i s
   names_told fault.Scenarios h = inr h
   names_told (fault.Name k) h = inr h
-  names_told (fault.Feed e) h = absurd h
-  names_told (fault.Scenario k e) h = absurd h
-  names_told (fault.Days e) h = absurd h
-  names_told (fault.Feet e) h = absurd h
-  names_told (fault.Net k e) h = absurd h
-  names_told (fault.Run e) h = absurd h
-  names_told (fault.Text e) h = absurd h
-  names_told fault.Memory h = absurd h
+  names_told _ h = absurd h
 
   pub are_named : (length i.scenarios < MOST_SCENARIOS) × (name_faults i.scenarios ≡ []) → AreNamed i
   are_named good = record { few = good.0; names = good.1 }
@@ -134,21 +128,14 @@ module _ (i : InputFiles) (s : SettingsData) where
   pub direct_told : (e : FeedFault) (feed : FeedData) → AreNamed i → IsFeedOf i feed →
       records.Tells e (direct_faults feed i.footpaths) → Tells (fault.Feed e) i s
   direct_told e feed named is h =
-      own_told e feed named is (tells_left e (direct_faults feed i.footpaths) (point_faults i feed) h)
+      own_told e feed named is (tells_more e (direct_faults feed i.footpaths) (point_faults i feed) h)
 
   pub tables_told : (e : StudyFault) (feed : FeedData) → AreNamed i → IsFeedOf i feed →
       direct_faults feed i.footpaths ≡ [] → TellsTables e i feed → Tells e i s
-  tables_told fault.Scenarios feed named is walked h = absurd h
-  tables_told (fault.Name k) feed named is walked h = absurd h
   tables_told (fault.Feed e) feed named is walked h =
       own_told e feed named is (tells_right e (direct_faults feed i.footpaths) (point_faults i feed) walked h)
-  tables_told (fault.Scenario k e) feed named is walked h = absurd h
-  tables_told (fault.Days e) feed named is walked h = absurd h
-  tables_told (fault.Feet e) feed named is walked h = absurd h
-  tables_told (fault.Net k e) feed named is walked h = absurd h
-  tables_told (fault.Run e) feed named is walked h = absurd h
-  tables_told (fault.Text e) feed named is walked h = absurd h
   tables_told fault.Memory feed named is walked h = inl h
+  tables_told _ feed named is walked h = absurd h
 
   pub are_edited : (feed : FeedData) → AreRead i → feed ≡ feed_in i → edit_faults feed 0 i.scenarios ≡ [] → AreEdited i
   are_edited feed read is none = record {
@@ -158,9 +145,6 @@ module _ (i : InputFiles) (s : SettingsData) where
 
   pub edits_told : (e : StudyFault) (feed : FeedData) → AreRead i → feed ≡ feed_in i → TellsEdits e feed i.scenarios →
       Tells e i s
-  edits_told fault.Scenarios feed read is h = absurd h
-  edits_told (fault.Name k) feed read is h = absurd h
-  edits_told (fault.Feed e) feed read is h = absurd h
   edits_told (fault.Scenario k e) feed read is h =
       elim h [
         | inl m ↦ inl m
@@ -169,12 +153,8 @@ module _ (i : InputFiles) (s : SettingsData) where
           subst (λ (d : FeedData). IsFirst (k, e) (edit_faults d 0 i.scenarios)) is f,
         )
       ]
-  edits_told (fault.Days e) feed read is h = absurd h
-  edits_told (fault.Feet e) feed read is h = absurd h
-  edits_told (fault.Net k e) feed read is h = absurd h
-  edits_told (fault.Run e) feed read is h = absurd h
-  edits_told (fault.Text e) feed read is h = absurd h
   edits_told fault.Memory feed read is h = inl h
+  edits_told _ feed read is h = absurd h
 
   pub days_told : (e : DayFault) (feed : FeedData) → AreEdited i → feed ≡ feed_in i
       → (e ≡ day.Memory) ⊎ IsFirst e (days.day_faults feed (day_number s.date) s.back s.ahead) →
@@ -210,16 +190,9 @@ module _ (i : InputFiles) (s : SettingsData) where
   pub text_told : {V : Type 0} (decides : Decides) (was_told : WasTold) (r : Result V StudyFault) → IfErr r TellsText →
       IfErr r (λ e. TellsBy decides was_told e i s)
   text_told decides was_told (Ok v) h = h
-  text_told decides was_told (Err fault.Scenarios) h = absurd h
-  text_told decides was_told (Err (fault.Name k)) h = absurd h
-  text_told decides was_told (Err (fault.Feed e)) h = absurd h
-  text_told decides was_told (Err (fault.Scenario k e)) h = absurd h
-  text_told decides was_told (Err (fault.Days e)) h = absurd h
-  text_told decides was_told (Err (fault.Feet e)) h = absurd h
-  text_told decides was_told (Err (fault.Net k e)) h = absurd h
-  text_told decides was_told (Err (fault.Run e)) h = absurd h
   text_told decides was_told (Err (fault.Text e)) h = inl h
   text_told decides was_told (Err fault.Memory) h = inl h
+  text_told decides was_told (Err _) h = absurd h
 
 one_first : (n : ℕ) → suc n ≡ n + 1
 one_first n = omega arith
@@ -264,19 +237,12 @@ module _ (i : InputFiles) (s : SettingsData) (feed : FeedData) (p : NetworkParts
   feet_for_stops = parts.walked.walks.closed.lists ∙ sym (ap (λ (d : FeedData). length d.stops) feed_is)
 
   pub networks_told : (e : StudyFault) → TellsNetworks e feed runs scenarios → Tells e i s
-  networks_told fault.Scenarios h = absurd h
-  networks_told (fault.Name k) h = absurd h
-  networks_told (fault.Feed e) h = absurd h
-  networks_told (fault.Scenario k e) h = absurd h
-  networks_told (fault.Days e) h = absurd h
-  networks_told (fault.Feet e) h = absurd h
   networks_told (fault.Net k e) h = elim h [
     | inl m ↦ inl m
     | inr f ↦ inr (p.feet, parts.walked, subst (λ (l : List (ℕ × NetFault)). IsFirst (k, e) l) faults_in f)
   ]
-  networks_told (fault.Run e) h = absurd h
-  networks_told (fault.Text e) h = absurd h
   networks_told fault.Memory h = inl h
+  networks_told _ h = absurd h
 
   pub networks_made : (networks : List Net) → network_faults feed runs 0 scenarios ≡ [] →
       networks ≡ networks_of feed runs p.feet scenarios → AreNetworks i s networks

@@ -24,28 +24,12 @@ module _ (saw : List Stage → Type 0) (i : InputFiles) (s : SettingsData) where
 
   -- nothing is to be told of a fault of no run
   pub no_run_seen : (e : StudyFault) → IsOfNoRun e → SawFault saw e i s
-  no_run_seen fault.Scenarios h = tt
-  no_run_seen (fault.Name k) h = tt
-  no_run_seen (fault.Feed e) h = tt
-  no_run_seen (fault.Scenario k e) h = tt
-  no_run_seen (fault.Days e) h = tt
-  no_run_seen (fault.Feet e) h = tt
-  no_run_seen (fault.Net k e) h = tt
   no_run_seen (fault.Run e) h = absurd h
-  no_run_seen (fault.Text e) h = tt
-  no_run_seen fault.Memory h = tt
+  no_run_seen _ h = tt
 
   text_of_no_run : (e : StudyFault) → TellsText e → IsOfNoRun e
-  text_of_no_run fault.Scenarios h = tt
-  text_of_no_run (fault.Name k) h = tt
-  text_of_no_run (fault.Feed e) h = tt
-  text_of_no_run (fault.Scenario k e) h = tt
-  text_of_no_run (fault.Days e) h = tt
-  text_of_no_run (fault.Feet e) h = tt
-  text_of_no_run (fault.Net k e) h = tt
   text_of_no_run (fault.Run e) h = absurd h
-  text_of_no_run (fault.Text e) h = tt
-  text_of_no_run fault.Memory h = tt
+  text_of_no_run _ h = tt
 
   pub text_seen : {V : Type 0} (r : Result V StudyFault) → IfErr r TellsText → IfErr r (λ e. SawFault saw e i s)
   text_seen (Ok v) h = h

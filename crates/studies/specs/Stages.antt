@@ -19,8 +19,7 @@ use Rattle.studies.specs.declared.parts.Tables.{Tables}
 use Rattle.studies.specs.Inputs.{InputFiles}
 use Rattle.studies.specs.NamedFile.{NamedBytes}
 use Rattle.studies.specs.Names.{name_faults}
-use Rattle.studies.specs.Parts.{feed_in, edit_faults, network_faults, point_faults, runs_in}
-use Rattle.studies.specs.Parts.{scenarios_in}
+use Rattle.studies.specs.Parts.{feed_in, edit_faults, network_faults, point_faults, runs_in, scenarios_in}
 use Rattle.studies.specs.Settings.{SettingsData}
 use Rattle.studies.specs.Study.{AreWalked}
 

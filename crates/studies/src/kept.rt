@@ -2,7 +2,6 @@
 ghost use Rattle.std.specs.Prelude.{◌≡◌, IfErr, IfOk};
 ghost use Rattle.studies.specs.Inputs.{AreWithinLimit, inputs_of};
 ghost use Rattle.studies.specs.Kept.{IsKept};
-ghost use Rattle.studies.specs.Parts.{feed_in};
 ghost use Rattle.studies.specs.Settings.{SettingsFit};
 ghost use Rattle.studies.specs.Stages.{AreTables, IsFeedOf, IsOfNoRun};
 ghost use Rattle.studies.specs.Study.{AreNetworks, Tells};

@@ -1,8 +1,7 @@
 //! The plain form of a study, which the program doesn't call: the line for one minute of the day, over the network in
 //! which every trip of a feed runs once, at the feed's own times, nobody walks, and no change takes time.
 
-ghost use Rattle.std.specs.Prelude.{◌≡◌, ◌++◌, ◌∷◌, ◌<◌, ◌≤◌, [], IfErr, IfOk, OnOk, map, replicate};
-ghost use Rattle.std.specs.List.{join_with_byte};
+ghost use Rattle.std.specs.Prelude.{◌≡◌, ◌++◌, ◌<◌, ◌≤◌, [], IfErr, IfOk, OnOk, replicate};
 ghost use Rattle.gtfs_tables.specs.Files.{AreWithinLimit, feed_of, files_of};
 ghost use Rattle.timetable.specs.Footpaths.{rows_of};
 ghost use Rattle.studies.specs.MinuteLine as spec;

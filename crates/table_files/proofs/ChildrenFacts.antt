@@ -1,17 +1,17 @@
 -- One more stop among the stops of the stations.
-use Rattle.std.proofs.Common.{◌≡◌, ◌≢◌, ◌<◌, ◌≤◌, ◌+◌, ◌∙◌, ◌==◌, ◌++◌, ℕ, zero, suc, Bool, true, false, List, [], ◌∷◌}
-use Rattle.std.proofs.Common.{length, get_or, set, take, map, filter, Some, None, position, replicate, arith, refl, sym}
-use Rattle.std.proofs.Common.{ap, if◌then◌else◌}
+use Rattle.std.proofs.Common.{◌≡◌, ◌<◌, ◌≤◌, ◌+◌, ◌∙◌, ◌++◌, ℕ, zero, suc, Bool, true, false, List, [], ◌∷◌, length}
+use Rattle.std.proofs.Common.{get_or, set, take, map, filter, Some, None, position, replicate, arith, refl, sym, ap}
+use Rattle.std.proofs.Common.{if◌then◌else◌}
 use Rattle.std.specs.Prelude.{All, option_map, slice_get}
 use Rattle.std.specs.List.{enumerate_from}
 use Rattle.std.specs.Str.{bytes_eq}
 use Rattle.std.specs.declared.vec.Vec.{Vec}
 use Rattle.std.specs.declared.alloc.Global.{Global}
-use Rattle.std.proofs.lemmas.Bool.Decides.{nat_tests}
 use Rattle.std.proofs.lemmas.List.{append-nil, length-map, length-take-le, map-append, map-set, take_more}
 use Rattle.std.proofs.lemmas.List.Elements.{All-cons, All-nil, filter-append}
 use Rattle.std.proofs.lemmas.List.Kept.{AllPairs-cons}
 use Rattle.std.proofs.lemmas.Option.{slice_get-get_or, slice_get-map}
+use Rattle.std.proofs.lemmas.Bool.{ne_eqb, eq-eqb}
 use Rattle.timetable.specs.declared.trips.StopNo.{StopNo}
 use Rattle.table_records.specs.Fields.{is_number}
 use Rattle.table_files.specs.Children.{AreChildren, Ascend, children_at, children_of}
@@ -42,12 +42,6 @@ enumerate_from-append n (x ∷ xs) ys =
     let e : n + 1 + length xs ≡ n + suc (length xs) = omega arith in
     ap (λ l. (n, x) ∷ l) (enumerate_from-append (n + 1) xs ys
     ∙ (λ k. enumerate_from (n + 1) xs ++ enumerate_from (e k) ys))
-
-equal : (m : ℕ) → (m == m) ≡ true
-equal m = grind (arith, nat_tests)
-
-other : (m n : ℕ) → m ≢ n → (m == n) ≡ false
-other m n h = grind (arith, nat_tests)
 
 -- the stops of one station, with one more stop
 children_at-push : (stations parents : List (List ℕ)) (parent : List ℕ) (t : ℕ)
@@ -101,16 +95,16 @@ put_from : (stations parents : List (List ℕ)) (parent : List ℕ) (t n k : ℕ
 put_from stations parents parent t n k [] x is e lt at = absurd (omega (arith, lt))
 put_from stations parents parent t n zero (id ∷ ids) x is e lt at =
     let here : is_number n (position (bytes_eq parent) stations) ≡ true =
-    rw (← is) (let same : t ≡ n = omega (arith, e) in rw same (equal n)) in
+    rw (← is) (let same : t ≡ n = omega (arith, e) in rw same (eq-eqb n n refl)) in
     let old : children_at stations parents n ≡ x = cc at in
     let first : children_at stations (parents ++ parent ∷ []) n ≡ x ++ record { 0 = length parents } ∷ [] =
     children_at-push stations parents parent n
     ∙ rw here (ap (λ (l : List StopNo). l ++ record { 0 = length parents } ∷ []) old) in
     let rest = kept_from stations parents parent (n + 1) ids
-    (λ u h. rw (← is) (other t u (λ g. absurd (omega (arith, g, h, e))))) in
+    (λ u h. rw (← is) (ne_eqb t u (λ g. absurd (omega (arith, g, h, e))))) in
     λ i. first i ∷ rest i
 put_from stations parents parent t n (suc k) (id ∷ ids) x is e lt at =
-    let first = kept_at stations parents parent n (rw (← is) (other t n (λ g. absurd (omega (arith, g, e))))) in
+    let first = kept_at stations parents parent n (rw (← is) (ne_eqb t n (λ g. absurd (omega (arith, g, e))))) in
     let rest = put_from stations parents parent t (n + 1) k ids x is (omega (arith, e)) (omega (arith, lt)) at in
     λ i. first i ∷ rest i
 

@@ -7,6 +7,7 @@ use Rattle.std.specs.declared.alloc.Global.{Global}
 use Rattle.std.proofs.lemmas.Bool.Decides.{nat_tests}
 use Rattle.std.proofs.lemmas.List.{append-nil, get_or-set_same, get_or-set_other, length-set, map-append}
 use Rattle.std.proofs.lemmas.List.Elements.{filter-append}
+use Rattle.std.proofs.lemmas.Bool.{eq-eqb}
 use Rattle.table_records.specs.Fields.{is_empty, time_of}
 use Rattle.table_files.specs.declared.frequencies.Departures.{Departures}
 use Rattle.table_files.specs.Frequencies.{AreDepartures, FrequencyRow, checks, departures_at, departures_by_trip}
@@ -22,9 +23,6 @@ more_empty [] x h e (suc t) d lt = absurd (omega (arith, lt))
 more_empty (y ∷ ys) x h e zero d lt = h zero d (omega arith)
 more_empty (y ∷ ys) x h e (suc t) d lt =
     more_empty ys x (λ k b less. h (suc k) b (omega (arith, less))) e t d (omega (arith, lt))
-
-equal : (m : ℕ) → (m == m) ≡ true
-equal m = grind (arith, nat_tests)
 
 -- a row of a trip comes after its others
 row_more : (trips : List (List ℕ)) (rows : List FrequencyRow) (r : FrequencyRow) (t : ℕ) (b : Bool) →
@@ -64,7 +62,7 @@ departures_more trips items rows r t v w are lt is here put u d within = by (num
     by false e =
         let other : u ≢ t = λ h. cc (
           ap (λ (x : ℕ). number_in trips r.trip == x) (h ∙ sym is)
-              ∙ equal (number_in trips r.trip),
+              ∙ eq-eqb (number_in trips r.trip) (number_in trips r.trip) refl,
           e,
         ) in
         let inside : u < length items = omega (arith, length-set {A = Vec Departures Global}) in

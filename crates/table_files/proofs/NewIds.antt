@@ -2,7 +2,8 @@
 use Rattle.std.proofs.Common.{◌≡◌, ℕ, Bool, true, false, List, [], ◌∷◌, ◌++◌, length, refl, arith}
 use Rattle.std.proofs.lemmas.Bool.Decides.{nat_tests}
 use Rattle.std.proofs.lemmas.Slice.Eq.{bytes_eq-Decides}
-use Rattle.std.specs.Prelude.{◌||◌, ◌==◌, not}
+use Rattle.std.proofs.lemmas.Bool.{or_parts}
+use Rattle.std.specs.Prelude.{◌==◌, not}
 use Rattle.std.specs.List.{AllByRecursion, IsDistinct, list_any}
 use Rattle.std.specs.Str.{bytes_eq}
 use Rattle.table_records.specs.Fields.{is_empty}
@@ -10,10 +11,6 @@ use Rattle.table_records.specs.Fields.{is_empty}
 pub empty_length : (xs : List ℕ) → (length xs == 0) ≡ is_empty xs
 empty_length [] = refl
 empty_length (x ∷ xs) = grind (arith, nat_tests)
-
-pub neither : (a b : Bool) → (a || b) ≡ false → (a ≡ false) × (b ≡ false)
-neither true b h = cc h
-neither false b h = (refl, h)
 
 pub is_new : (b : Bool) → b ≡ true → (c : Bool) → b ≡ not c → c ≡ false
 is_new b e true h = cc (e, h)
@@ -25,7 +22,7 @@ pub distinct_push : (ids : List (List ℕ)) (id : List ℕ) → IsDistinct bytes
 unfolding IsDistinct
 distinct_push [] id apart new = (tt, tt)
 distinct_push (x ∷ ids) id apart new =
-    let (first, others) = neither (bytes_eq id x) _ new in
+    let (first, others) = or_parts (bytes_eq id x) _ new in
     (differs_push x ids id apart.0 (flipped id x first), distinct_push ids id apart.1 others)
   where
     flipped : (a b : List ℕ) → bytes_eq a b ≡ false → bytes_eq b a ≡ false

@@ -6,7 +6,7 @@ use Rattle.std.specs.List.{IsDistinct, list_any}
 use Rattle.std.specs.Str.{bytes_eq}
 use Rattle.std.specs.declared.vec.Vec.{Vec}
 use Rattle.std.specs.declared.alloc.Global.{Global}
-use Rattle.std.proofs.lemmas.Bool.{lt-leb}
+use Rattle.std.proofs.lemmas.Bool.{lt-leb, or_parts}
 use Rattle.std.proofs.lemmas.List.{append-nil, length-append, length-map, map-append}
 use Rattle.std.proofs.lemmas.List.Elements.{All-cons, All-nil, filter-append}
 use Rattle.table_records.specs.Fields.{is_empty}
@@ -18,7 +18,7 @@ use Rattle.table_files.specs.Places.{ArePlaces, IsPlaceList, IsPlaced, PlaceReco
 use Rattle.table_files.specs.Places.{is_stop, kind_of, names_of, parents_of, place_at, places_after}
 use Rattle.table_files.specs.Places.{places_in, stations_of, stops_of, with_id}
 use Rattle.table_files.proofs.ChildrenFacts.{are_children, length-children_of}
-use Rattle.table_files.proofs.NewIds.{distinct_push, neither}
+use Rattle.table_files.proofs.NewIds.{distinct_push}
 
 -- no records yet
 pub no_places : (l : PlaceList) → l.names ≡ [] → l.stops ≡ [] → l.stations ≡ [] → l.places.items ≡ [] →
@@ -50,7 +50,7 @@ not_kept : (p : PlaceRecord → Bool) (id : List ℕ) (rows : List PlaceRecord) 
     list_any (bytes_eq id) (names_of rows) ≡ false →
     list_any (bytes_eq id) (map (λ (x : PlaceRecord). x.id) (filter p rows)) ≡ false
 not_kept p id [] h = refl
-not_kept p id (r ∷ rows) h = let e = neither (bytes_eq id r.id) _ h in by (p r) (e.0, not_kept p id rows e.1)
+not_kept p id (r ∷ rows) h = let e = or_parts (bytes_eq id r.id) _ h in by (p r) (e.0, not_kept p id rows e.1)
   where
     by : (b : Bool) → (bytes_eq id r.id ≡ false)
         × (list_any (bytes_eq id) (map (λ (x : PlaceRecord). x.id) (filter p rows)) ≡ false)

@@ -1,7 +1,6 @@
 -- Identifiers keep their numbers when more are named after them.
-use Rattle.std.proofs.Common.{◌≡◌, ◌<◌, ◌+◌, ◌∙◌, ◌||◌, ◌&&◌, nat_lt, ℕ, suc, Bool, true, false, List, [], ◌∷◌, ◌++◌}
-use Rattle.std.proofs.Common.{length, map, position, Option, Some, None, refl, sym, ap, arith, append_assoc}
-use Rattle.std.proofs.Common.{if◌then◌else◌}
+use Rattle.std.proofs.Common.{◌≡◌, ◌<◌, ◌+◌, ◌∙◌, ◌||◌, nat_lt, ℕ, suc, Bool, true, false, List, [], ◌∷◌, ◌++◌, length}
+use Rattle.std.proofs.Common.{map, position, Option, Some, None, refl, sym, ap, arith, append_assoc, if◌then◌else◌}
 use Rattle.std.specs.Prelude.{not, unwrap_or}
 use Rattle.std.specs.List.{list_all, list_any, position_or_len}
 use Rattle.std.specs.Str.{bytes_eq}
@@ -9,6 +8,7 @@ use Rattle.std.proofs.lemmas.Bool.Decides.{nat_tests}
 use Rattle.std.proofs.lemmas.List.{append-nil, length-append, map-append}
 use Rattle.std.proofs.lemmas.List.Folds.{list_any-append}
 use Rattle.std.proofs.lemmas.Slice.Eq.{bytes_eq-Decides}
+use Rattle.std.proofs.lemmas.Bool.{and_parts, or_right}
 use Rattle.table_records.specs.Identifiers.{number_in}
 use Rattle.table_files.specs.Services.{named}
 
@@ -93,14 +93,10 @@ module _ {R D : Type 0} (key : R → List ℕ) (make : ℕ → R → D) where
       → map (λ r. make (number_in (ids ++ more) (key r)) r) rows ≡ map (λ r. make (number_in ids (key r)) r) rows
   values_stay ids more [] h = refl
   values_stay ids more (r ∷ rows) h =
-      let (here, rest) = both (list_any (bytes_eq (key r)) ids) _ h in
+      let (here, rest) = and_parts (list_any (bytes_eq (key r)) ids) _ h in
       let first = number_old ids more (key r) here in
       let others = values_stay ids more rows rest in
       λ k. make (first k) r ∷ others k
-    where
-      both : (a b : Bool) → (a && b) ≡ true → (a ≡ true) × (b ≡ true)
-      both true b e = (refl, e)
-      both false b e = cc e
 
 -- each row's identifier is among those of all rows
 pub all_listed : {R : Type 0} (key : R → List ℕ) (before rows : List R) →
@@ -113,14 +109,10 @@ all_listed key before (r ∷ rows) =
       map-append key before (r ∷ rows),
       list_any-append (bytes_eq (key r)) (map key before) (key r ∷ map key rows),
       same_text (key r),
-    ) (last_true (list_any (bytes_eq (key r)) (map key before))) in
+    ) (or_right (list_any (bytes_eq (key r)) (map key before)) true refl) in
     let rest : list_all (λ q. list_any (bytes_eq (key q)) (map key (before ++ r ∷ rows))) rows ≡ true =
     rw shift (all_listed key (before ++ r ∷ []) rows) in
     rw here rest
-  where
-    last_true : (b : Bool) → (b || true) ≡ true
-    last_true true = refl
-    last_true false = refl
 
 -- a position that was found, and one that was not
 pub found : {X : Type 0} (p : X → Bool) (xs : List X) (n : ℕ) → Some n ≡ position p xs →

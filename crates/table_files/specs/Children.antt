@@ -1,6 +1,6 @@
 -- The stops of each station, and the stops that a place stands for.
 -- GTFS Schedule reference, stops.txt: the parent_station of a stop is the station that it is part of.
-use Rattle.std.specs.Prelude.{◌<◌, ℕ, List, [], ◌∷◌, All, AllPairs, filter, length, map, position, slice_get, unwrap_or}
+use Rattle.std.specs.Prelude.{◌<◌, ℕ, List, [], ◌∷◌, All, AllPairs, filter, map, position, slice_get, unwrap_or}
 use Rattle.std.specs.List.{enumerate_from}
 use Rattle.std.specs.Str.{bytes_eq}
 use Rattle.timetable.specs.declared.trips.StopNo.{StopNo}

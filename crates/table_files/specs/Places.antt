@@ -7,7 +7,7 @@ use Rattle.std.specs.List.{IsDistinct, list_any}
 use Rattle.std.specs.Str.{bytes_eq}
 use Rattle.timetable.specs.declared.limits.TheConstants.{MOST_STOPS}
 use Rattle.table_records.specs.Columns.{column, field}
-use Rattle.table_records.specs.Fields.{is_empty, number_of, trimmed}
+use Rattle.table_records.specs.Fields.{is_empty, number_of, trimmed, is_number}
 use Rattle.table_records.specs.Faults.{when}
 use Rattle.table_records.specs.Reading.{table_faults, table_rows}
 use Rattle.table_records.specs.Table.{records_of}
@@ -20,7 +20,6 @@ use Rattle.table_files.specs.declared.place.Place.{Place}
 use Rattle.table_files.specs.declared.place.Place.TheVariants.{Stop, Station, Other}
 use Rattle.table_files.specs.declared.places.PlaceColumns.{PlaceColumns}
 use Rattle.table_files.specs.declared.places.PlaceList.{PlaceList}
-use Rattle.table_records.specs.Fields.{is_number}
 use Rattle.table_files.specs.Children.{AreChildren, IsPlace, children_of}
 
 -- the fields of a record that are read

@@ -1,7 +1,7 @@
 //! The stops of each station.
 
-ghost use Rattle.std.specs.Prelude.{◌≡◌, ◌<◌, ◌≤◌, ◌∷◌, ◌++◌, ◌^◌, [], List, length, map, replicate, slice_get};
-ghost use Rattle.std.specs.Prelude.{slice_set, Some, IfOk};
+ghost use Rattle.std.specs.Prelude.{◌≡◌, ◌<◌, ◌≤◌, ◌∷◌, ◌++◌, [], List, length, map, replicate, slice_get, slice_set};
+ghost use Rattle.std.specs.Prelude.{Some, IfOk};
 ghost use Rattle.timetable.specs.declared.limits.TheConstants.{MOST_STOPS};
 ghost use Rattle.timetable.specs.declared.trips.StopNo.{StopNo};
 ghost use Rattle.table_files.specs.Children as spec;

@@ -1,6 +1,6 @@
 -- The faults of a record, one check at a time, each explained by a check of the file's table.
 use Rattle.std.proofs.Common.{◌≡◌, ◌++◌, ℕ, Bool, true, false, List, [], Some, inl, inr, refl, if◌then◌else◌}
-use Rattle.std.specs.Prelude.{All, slice_get}
+use Rattle.std.specs.Prelude.{slice_get}
 use Rattle.std.proofs.lemmas.List.Elements.{All-append, All-cons, All-nil}
 use Rattle.table_records.specs.Checks.{AreExplained, IsExplained, refuses}
 use Rattle.table_records.specs.Columns.{column, field}

@@ -4,6 +4,7 @@ use Rattle.std.proofs.Common.{arith, sym, subst, Bool, true, false, refl, Some, 
 use Rattle.std.proofs.Math.Nat.{pow-suc}
 use Rattle.std.proofs.lemmas.Bool.Decides.{nat_tests}
 use Rattle.std.proofs.lemmas.Int.{ints}
+use Rattle.std.proofs.lemmas.Bool.{le-leb, leb-true}
 use Rattle.std.specs.List.{list_all}
 use Rattle.std.specs.Prelude.{Result, Ok, Err, IsOk, IfOk, option_map}
 use Rattle.jiff.specs.Words.{IsDate, IsYmd, epoch_day, days_in_month}
@@ -46,28 +47,22 @@ eight_digits text v eight e =
     let small = rw eight at (value_below text 0 1 digits (omega arith)) in
     omega (arith, small, is)
 
-le_true : (a b : ℕ) → a ≤ b → nat_le a b ≡ true
-le_true a b h = grind (arith, nat_tests)
-
-true_le : (a b : ℕ) → nat_le a b ≡ true → a ≤ b
-true_le a b h = grind (arith, nat_tests)
-
 day_true : (y m d : ℕ) → IsDate (pos y) (pos m) (pos d) → is_day y m d ≡ true
 day_true y m d (year, month, day) =
     let a : 1 ≤ m = omega (arith, ints, month.0) in
     let b : m ≤ 12 = omega (arith, ints, month.1) in
     let e : 1 ≤ d = omega (arith, ints, day.0) in
     let f : d ≤ days_in_month (pos y) m = omega (arith, ints, day.1) in
-    rw (le_true 1 m a, le_true m 12 b, le_true 1 d e, le_true d (days_in_month (pos y) m) f) refl
+    rw (le-leb 1 m a, le-leb m 12 b, le-leb 1 d e, le-leb d (days_in_month (pos y) m) f) refl
 
 true_day : (y m d : ℕ) → y ≤ 9999 → is_day y m d ≡ true → IsDate (pos y) (pos m) (pos d)
 true_day y m d small h =
     let abc = and_left (nat_le 1 m && nat_le m 12 && nat_le 1 d) (nat_le d (days_in_month (pos y) m)) h in
     let ab = and_left (nat_le 1 m && nat_le m 12) (nat_le 1 d) abc in
-    let a = true_le 1 m (and_left (nat_le 1 m) (nat_le m 12) ab) in
-    let b = true_le m 12 (and_right (nat_le 1 m) (nat_le m 12) ab) in
-    let e = true_le 1 d (and_right (nat_le 1 m && nat_le m 12) (nat_le 1 d) abc) in
-    let f = true_le d (days_in_month (pos y) m)
+    let a = leb-true 1 m (and_left (nat_le 1 m) (nat_le m 12) ab) in
+    let b = leb-true m 12 (and_right (nat_le 1 m) (nat_le m 12) ab) in
+    let e = leb-true 1 d (and_right (nat_le 1 m && nat_le m 12) (nat_le 1 d) abc) in
+    let f = leb-true d (days_in_month (pos y) m)
     (and_right (nat_le 1 m && nat_le m 12 && nat_le 1 d) (nat_le d (days_in_month (pos y) m)) h) in (
       (omega (arith, ints), omega (arith, ints)),
       (omega (arith, ints, a), omega (arith, ints, b)),

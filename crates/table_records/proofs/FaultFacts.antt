@@ -7,7 +7,7 @@ use Rattle.table_records.specs.declared.fault.FeedFault.{FeedFault}
 use Rattle.table_records.specs.declared.fault.FileName.{FileName}
 use Rattle.table_records.specs.declared.fault.What.{What}
 
-first_append : {X : Type 0} (xs ys : List X) (x : X) → slice_get xs 0 ≡ Some x → slice_get (xs ++ ys) 0 ≡ Some x
+pub first_append : {X : Type 0} (xs ys : List X) (x : X) → slice_get xs 0 ≡ Some x → slice_get (xs ++ ys) 0 ≡ Some x
 first_append [] ys x h = cc h
 first_append (z ∷ xs) ys x h = h
 

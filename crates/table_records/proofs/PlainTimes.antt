@@ -54,14 +54,6 @@ pub plain : (t : List ℕ) (h m s : ℕ) → length t ≡ 8 → slice_index t 2 
     sixty (slice_index t 0) (slice_index t 1) ≡ Some h
     → sixty (slice_index t 3) (slice_index t 4) ≡ Some m → sixty (slice_index t 6) (slice_index t 7) ≡ Some s →
     time_of (trimmed t) ≡ Some (3600 * h + 60 * m + s)
-plain [] h m s size one two hour minute second = absurd (omega arith)
-plain (a ∷ []) h m s size one two hour minute second = absurd (omega arith)
-plain (a ∷ b ∷ []) h m s size one two hour minute second = absurd (omega arith)
-plain (a ∷ b ∷ x ∷ []) h m s size one two hour minute second = absurd (omega arith)
-plain (a ∷ b ∷ x ∷ c ∷ []) h m s size one two hour minute second = absurd (omega arith)
-plain (a ∷ b ∷ x ∷ c ∷ d ∷ []) h m s size one two hour minute second = absurd (omega arith)
-plain (a ∷ b ∷ x ∷ c ∷ d ∷ y ∷ []) h m s size one two hour minute second = absurd (omega arith)
-plain (a ∷ b ∷ x ∷ c ∷ d ∷ y ∷ e ∷ []) h m s size one two hour minute second = absurd (omega arith)
 plain (a ∷ b ∷ x ∷ c ∷ d ∷ y ∷ e ∷ f ∷ []) h m s size one two hour minute second =
     rw (one, two) (written a b c d e f h m s hour minute second)
-plain (a ∷ b ∷ x ∷ c ∷ d ∷ y ∷ e ∷ f ∷ g ∷ rest) h m s size one two hour minute second = absurd (omega arith)
+plain _ h m s size one two hour minute second = absurd (omega arith)

@@ -1,6 +1,7 @@
 -- Spaces at the end of a text.
-use Rattle.std.proofs.Common.{◌≡◌, ◌<◌, ◌≤◌, ◌&&◌, ◌==◌, ℕ, zero, suc, List, [], ◌∷◌, ◌++◌, take, length, get_or, arith}
-use Rattle.std.proofs.Common.{ap, sym, Bool, true, false, refl}
+use Rattle.std.proofs.Common.{◌≡◌, ◌<◌, ◌≤◌, ◌==◌, ℕ, zero, suc, List, [], ◌∷◌, ◌++◌, take, length, get_or, arith, ap}
+use Rattle.std.proofs.Common.{sym, false, refl}
+use Rattle.std.proofs.lemmas.Bool.{and_right}
 use Rattle.table_records.specs.Fields.{trim_end, is_empty}
 
 pub end_space : (xs : List ℕ) → trim_end (xs ++ 32 ∷ []) ≡ trim_end xs
@@ -12,13 +13,9 @@ kept : (b : ℕ) (xs : List ℕ) → (is_empty (xs ++ b ∷ [])) ≡ false
 kept b [] = refl
 kept b (x ∷ xs) = refl
 
-and_false : (p : Bool) → (p && false) ≡ false
-and_false true = refl
-and_false false = refl
-
 pub end_other : (xs : List ℕ) (b : ℕ) → (b == 32) ≡ false → trim_end (xs ++ b ∷ []) ≡ xs ++ b ∷ []
 end_other [] b h = rw h refl
-end_other (x ∷ xs) b h = rw (end_other xs b h, kept b xs, and_false (x == 32)) refl
+end_other (x ∷ xs) b h = rw (end_other xs b h, kept b xs, and_right (x == 32) false refl) refl
 
 -- the front of a text, with one more element
 take_last : (n : ℕ) (xs : List ℕ) → n < length xs → take (suc n) xs ≡ take n xs ++ get_or xs n 0 ∷ []

@@ -1,44 +1,12 @@
 //! The places of a feed and the walks between them: `location_type`, `parent_station` and `transfers.txt`.
 
-use crate::test_feeds::{expect_fault, feed_in, small_feed, station_feed};
+use crate::test_feeds::{expect_fault, reads, small_feed, station_feed};
 use gtfs_tables::{Feed, FeedBytes, FileName, Link, Place, What};
-use std::alloc::Global;
 use timetable::StopNo;
 
 /// A file whose third record names a stop that `stops.txt` hasn't.
 const UNKNOWN: &[u8] =
     b"from_stop_id,to_stop_id,transfer_type,min_transfer_time\nA,B,2,60\nA,Z,2,60\n";
-
-/// What a test expects of a feed.
-#[derive(Clone, Copy)]
-enum Expected {
-    Places,
-    Stations,
-    StopsOfPlaces,
-    TwoLinks,
-    ThreeUnused,
-    NoTransfers,
-}
-
-/// Whether the files are read, and a feed is as expected. One function owns the feeds of all tests, so that the drop of
-/// one is proved once.
-fn reads(alloc: Global, expected: Expected, files: FeedBytes<'static>) -> bool {
-    match feed_in(alloc, files) {
-        Some(feed) => is_as_expected(&feed, expected),
-        None => false,
-    }
-}
-
-fn is_as_expected(feed: &Feed, expected: Expected) -> bool {
-    match expected {
-        Expected::Places => has_places(feed),
-        Expected::Stations => has_stations(feed),
-        Expected::StopsOfPlaces => has_stops_of_places(feed),
-        Expected::TwoLinks => has_two_links(feed),
-        Expected::ThreeUnused => has_three_unused(feed),
-        Expected::NoTransfers => has_no_transfers(feed),
-    }
-}
 
 /// Whether an identifier is that of a station with these children.
 fn has_children(feed: &Feed, id: &[u8], stops: &[StopNo]) -> bool {
@@ -69,7 +37,7 @@ fn has_places(feed: &Feed) -> bool {
 /// `read_feed`.
 #[test]
 fn a_place_is_a_stop_a_station_or_another(rt: HostRuntime) {
-    assert!(rt; reads(rt.alloc(), Expected::Places, station_feed()));
+    assert!(rt; reads(rt.alloc(), has_places, station_feed()));
 }
 
 /// Whether the station S has the children A and B, T has none, and A is no station.
@@ -82,7 +50,7 @@ fn has_stations(feed: &Feed) -> bool {
 /// `read_feed`.
 #[test]
 fn a_station_between_its_children_has_both(rt: HostRuntime) {
-    assert!(rt; reads(rt.alloc(), Expected::Stations, station_feed()));
+    assert!(rt; reads(rt.alloc(), has_stations, station_feed()));
 }
 
 /// Whether the station S, the stop C and the entrance E stand for their stops.
@@ -95,7 +63,7 @@ fn has_stops_of_places(feed: &Feed) -> bool {
 /// `read_feed`.
 #[test]
 fn a_place_stands_for_its_stops(rt: HostRuntime) {
-    assert!(rt; reads(rt.alloc(), Expected::StopsOfPlaces, station_feed()));
+    assert!(rt; reads(rt.alloc(), has_stops_of_places, station_feed()));
 }
 
 /// Whether a walk leads from A to B, and one from the station S to C.
@@ -120,7 +88,7 @@ fn has_two_links(feed: &Feed) -> bool {
 /// `read_feed`.
 #[test]
 fn links_are_the_rows_that_give_a_walk(rt: HostRuntime) {
-    assert!(rt; reads(rt.alloc(), Expected::TwoLinks, station_feed()));
+    assert!(rt; reads(rt.alloc(), has_two_links, station_feed()));
 }
 
 /// Whether three rows of transfers give no walk.
@@ -131,7 +99,7 @@ fn has_three_unused(feed: &Feed) -> bool {
 /// `read_feed`.
 #[test]
 fn rows_without_a_walk_are_counted(rt: HostRuntime) {
-    assert!(rt; reads(rt.alloc(), Expected::ThreeUnused, station_feed()));
+    assert!(rt; reads(rt.alloc(), has_three_unused, station_feed()));
 }
 
 /// Whether a feed has no walk, and no row of transfers without one.
@@ -142,7 +110,7 @@ fn has_no_transfers(feed: &Feed) -> bool {
 /// `read_feed`.
 #[test]
 fn a_feed_without_transfers_has_no_links(rt: HostRuntime) {
-    assert!(rt; reads(rt.alloc(), Expected::NoTransfers, small_feed()));
+    assert!(rt; reads(rt.alloc(), has_no_transfers, small_feed()));
 }
 
 /// `read_feed`.

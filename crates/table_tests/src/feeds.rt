@@ -1,52 +1,10 @@
 //! What is read of a feed: its stops, routes, services, calendars and trips.
 
-use crate::test_feeds::{STOPS, TIMES, TRIPS, feed_in, feed_of, small_feed};
+use crate::test_feeds::{STOPS, TIMES, TRIPS, feed_of, reads, small_feed};
 use gtfs_tables::{
     CalendarRow, Departures, ExceptionRow, Feed, FeedBytes, FeedTrip, read_date, read_time,
 };
-use std::alloc::Global;
 use timetable::{Event, StopNo};
-
-/// What a test expects of a feed.
-#[derive(Clone, Copy)]
-enum Expected {
-    Small,
-    SmallOnMondays,
-    CalendarsAndDepartures,
-    ThreeServices,
-    TripsOfServices,
-    TwoExceptions,
-    OneException,
-    Departures,
-    Empty,
-    OneAside,
-    OpenTimes,
-}
-
-/// Whether the files are read, and a feed is as expected. One function owns the feeds of all tests, so that the drop of
-/// one is proved once.
-fn reads(alloc: Global, expected: Expected, files: FeedBytes<'static>) -> bool {
-    match feed_in(alloc, files) {
-        Some(feed) => is_as_expected(&feed, expected),
-        None => false,
-    }
-}
-
-fn is_as_expected(feed: &Feed, expected: Expected) -> bool {
-    match expected {
-        Expected::Small => is_small(feed),
-        Expected::SmallOnMondays => is_small_on_mondays(feed),
-        Expected::CalendarsAndDepartures => has_calendars_and_departures(feed),
-        Expected::ThreeServices => has_three_services(feed),
-        Expected::TripsOfServices => has_trips_of_services(feed),
-        Expected::TwoExceptions => has_two_exceptions(feed),
-        Expected::OneException => has_one_exception(feed),
-        Expected::Departures => has_departures(feed),
-        Expected::Empty => is_empty(feed),
-        Expected::OneAside => has_one_aside(feed),
-        Expected::OpenTimes => has_open_times(feed),
-    }
-}
 
 /// Whether a feed has the stops, routes, services and the two trips of the small feed, in seconds.
 fn is_small(feed: &Feed) -> bool {
@@ -126,7 +84,7 @@ fn is_small_on_mondays(feed: &Feed) -> bool {
 /// `read_feed`.
 #[test]
 fn reads_a_feed(rt: HostRuntime) {
-    assert!(rt; reads(rt.alloc(), Expected::SmallOnMondays, small_feed()));
+    assert!(rt; reads(rt.alloc(), is_small_on_mondays, small_feed()));
 }
 
 /// Whether a feed is the small one, with one row of each calendar, and one row of departures of its second trip.
@@ -162,7 +120,7 @@ fn takes_byte_order_marks_and_carriage_returns(rt: HostRuntime) {
         ),
         transfers: None,
     };
-    assert!(rt; reads(rt.alloc(), Expected::CalendarsAndDepartures, files));
+    assert!(rt; reads(rt.alloc(), has_calendars_and_departures, files));
 }
 
 /// `read_feed`.
@@ -174,14 +132,14 @@ fn puts_records_in_order_of_sequence(rt: HostRuntime) {
 3,B,08:15:00,08:15:00,T2
 9,A,08:00:00,08:00:00,T1
 ";
-    assert!(rt; reads(rt.alloc(), Expected::Small, feed_of(STOPS, TRIPS, times)));
+    assert!(rt; reads(rt.alloc(), is_small, feed_of(STOPS, TRIPS, times)));
 }
 
 /// `read_feed`.
 #[test]
 fn counts_stops_alone(rt: HostRuntime) {
     let stops = b"location_type,stop_id\n1,S\n,A\n0,B\n2,E\n00,C\n";
-    assert!(rt; reads(rt.alloc(), Expected::Small, feed_of(stops, TRIPS, TIMES)));
+    assert!(rt; reads(rt.alloc(), is_small, feed_of(stops, TRIPS, TIMES)));
 }
 
 /// The small feed with services that calendar_dates.txt and trips.txt name.
@@ -203,7 +161,7 @@ fn has_three_services(feed: &Feed) -> bool {
 /// `read_feed`.
 #[test]
 fn services_are_numbered_as_first_named(rt: HostRuntime) {
-    assert!(rt; reads(rt.alloc(), Expected::ThreeServices, three_services()));
+    assert!(rt; reads(rt.alloc(), has_three_services, three_services()));
 }
 
 /// Whether two trips of the second route run on the third and the second service.
@@ -223,7 +181,7 @@ fn runs_on(feed: &Feed, trip: u32, route: u32, service: u32) -> bool {
 /// `read_feed`.
 #[test]
 fn trips_have_routes_and_services(rt: HostRuntime) {
-    assert!(rt; reads(rt.alloc(), Expected::TripsOfServices, three_services()));
+    assert!(rt; reads(rt.alloc(), has_trips_of_services, three_services()));
 }
 
 /// Whether a date is added to the second service, and then one removed from the first.
@@ -240,7 +198,7 @@ fn is_exception(row: &ExceptionRow, service: u32, adds: bool) -> bool {
 /// `read_feed`.
 #[test]
 fn exceptions_have_services(rt: HostRuntime) {
-    assert!(rt; reads(rt.alloc(), Expected::TwoExceptions, three_services()));
+    assert!(rt; reads(rt.alloc(), has_two_exceptions, three_services()));
 }
 
 /// Whether a feed is the small one but for its days: no row of the first calendar, and one exception.
@@ -256,7 +214,7 @@ fn one_calendar_is_enough(rt: HostRuntime) {
         calendar_dates: Some(b"service_id,date,exception_type\nMON,20260504,1\n"),
         ..small_feed()
     };
-    assert!(rt; reads(rt.alloc(), Expected::OneException, files));
+    assert!(rt; reads(rt.alloc(), has_one_exception, files));
 }
 
 /// Whether the second trip of the small feed departs every ten minutes from eight to nine, and then never, and the
@@ -292,7 +250,7 @@ T2,12:00:00,11:00:00,1,0
         ),
         ..small_feed()
     };
-    assert!(rt; reads(rt.alloc(), Expected::Departures, files));
+    assert!(rt; reads(rt.alloc(), has_departures, files));
 }
 
 fn is_empty(feed: &Feed) -> bool {
@@ -313,7 +271,7 @@ fn an_empty_feed(rt: HostRuntime) {
             b"trip_id,stop_id,stop_sequence\n",
         )
     };
-    assert!(rt; reads(rt.alloc(), Expected::Empty, files));
+    assert!(rt; reads(rt.alloc(), is_empty, files));
 }
 
 /// `read_time`, `read_date`.
@@ -345,7 +303,7 @@ T1,,,,2
 T2,08:15:00,08:15:00,B,1
 T2,08:30:00,08:30:00,C,2
 ";
-    assert!(rt; reads(rt.alloc(), Expected::OneAside, feed_of(STOPS, TRIPS, times)));
+    assert!(rt; reads(rt.alloc(), has_one_aside, feed_of(STOPS, TRIPS, times)));
 }
 
 /// Whether the first of two trips has three events, with a time between, of which each forbids boarding or alighting.
@@ -368,11 +326,5 @@ T1,09:00:00,,A,1,,1
 T1,,,B,2,1,0
 T1,,09:10:00,C,3,2,01
 ";
-    assert!(rt;
-        reads(
-            rt.alloc(),
-            Expected::OpenTimes,
-            feed_of(STOPS, TRIPS, times)
-        )
-    );
+    assert!(rt; reads(rt.alloc(), has_open_times, feed_of(STOPS, TRIPS, times)));
 }

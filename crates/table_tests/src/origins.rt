@@ -1,6 +1,6 @@
 //! Origins and opportunities over the small feed.
 
-use crate::test_feeds::{feed_in, small_feed};
+use crate::test_feeds::{reads, small_feed};
 use gtfs_tables::{Feed, file_fits, read_opportunities, read_origins};
 use std::alloc::Global;
 use std::process::Abort;
@@ -28,35 +28,24 @@ fn gives_opportunities(alloc: Global, file: Option<&[u8]>, feed: &Feed, want: &[
     }
 }
 
-/// What a test expects of a file, or of none, beside the small feed.
-#[derive(Clone, Copy)]
-enum Expected<'a> {
-    Origins(Option<&'a [u8]>, &'a [StopNo]),
-    Opportunities(Option<&'a [u8]>, &'a [u32]),
-}
-
-/// Whether a file gives what is expected. One function owns the feeds of all tests, so that the drop of one is proved
-/// once.
-fn gives(alloc: Global, expected: Expected<'_>) -> bool {
-    match feed_in(alloc, small_feed()) {
-        Some(feed) => is_as_expected(alloc, &feed, expected),
-        None => false,
-    }
-}
-
-fn is_as_expected(alloc: Global, feed: &Feed, expected: Expected<'_>) -> bool {
-    match expected {
-        Expected::Origins(file, want) => gives_origins(alloc, file, feed, want),
-        Expected::Opportunities(file, want) => gives_opportunities(alloc, file, feed, want),
-    }
-}
-
 fn expect_origins(rt: &impl Abort, alloc: Global, file: Option<&[u8]>, want: &[StopNo]) {
-    assert!(rt; gives(alloc, Expected::Origins(file, want)));
+    assert!(rt;
+        reads(
+            alloc,
+            |feed| gives_origins(alloc, file, feed, want),
+            small_feed()
+        )
+    );
 }
 
 fn expect_opportunities(rt: &impl Abort, alloc: Global, file: Option<&[u8]>, want: &[u32]) {
-    assert!(rt; gives(alloc, Expected::Opportunities(file, want)));
+    assert!(rt;
+        reads(
+            alloc,
+            |feed| gives_opportunities(alloc, file, feed, want),
+            small_feed()
+        )
+    );
 }
 
 /// `read_origins`.

@@ -79,6 +79,17 @@ pub(crate) fn feed_in(alloc: Global, files: FeedBytes<'_>) -> Option<Box<Feed>> 
     }
 }
 
+/// Whether the files are read, and this holds of their feed. One function owns the feeds of the tests, so that the drop
+/// of one is proved once.
+pub(crate) fn reads<F: Fn(&Feed) -> bool>(alloc: Global, holds: F, files: FeedBytes<'_>) -> bool
+    requires { F.IsAlwaysCallable holds }
+{
+    match feed_in(alloc, files) {
+        Some(feed) => holds(feed.as_ref()),
+        None => false,
+    }
+}
+
 /// The fault of the files, none where they have none.
 pub(crate) fn fault_of(alloc: Global, files: FeedBytes<'_>) -> Option<FeedFault> {
     if !files.fits() {

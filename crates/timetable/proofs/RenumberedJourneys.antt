@@ -1,13 +1,11 @@
 -- Journeys of a network, and of the same network with its stops numbered anew.
-use Rattle.std.proofs.Common.{◌≡◌, ℕ, ◌+◌, ◌<◌, List, [], ◌∷◌, map, slice_get}
-use Rattle.std.proofs.Common.{IsTrue, refl, sym, ◌∙◌, ap, subst, arith}
+use Rattle.std.proofs.Common.{◌≡◌, ℕ, ◌+◌, ◌<◌, List, [], ◌∷◌, map, slice_get, IsTrue, refl, sym, ◌∙◌, ap, subst, arith}
 use Rattle.std.proofs.lemmas.Option.{slice_get_within}
 use Rattle.timetable.specs.declared.trips.Event.{Event}
 use Rattle.timetable.specs.declared.trips.Trip.{Trip}
 use Rattle.timetable.specs.Footpaths.{IsFoot}
 use Rattle.timetable.specs.Networks.{Net, IsNet, IsEvent}
-use Rattle.timetable.specs.Journeys.{Whereabouts, Leg, Ride, Walk, Journey, Rides, ready_at}
-use Rattle.timetable.specs.Journeys.{IsReached}
+use Rattle.timetable.specs.Journeys.{Whereabouts, Leg, Ride, Walk, Journey, Rides, ready_at, IsReached}
 use Rattle.timetable.specs.Renumbering.{renumbered_event, renumbered_trip, IsRenumbered, RenumberedStopsKeepDurations}
 use Rattle.timetable.specs.Renumbering.{RenumberedStopsKeepLabels}
 use Rattle.timetable.proofs.KnownParts.{event_stop, foot_in_range}

@@ -1,9 +1,10 @@
 -- The events of all trips, where no whole trip has a fault.
-use Rattle.std.proofs.Common.{◌≡◌, ◌<◌, ◌≤◌, ◌+◌, ◌-◌, ◌||◌, ◌∙◌, ℕ, zero, suc, Bool, true, false, List, [], ◌∷◌, ◌++◌}
+use Rattle.std.proofs.Common.{◌≡◌, ◌<◌, ◌≤◌, ◌+◌, ◌-◌, ◌∙◌, ℕ, zero, suc, Bool, true, false, List, [], ◌∷◌, ◌++◌}
 use Rattle.std.proofs.Common.{length, map, Option, Some, None, unwrap_or, arith, refl, sym, ap, subst, inr}
 use Rattle.std.proofs.Common.{if◌then◌else◌}
-use Rattle.std.proofs.lemmas.List.Elements.{All-cons, All-nil}
+use Rattle.std.proofs.lemmas.List.Elements.{All-cons, All-nil, All-tail}
 use Rattle.std.proofs.lemmas.List.Sums.{sum_by-cons}
+use Rattle.std.proofs.lemmas.Bool.{or_parts}
 use Rattle.std.specs.Prelude.{All, IfSome, is_none, slice_get, sum_by}
 use Rattle.timetable.specs.Trips.{EventsRise}
 use Rattle.timetable.specs.declared.trips.Event.{Event}
@@ -149,9 +150,6 @@ InTime e = (e.arrive ≤ 604799) × (e.depart ≤ 604799)
 abbrev IsTimely : Option Neighbour → Type 0
 IsTimely o = IfSome o (λ n. AreTimes n.times)
 
-tail_sound : {X : Type 0} (P : X → Type 0) (x : X) (rest : List X) → All P (x ∷ rest) → All P rest
-tail_sound P x rest all k d lt = all (suc k) d (omega (arith, lt))
-
 nearer_timely : (times : Option VisitTimes) (beyond : Option Neighbour) → IfSome times AreTimes → IsTimely beyond →
     IsTimely (nearer times beyond)
 nearer_timely None None a b = tt
@@ -161,7 +159,7 @@ nearer_timely (Some t) beyond a b = a
 nearest_timely : (n : ℕ) (trip_times : List StopTime) → All (IsSound n) trip_times → IsTimely (nearest trip_times)
 nearest_timely n [] all = tt
 nearest_timely n (s ∷ rest) all = nearer_timely s.times (nearest rest) (all zero s (omega arith)).times
-    (nearest_timely n rest (tail_sound (IsSound n) s rest all))
+    (nearest_timely n rest (All-tail (IsSound n) s rest all))
 
 timely : (times : Option VisitTimes) (before after : Option Neighbour) → IfSome times AreTimes → IsTimely before →
     IsTimely after → AreTimes (unwrap_or times (between before after))
@@ -178,15 +176,11 @@ in_time : (n : ℕ) (before : Option Neighbour) (trip_times : List StopTime) →
 in_time n before [] early all = All-nil InTime
 in_time n before (s ∷ rest) early all =
     let sound = all zero s (omega arith) in
-    let more = tail_sound (IsSound n) s rest all in
+    let more = All-tail (IsSound n) s rest all in
     let times = timely s.times before (nearest rest) sound.times early (nearest_timely n rest more) in
     All-cons InTime (event_at s (unwrap_or s.times (between before (nearest rest))))
     (filled_on (nearer s.times before) rest) (times.arrive, times.depart)
     (in_time n (nearer s.times before) rest (nearer_timely s.times before sound.times early) more)
-
-pub neither : (a b : Bool) → (a || b) ≡ false → (a ≡ false) × (b ≡ false)
-neither true b h = cc h
-neither false b h = (refl, h)
 
 stop_within : (n : ℕ) (o : Option ℕ) → IfSome o (λ k. k < n) → is_none o ≡ false → unwrap_or o 0 < n
 stop_within n None h some = cc some
@@ -196,11 +190,11 @@ at_stops : (n : ℕ) (before : Option Neighbour) (trip_times : List StopTime) �
     All (IsSound n) trip_times → All (λ (e : Event). e.stop.0 < n) (filled_on before trip_times)
 at_stops n before [] here all = All-nil (λ (e : Event). e.stop.0 < n)
 at_stops n before (s ∷ rest) here all =
-    let (first, more) = neither (is_none s.stop) (is_aside rest) here in
+    let (first, more) = or_parts (is_none s.stop) (is_aside rest) here in
     All-cons (λ (e : Event). e.stop.0 < n) (event_at s (unwrap_or s.times (between before (nearest rest))))
     (filled_on (nearer s.times before) rest)
     (stop_within n s.stop (all zero s (omega arith)).stop first)
-    (at_stops n (nearer s.times before) rest more (tail_sound (IsSound n) s rest all))
+    (at_stops n (nearer s.times before) rest more (All-tail (IsSound n) s rest all))
 
 -- the events of one trip
 record Fit (n : ℕ) (trip_times : List StopTime) (events : List Event) : Type 0 where
@@ -239,7 +233,7 @@ few_events n (trip_times ∷ trips) all none =
     let mapped = sum_by-cons (length {A = Event}) (events_of trip_times) (map events_of trips) in
     let plain = sum_by-cons (length {A = StopTime}) trip_times trips in
     let here = (fit n trip_times (all zero trip_times (omega arith)) first).few in
-    omega (arith, mapped, plain, few_events n trips (tail_sound (All (IsSound n)) trip_times trips all) more, here)
+    omega (arith, mapped, plain, few_events n trips (All-tail (All (IsSound n)) trip_times trips all) more, here)
 
 all_fit : (n : ℕ) (P : List Event → Type 0) →
     ((trip_times : List StopTime) → Fit n trip_times (events_of trip_times) → P (events_of trip_times))
@@ -250,7 +244,7 @@ all_fit n P f (trip_times ∷ trips) all none =
     let (first, more) = no_parts _ _ none in
     All-cons P (events_of trip_times) (map events_of trips)
     (f trip_times (fit n trip_times (all zero trip_times (omega arith)) first))
-    (all_fit n P f trips (tail_sound (All (IsSound n)) trip_times trips all) more)
+    (all_fit n P f trips (All-tail (All (IsSound n)) trip_times trips all) more)
 
 pub are_events : (n count : ℕ) (trips : List (List StopTime)) → sum_by length trips ≡ count → count ≤ 8000000 →
     All (All (IsSound n)) trips → whole_trip_faults trips ≡ []

@@ -4,6 +4,7 @@ use Rattle.std.proofs.Common.{arith, refl, sym, ap, subst, if◌then◌else◌}
 use Rattle.std.proofs.lemmas.Bool.Decides.{nat_tests}
 use Rattle.std.proofs.lemmas.List.{append-nil, append_assoc}
 use Rattle.std.proofs.lemmas.List.Elements.{All-cons, All-nil}
+use Rattle.std.proofs.lemmas.Bool.{or_parts}
 use Rattle.std.specs.Prelude.{All, nat_lt}
 use Rattle.table_records.specs.Faults.{faults_after, faults_at, when}
 use Rattle.table_records.specs.declared.fault.FileName.TheVariants as file
@@ -13,7 +14,7 @@ use Rattle.trip_events.specs.StopTimes.{TimeRow, checks, of_trip, sequence_of, s
 use Rattle.trip_events.specs.StopTimes.{stop_times_of, trip_of}
 use Rattle.trip_events.specs.TripTimes.{IsAscending, has_number, in_order, insert_in_order}
 use Rattle.trip_events.specs.declared.trip_times.StopTime.{StopTime}
-use Rattle.trip_events.proofs.EventFacts.{neither, no_parts, none_mapped}
+use Rattle.trip_events.proofs.EventFacts.{no_parts, none_mapped}
 use Rattle.trip_events.proofs.SortedFacts.{insert_all_push, more_other, more_same, number_in_order}
 use Rattle.trip_events.proofs.TimeFacts.{stop_times_push}
 
@@ -30,7 +31,7 @@ insert_up low s (t ∷ rest) le up absent =
         → IsAscending low (if b then s ∷ t ∷ rest else t ∷ insert_in_order s rest)
     by true h on = let lt : s.sequence + 1 ≤ t.sequence = grind (arith, nat_tests, h) in (le, (lt, up.1))
     by false h on =
-        let (here, more) = neither (t.sequence == s.sequence) (has_number s.sequence rest) absent in
+        let (here, more) = or_parts (t.sequence == s.sequence) (has_number s.sequence rest) absent in
         let gt : t.sequence + 1 ≤ s.sequence = grind (arith, nat_tests, h, here) in
         (up.0, on gt more)
 
@@ -53,7 +54,7 @@ grows t u old s up absent = by (u == t) refl
         let other = more_other u t old s (λ e. absurd (grind (arith, nat_tests, h, e))) in
         subst (λ (l : List StopTime). IsAscending 0 (in_order l)) (sym other) up
 
-clean : (b : Bool) (w : What) → when b w ≡ [] → b ≡ false
+pub clean : (b : Bool) (w : What) → when b w ≡ [] → b ≡ false
 clean true w e = cc e
 clean false w e = refl
 

@@ -1,20 +1,14 @@
 -- The records of all trips, with one more record.
 use Rattle.std.proofs.Common.{◌≡◌, ◌≢◌, ◌<◌, ◌+◌, ◌==◌, ◌||◌, ◌++◌, ◌∙◌, ℕ, zero, suc, Bool, true, false, List, [], ◌∷◌}
 use Rattle.std.proofs.Common.{length, get_or, set, filter, replicate, arith, refl, ap, sym}
-use Rattle.std.proofs.lemmas.Bool.Decides.{nat_tests}
 use Rattle.std.proofs.lemmas.List.{map-append, append-nil}
 use Rattle.std.proofs.lemmas.List.Elements.{All-cons, All-nil, filter-append}
+use Rattle.std.proofs.lemmas.Bool.{ne_eqb, eq-eqb}
 use Rattle.std.specs.Prelude.{All, nat_lt, if◌then◌else◌}
 use Rattle.std.specs.List.{list_any}
 use Rattle.trip_events.specs.TripTimes.{has_number, in_order, insert_all, insert_in_order}
 use Rattle.trip_events.specs.StopTimes.{of_trip, sorted_from}
 use Rattle.trip_events.specs.declared.trip_times.StopTime.{StopTime}
-
-equal : (m : ℕ) → (m == m) ≡ true
-equal m = grind (arith, nat_tests)
-
-differs : (m n : ℕ) → m ≢ n → (m == n) ≡ false
-differs m n h = grind (arith, nat_tests)
 
 -- a record of a trip, and of another
 pub more_same : (t : ℕ) (rows : List (ℕ × StopTime)) (s : StopTime) →
@@ -22,7 +16,7 @@ pub more_same : (t : ℕ) (rows : List (ℕ × StopTime)) (s : StopTime) →
 more_same t rows s =
     rw (
       filter-append (λ (r : ℕ × StopTime). r.0 == t) rows ((t, s) ∷ []),
-      equal t,
+      eq-eqb t t refl,
       map-append (λ (r : ℕ × StopTime). r.1) (filter (λ (r : ℕ × StopTime). r.0 == t) rows) ((t, s) ∷ []),
     ) refl
 
@@ -31,7 +25,7 @@ pub more_other : (t u : ℕ) (rows : List (ℕ × StopTime)) (s : StopTime) → 
 more_other t u rows s ne =
     rw (
       filter-append (λ (r : ℕ × StopTime). r.0 == u) rows ((t, s) ∷ []),
-      differs t u ne,
+      ne_eqb t u ne,
       append-nil (filter (λ (r : ℕ × StopTime). r.0 == u) rows),
     ) refl
 

@@ -26,6 +26,7 @@ use Rattle.table_records.specs.declared.fault.FeedFault.{FeedFault}
 use Rattle.trip_events.specs.WholeTrips.{events_of, is_aside, whole_trip_faults}
 use Rattle.trip_events.specs.declared.trip_times.StopTime.{StopTime}
 use Rattle.table_records.proofs.RowFacts.{first_map}
+use Rattle.table_records.proofs.FaultFacts.{first_append}
 use Rattle.trip_events.proofs.SortedFacts.{All-insert_in_order, any_in_order, length-insert_in_order, number_in_order}
 use Rattle.trip_events.proofs.SortedFacts.{sorted_at, sorted_more, sorted_none}
 
@@ -109,10 +110,6 @@ times_small None None p q = tt
 times_small None (Some d) p q = record { arrive = q d refl; depart = q d refl }
 times_small (Some a) None p q = record { arrive = p a refl; depart = p a refl }
 times_small (Some a) (Some d) p q = record { arrive = p a refl; depart = q d refl }
-
-first_append : {X : Type 0} (xs ys : List X) (x : X) → slice_get xs 0 ≡ Some x → slice_get (xs ++ ys) 0 ≡ Some x
-first_append [] ys x h = cc h
-first_append (z ∷ xs) ys x h = h
 
 -- a record that comes after those before it
 module _ (trips stops : List (List ℕ)) (before : List TimeRow) (r : TimeRow) (few : length before < 8000000) where

@@ -1,8 +1,8 @@
 -- Ascending records.
-use Rattle.std.proofs.Common.{◌≡◌, ◌≢◌, ◌<◌, ◌≤◌, ◌+◌, ◌==◌, ℕ, zero, suc, Bool, true, false, List, [], ◌∷◌}
-use Rattle.std.proofs.Common.{length, get_or, insert, arith, refl}
-use Rattle.std.proofs.lemmas.Bool.Decides.{nat_tests}
-use Rattle.std.specs.Prelude.{None, nat_lt}
+use Rattle.std.proofs.Common.{◌≡◌, ◌<◌, ◌≤◌, ◌+◌, ◌==◌, ℕ, zero, suc, Bool, false, List, [], ◌∷◌, length, get_or}
+use Rattle.std.proofs.Common.{insert, arith, refl}
+use Rattle.std.proofs.lemmas.Bool.{lt-ltb, ne_eqb, le-ltb}
+use Rattle.std.specs.Prelude.{None}
 use Rattle.std.specs.List.{list_any}
 use Rattle.std.specs.List.Sorted.{IsNonDecreasingBy}
 use Rattle.trip_events.specs.TripTimes.{FitsAt, IsAscending, insert_in_order}
@@ -12,21 +12,12 @@ use Rattle.trip_events.specs.declared.trip_times.StopTime.{StopTime}
 abbrev pub has : ℕ → StopTime → Bool
 has n s = s.sequence == n
 
-differs : (m n : ℕ) → m ≢ n → (m == n) ≡ false
-differs m n h = grind (arith, nat_tests)
-
-is_below : (m n : ℕ) → m < n → nat_lt m n ≡ true
-is_below m n h = grind (arith, nat_tests)
-
-not_below : (m n : ℕ) → n ≤ m → nat_lt m n ≡ false
-not_below m n h = grind (arith, nat_tests)
-
 -- records from a greater number on do not have it
 above : (low n : ℕ) (xs : List StopTime) → n < low → IsAscending low xs → list_any (has n) xs ≡ false
 above low n [] lt up = refl
 above low n (s ∷ rest) lt up =
     let le = up.0 in
-    let here : (s.sequence == n) ≡ false = differs _ _ (λ e. absurd (omega (arith, e, le))) in
+    let here : (s.sequence == n) ≡ false = ne_eqb _ _ (λ e. absurd (omega (arith, e, le))) in
     rw (here, above (s.sequence + 1) n rest (omega (arith, le)) up.1) refl
 
 -- each record has at least the first number
@@ -62,41 +53,35 @@ pub fits_at : (p low : ℕ) (xs : List StopTime) (x : StopTime) → IsAscending 
 fits_at zero low [] x up le within below beyond = record { absent = refl; ascending = (le, tt); placed = refl }
 fits_at zero low (s ∷ rest) x up le within below beyond =
     let gt : x.sequence < s.sequence = beyond (omega arith) in
-    let here : (s.sequence == x.sequence) ≡ false = differs _ _ (λ e. absurd (omega (arith, e))) in
+    let here : (s.sequence == x.sequence) ≡ false = ne_eqb _ _ (λ e. absurd (omega (arith, e))) in
     record {
       absent = rw (here, above (s.sequence + 1) x.sequence rest (omega arith) up.1) refl;
       ascending = (le, (omega arith, up.1));
-      placed = rw (is_below x.sequence s.sequence gt) refl;
+      placed = rw (lt-ltb x.sequence s.sequence gt) refl;
     }
 fits_at (suc p) low [] x up le within below beyond = absurd (omega arith)
 fits_at (suc zero) low (s ∷ rest) x up le within below beyond =
     let lt : s.sequence < x.sequence = below zero refl in
-    let here : (s.sequence == x.sequence) ≡ false = differs _ _ (λ e. absurd (omega (arith, e))) in
+    let here : (s.sequence == x.sequence) ≡ false = ne_eqb _ _ (λ e. absurd (omega (arith, e))) in
     let more = fits_at zero (s.sequence + 1) rest x up.1 (omega arith) (omega arith) (λ m h. absurd (omega (arith, h)))
     (λ h. beyond (omega arith)) in
     record {
       absent = rw (here, more.absent) refl;
       ascending = (up.0, more.ascending);
-      placed = rw (not_below x.sequence s.sequence (omega arith), more.placed) refl;
+      placed = rw (le-ltb x.sequence s.sequence (omega arith), more.placed) refl;
     }
 fits_at (suc (suc p)) low (s ∷ rest) x up le within below beyond =
     let last : (get_or rest p x).sequence < x.sequence = below (suc p) refl in
     let first : s.sequence < (get_or rest p x).sequence =
     (let h = at_least p (s.sequence + 1) rest x up.1 (omega arith) in omega (arith, h)) in
-    let here : (s.sequence == x.sequence) ≡ false = differs _ _ (λ e. absurd (omega (arith, e))) in
+    let here : (s.sequence == x.sequence) ≡ false = ne_eqb _ _ (λ e. absurd (omega (arith, e))) in
     let more = fits_at (suc p) (s.sequence + 1) rest x up.1 (omega arith) (omega arith) (λ m h. let e : m ≡ p =
     omega (arith, h) in rw e last) (λ h. beyond (omega arith)) in
     record {
       absent = rw (here, more.absent) refl;
       ascending = (up.0, more.ascending);
-      placed = rw (not_below x.sequence s.sequence (omega arith), more.placed) refl;
+      placed = rw (le-ltb x.sequence s.sequence (omega arith), more.placed) refl;
     }
-
--- a default makes no difference
-pub any_default : (xs : List StopTime) (k : ℕ) (d e : StopTime) → k < length xs → get_or xs k d ≡ get_or xs k e
-any_default [] k d e h = absurd (omega arith)
-any_default (x ∷ xs) zero d e h = refl
-any_default (x ∷ xs) (suc k) d e h = any_default xs k d e (omega arith)
 
 -- where a record with a sequence number belongs
 pub fits : (i n : ℕ) (xs : List StopTime) → IsAscending 0 xs → i ≤ length xs →

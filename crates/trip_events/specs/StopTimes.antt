@@ -8,7 +8,7 @@ use Rattle.std.specs.List.{list_any}
 use Rattle.std.specs.Str.{bytes_eq}
 use Rattle.timetable.specs.declared.limits.TheConstants.{MOST_EVENTS}
 use Rattle.table_records.specs.Columns.{column, field}
-use Rattle.table_records.specs.Fields.{is_empty, number_of, time_of, trimmed}
+use Rattle.table_records.specs.Fields.{is_empty, number_of, time_of, trimmed, is_number}
 use Rattle.table_records.specs.Faults.{when}
 use Rattle.table_records.specs.Reading.{table_faults, table_rows}
 use Rattle.table_records.specs.Table.{records_of}
@@ -17,7 +17,6 @@ use Rattle.table_records.specs.declared.fault.FileName.TheVariants as file
 use Rattle.table_records.specs.declared.fault.What.{What}
 use Rattle.table_records.specs.declared.fault.What.TheVariants as what
 use Rattle.timetable.specs.declared.trips.Event.{Event}
-use Rattle.table_records.specs.Fields.{is_number}
 use Rattle.table_records.specs.Identifiers.{number_in}
 use Rattle.trip_events.specs.TripTimes.{IsSound, has_number, in_order}
 use Rattle.trip_events.specs.WholeTrips.{events_of, whole_trip_faults}

@@ -1,7 +1,7 @@
 //! The records of one trip: when it calls at which stop, in ascending order of `stop_sequence`.
 
-ghost use Rattle.std.specs.Prelude.{◌≡◌, ◌<◌, ◌≤◌, ℕ, [], true, false, length, slice_index_or, IfNone, IfSome, IsTrue};
-ghost use Rattle.std.specs.Prelude.{OnErr, OnOk};
+ghost use Rattle.std.specs.Prelude.{◌≡◌, ◌<◌, ◌≤◌, ℕ, [], true, length, slice_index_or, IfNone, IfSome, IsTrue, OnErr};
+ghost use Rattle.std.specs.Prelude.{OnOk};
 ghost use Rattle.trip_events.specs.declared.trip_times.StopTime.{StopTime};
 ghost use Rattle.trip_events.specs.TripTimes.{FitsAt, IsAscending, has_number, insert_in_order};
 

@@ -1,7 +1,9 @@
 -- What a lowered stop does to each lane.
 use Rattle.std.proofs.Common.{◌≡◌, ◌≢◌, ℕ, zero, suc, [], ◌∷◌, ◌<◌, ◌≤◌, ◌⊎◌, inl, inr, Bool, true, min, max, List}
-use Rattle.std.proofs.Common.{length, get_or, set, slice_index, slice_get, Some, refl, sym, ◌∙◌, ap, arith, subst}
-use Rattle.std.proofs.lemmas.Bool.{cases_eq, cases_lt}
+use Rattle.std.proofs.Common.{length, get_or, set, slice_index, slice_get, Some, refl, sym, ◌∙◌, ap, arith, subst, ◌↔◌}
+use Rattle.std.proofs.Common.{false, ◌||◌}
+use Rattle.std.proofs.Math.Bool.{or-true, or-false}
+use Rattle.std.proofs.lemmas.Bool.{cases_eq, cases_lt, cases_Bool, false≢true}
 use Rattle.std.proofs.lemmas.List.{length-set, length-map, get_or-set_same, get_or-set_other, set-get_or, map-set}
 use Rattle.std.proofs.lemmas.List.{get_or-map}
 use Rattle.timetable.specs.Least.{IsLeast}
@@ -126,6 +128,17 @@ marks_same xs v i was within none =
       );
     }
 
+-- the stop is marked if it was, or if this is so just where a lane fell
+pub marks_either : {lanes : ℕ} (xs : List (List ℕ)) (v : List ℕ) (i : ℕ) (was : List Bool) (fell : Bool) →
+    i < length xs → length was ≡ length xs → (fell ≡ true) ↔ SomeFellOf lanes v (get_or xs i []) →
+    MarksFallenOf lanes xs (set xs i v) was (set was i (get_or was i false || fell))
+marks_either xs v i was fell within same is =
+    elim (cases_Bool fell) [
+      | inl on ↦ rw (on, or-true (get_or was i false)) (marks_fell xs v i was within same (is.0 on))
+      | inr off ↦ rw (off, or-false (get_or was i false), set-get_or was i false)
+          (marks_same xs v i was within (λ f. false≢true (sym off ∙ is.1 f)))
+    ]
+
 -- the labels of the row at a stop, in each lane
 pub row_labels : {A : Type 0} (labels : A → List ℕ) (rows : List A) (i : ℕ) (row none : A) → row ≡ get_or rows i none →
     i < length rows → get_or (labels_in labels rows) i [] ≡ labels row
@@ -136,16 +149,3 @@ pub row_lane : {A : Type 0} (labels : A → List ℕ) (rows : List A) (i l : ℕ
 row_lane labels rows i l row none is within =
     lane_old (labels_in labels rows) i l (omega (arith, length-map rows labels))
     ∙ ap (λ v. slice_index v l) (row_labels labels rows i row none is within)
-
--- a flag that was written, and another
-pub set_get_apart : (was : List Bool) (i p : ℕ) (b : Bool) → (p ≡ i → ⊥) → slice_get (set was i b) p ≡ slice_get was p
-set_get_apart [] i p b ne = refl
-set_get_apart (c ∷ was) zero zero b ne = absurd (ne refl)
-set_get_apart (c ∷ was) zero (suc p) b ne = refl
-set_get_apart (c ∷ was) (suc i) zero b ne = refl
-set_get_apart (c ∷ was) (suc i) (suc p) b ne = set_get_apart was i p b (λ e. ne (ap suc e))
-
-pub set_get_to : (was : List Bool) (i : ℕ) (b : Bool) → i < length was → slice_get (set was i b) i ≡ Some b
-set_get_to [] i b l = absurd (omega arith)
-set_get_to (c ∷ was) zero b l = refl
-set_get_to (c ∷ was) (suc i) b l = set_get_to was i b (omega arith)

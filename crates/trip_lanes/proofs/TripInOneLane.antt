@@ -10,8 +10,7 @@ use Rattle.timetable.specs.declared.least.TheConstants.{NEVER}
 use Rattle.timetable.specs.RoundSteps.{Lowers}
 use Rattle.timetable.proofs.LowersCompose.{lowers_alike, lowers_both}
 use Rattle.trip_lanes.proofs.TripByEvents.{BoardsBelow, CarriesBelow, carry_alight, carry_pass, boards_still}
-use Rattle.trip_lanes.proofs.TripByEvents.{boards_here}
-use Rattle.trip_lanes.proofs.TripByEvents.{boards_not}
+use Rattle.trip_lanes.proofs.TripByEvents.{boards_here, boards_not}
 use Rattle.trip_lanes.specs.Lane.{lane, MarksFallenOf}
 
 -- a lane after the first x events
@@ -119,9 +118,3 @@ marks_then a b c was mid is ab bc h k =
             ],
           );
     }
-
-pub marks_none : {lanes : ℕ} (a : List (List ℕ)) (was : List Bool) → MarksFallenOf lanes a a was was
-marks_none a was = record {
-  same_length = refl;
-  marks = λ p l. (λ s. inl s, λ o. elim o [ inl s ↦ s | inr f ↦ absurd (omega (arith, f.2)) ]);
-}

@@ -4,7 +4,7 @@ use Rattle.std.proofs.Common.{min, max, List, length, get_or, map, replicate, re
 use Rattle.std.proofs.lemmas.Simd.{tops_compared, get_or-sel_l, get_or-zip2, length-zip2, mask_l-mod, length-sel_l}
 use Rattle.std.proofs.lemmas.Simd.{get_or-replicate, length-replicate}
 use Rattle.std.proofs.lemmas.Bool.Decides.{nat_tests}
-use Rattle.std.proofs.lemmas.Bool.{false≢true, lt-ltb, eq-eqb}
+use Rattle.std.proofs.lemmas.Bool.{false≢true, lt-ltb, eq-eqb, eqb-true}
 use Rattle.std.specs.Prelude.{not, IsTrue, nat_eq, slice_index, ◌↔◌, ◌%◌}
 use borrow.Author.Tests.{ltb-true}
 use Rattle.std.proofs.Math.Nat.{mod-eq_of_lt, add-mod_left, one-le-pow, two-pow-succ}
@@ -59,12 +59,8 @@ pub all_set : (ms : List Bool) (i : ℕ) → i < length ms → mask_l ms ≡ 2 ^
 all_set [] i l e = absurd (omega arith)
 all_set (false ∷ ms) i l e = absurd (omega (arith, e, two-pow-succ (length ms), one-le-pow (length ms) 2 (omega arith)))
 all_set (true ∷ ms) zero l e = refl
-all_set (true ∷ ms) (suc i) l e = all_set ms i (omega arith) (omega (
-  arith,
-  e,
-  two-pow-succ (length ms),
-  one-le-pow (length ms) 2 (omega arith),
-))
+all_set (true ∷ ms) (suc i) l e = all_set ms i (omega arith)
+    (omega (arith, e, two-pow-succ (length ms), one-le-pow (length ms) 2 (omega arith)))
 
 -- and where each is, all are
 set_all : (ms : List Bool) → ((i : ℕ) → i < length ms → get_or ms i false ≡ true) → mask_l ms ≡ 2 ^ length ms - 1
@@ -73,9 +69,6 @@ set_all (false ∷ ms) each = absurd (false≢true (each 0 (omega arith)))
 set_all (true ∷ ms) each =
     let rest = set_all ms (λ i l. each (suc i) (omega arith)) in
     omega (arith, rest, two-pow-succ (length ms), one-le-pow (length ms) 2 (omega arith))
-
-same_number : (a b : ℕ) → eqb a b ≡ true → a ≡ b
-same_number a b same = grind (arith, nat_tests)
 
 lower_where_other : (a b : ℕ) → a ≤ b → not (eqb a b) ≡ true → a < b
 lower_where_other a b le other = grind (arith, nat_tests)
@@ -206,7 +199,7 @@ module _ (w : Width) (n : ℕ) where
       let e : length ms ≡ n = length-zip2 t xs ys (xl ∙ sym yl) ∙ xl in
       let word : mask_l (tops_of w t xs ys) % 2 ^ 64 ≡ mask_l ms =
       rw (tops_compared w t xs ys) (mask_l-mod ms 64 (omega arith)) in
-      let full : mask_l ms ≡ 2 ^ length ms - 1 = rw e (same_number (mask_l ms) (2 ^ n - 1) (rw word at whole)) in
+      let full : mask_l ms ≡ 2 ^ length ms - 1 = rw e (eqb-true (mask_l ms) (2 ^ n - 1) (rw word at whole)) in
       sym (get_or-zip2 t xs ys l 0 0 false (omega arith) (omega arith)) ∙ all_set ms l (omega arith) full
 
   -- and where it does in each, in all

@@ -12,12 +12,8 @@ pub lane_of : (n : ℕ) (row : List ℕ) (from l : ℕ) → from + n ≤ length 
     × (l < length (chunk 0 n (take (from + n - from) (drop from row))))
 lane_of n row from l inside lt =
     let slice = take (from + n - from) (drop from row) in
-    let slice_len : 0 + n ≤ length slice = omega (
-      arith,
-      length-take (from + n - from) (drop from row),
-      length-drop from row,
-      inside,
-    ) in
+    let slice_len : 0 + n ≤ length slice =
+    omega (arith, length-take (from + n - from) (drop from row), length-drop from row, inside) in
     let lane : 0 + l ≡ l = omega arith in (
       get_or-chunk 0 n slice l 0 lt ∙ rw lane (get_or-take (from + n - from) (drop from row) l 0 (omega (arith, lt))
           ∙ get_or-drop from row l 0),

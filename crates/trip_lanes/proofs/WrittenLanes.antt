@@ -18,10 +18,8 @@ module _ {A : Type 0} (labels : A → List ℕ) where
   pub row_new : (rows : List A) (row : A) (i l : ℕ) → i < length rows →
       slice_index (lane l (labels_in labels (set rows i row))) i ≡ slice_index (labels row) l
   row_new rows row i l within =
-      row_old (set rows i row) i row l (sym (get_or-set_same rows i row row within)) (omega (
-        arith,
-        length-set rows i row,
-      ))
+      row_old (set rows i row) i row l (sym (get_or-set_same rows i row row within))
+      (omega (arith, length-set rows i row))
 
   pub row_other : (rows : List A) (row : A) (i p l : ℕ) → p ≢ i →
       slice_index (lane l (labels_in labels (set rows i row))) p ≡ slice_index (lane l (labels_in labels rows)) p

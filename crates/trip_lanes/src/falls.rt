@@ -1,5 +1,5 @@
 //! How far the labels of stops fell.
-ghost use Rattle.std.specs.Prelude.{◌≡◌, ℕ, ◌<◌, List, length};
+ghost use Rattle.std.specs.Prelude.{◌≡◌, ℕ, ◌<◌, ◌≤◌, List, length};
 ghost use Rattle.trip_lanes.specs.Lane.{lane, labels_in};
 ghost use Rattle.trip_lanes.specs.Falls.{AreFalls, AreNoted};
 
@@ -27,7 +27,7 @@ pub const UNFALLEN: Fall = Fall {
 /// How far the labels of each stop fell that is noted in `fallen`, from those that were kept of it; at the others none
 /// did.
 pub fn falls_of<R: LaneLabels>(before: &[R], ready: &[R], fallen: &[bool], falls: &mut [Fall])
-    requires before { length before.now ≡ length ready.now }
+    requires before { length ready.now ≤ length before.now }
     requires fallen { length fallen.now ≡ length ready.now }
     requires falls { length falls.old ≡ length ready.now }
     ensures same { length falls.new ≡ length falls.old }

@@ -1,5 +1,5 @@
 //! Labels of one stop that are lowered, in each lane.
-ghost use Rattle.std.specs.Prelude.{◌≡◌, ℕ, ◌<◌, length, slice_index, List, set, true, false};
+ghost use Rattle.std.specs.Prelude.{◌≡◌, ◌-◌, ℕ, ◌<◌, length, slice_index, List, set, true, false};
 ghost use Rattle.trip_lanes.specs.Falls.{AreNoted};
 ghost use Rattle.trip_lanes.specs.Lane.{lane, labels_in, MarksFallenOf};
 ghost use Rattle.timetable.specs.RoundSteps.{Lowers};
@@ -19,14 +19,13 @@ pub fn lower_row<R: LaneLabels>(labels: &mut [R], marked: &mut [bool], stop: usi
 {
     let old = labels[stop];
     let new = old.lower_of(times);
-    if new.changed(old) {
-        labels[stop] = new;
-        marked[stop] = true;
-    }
+    marked[stop] = marked[stop] | new.changed(old);
+    labels[stop] = new;
 }
 
 /// Lowers the lanes of a stop to these times. Where one fell the stop is noted, and at its first fall its labels before
-/// are kept.
+/// are kept. `before` has one row more than there are stops, for what is stored of a stop that is noted already: so
+/// nothing branches.
 #[inline(always)]
 pub(crate) fn lower_noting<R: LaneLabels>(
     ready: &mut [R],
@@ -37,7 +36,7 @@ pub(crate) fn lower_noting<R: LaneLabels>(
 )
     requires stop { stop < length ready.old }
     requires fallen { length fallen.old ≡ length ready.old }
-    requires before { length before.old ≡ length ready.old }
+    requires before { length ready.old < length before.old }
     ensures lanes { (l : ℕ) → l < R.LANES → Lowers (λ p x. (p ≡ stop)
         × (x ≡ slice_index (R.labels times) l)) (lane l (labels_in R.labels ready.old))
         (lane l (labels_in R.labels ready.new)) }
@@ -48,22 +47,18 @@ pub(crate) fn lower_noting<R: LaneLabels>(
         AreNoted was (lane l (labels_in R.labels ready.new)) (lane l (labels_in R.labels before.new)) fallen.new }
 {
     let old = ready[stop];
-    let low = old.lower_of(times);
-    if low.changed(old) {
-        keep_first(before, stop, old, fallen[stop]);
-        ready[stop] = low;
-        fallen[stop] = true;
-    }
+    let noted = fallen[stop];
+    lower_row(ready, fallen, stop, times);
+    keep_first(before, stop, old, noted);
 }
 
-/// Keeps the labels of a stop, unless its first fall is noted already.
+/// Keeps the labels of a stop, unless its first fall is noted already: then the last row takes them.
 #[inline(always)]
 fn keep_first<R: LaneLabels>(before: &mut [R], stop: usize, old: R, noted: bool)
     requires stop { stop < length before.old }
     ensures first { noted ≡ false → before.new ≡ set before.old stop old }
-    ensures later { noted ≡ true → before.new ≡ before.old }
+    ensures later { noted ≡ true → before.new ≡ set before.old (length before.old - 1) old }
 {
-    if !noted {
-        before[stop] = old;
-    }
+    let last = before.len() - 1;
+    before[if noted { last } else { stop }] = old;
 }

@@ -24,7 +24,7 @@ pub fn walk_marked<R: LaneLabels>(
     requires marked { length marked.now ≡ length feet.now.walks }
     requires ready { length ready.old ≡ length feet.now.walks }
     requires fallen { length fallen.old ≡ length feet.now.walks }
-    requires before { length before.old ≡ length feet.now.walks }
+    requires before { length feet.now.walks < length before.old }
     requires fits { (l p : ℕ) → l < R.LANES → slice_index (lane l (labels_in R.labels ready.old)) p ≤ R.NEVER }
     requires settled { (l x : ℕ) → l < R.LANES → x < length feet.now.walks → (slice_get marked.now x ≡ Some true → ⊥) →
         NothingLower (OfferedFrom feet.now.walks (lane l (labels_in R.labels ride.now)) x)
@@ -62,7 +62,7 @@ pub fn transfer_marked<R: LaneLabels>(
     requires marked { length marked.now ≡ length feet.now.walks }
     requires ready { length ready.old ≡ length feet.now.walks }
     requires fallen { length fallen.old ≡ length feet.now.walks }
-    requires before { length before.old ≡ length feet.now.walks }
+    requires before { length feet.now.walks < length before.old }
     requires fits { (l p : ℕ) → l < R.LANES → slice_index (lane l (labels_in R.labels ready.old)) p ≤ R.NEVER }
     requires settled { (l x : ℕ) → l < R.LANES → x < length feet.now.walks → (slice_get marked.now x ≡ Some true → ⊥) →
         NothingLower (TransferredFrom feet.now (lane l (labels_in R.labels ride.now)) x)
@@ -103,7 +103,7 @@ fn walk_noting<R: LaneLabels>(
     requires targets { (k stop seconds : ℕ) → slice_get leaving.now k ≡ Some (record { 0 = stop }, seconds) →
         stop < length ready.old }
     requires fallen { length fallen.old ≡ length ready.old }
-    requires before { length before.old ≡ length ready.old }
+    requires before { length ready.old < length before.old }
     ensures lanes { (l : ℕ) → l < R.LANES → Lowers (LeavesLaterTo R.NEVER leaving.now (slice_index (R.labels times) l))
         (lane l (labels_in R.labels ready.old)) (lane l (labels_in R.labels ready.new)) }
     ensures fallen { MarksFallenOf R.LANES (labels_in R.labels ready.old) (labels_in R.labels ready.new) fallen.old

@@ -1,7 +1,6 @@
 -- Labels that are taken in another order, by the places of their bytes.
 use Rattle.std.proofs.Common.{◌≡◌, ℕ, zero, suc, ◌+◌, ◌-◌, ◌*◌, ◌/◌, ◌%◌, ◌<◌, ◌≤◌, List, [], ◌∷◌, length, get_or}
-use Rattle.std.proofs.Common.{slice_index, sym, ◌∙◌, ap, arith}
-use Rattle.std.proofs.Common.{ltb, min, replicate}
+use Rattle.std.proofs.Common.{slice_index, sym, ◌∙◌, ap, arith, ltb, min, replicate}
 use Rattle.std.proofs.Math.Nat.{mod-eq_of_lt, add-mod_left}
 use Rattle.std.proofs.lemmas.Simd.{get_or-chunk, length-chunk, get_or-zip2, length-zip2, get_or-replicate}
 use Rattle.std.proofs.lemmas.Simd.{length-replicate}
@@ -29,12 +28,8 @@ some_on positions steps m (suc l) within =
 -- the number that four bytes make
 four_bytes : (bytes : List ℕ) → length bytes ≡ 4 → number_l 256 bytes ≡ get_or bytes 0 0 + (256 * get_or bytes 1 0
     + (65536 * get_or bytes 2 0 + 16777216 * get_or bytes 3 0))
-four_bytes [] long = absurd (omega (arith, long))
-four_bytes (a ∷ []) long = absurd (omega (arith, long))
-four_bytes (a ∷ b ∷ []) long = absurd (omega (arith, long))
-four_bytes (a ∷ b ∷ c ∷ []) long = absurd (omega (arith, long))
 four_bytes (a ∷ b ∷ c ∷ d ∷ []) long = omega arith
-four_bytes (a ∷ b ∷ c ∷ d ∷ e ∷ more) long = absurd (omega (arith, long))
+four_bytes _ long = absurd (omega (arith, long))
 
 -- each of the numbers that sixteen bytes make
 pub four_from : (bytes : List ℕ) (l : ℕ) → l < 4 → length bytes ≡ 16 → number_l 256 (chunk (4 * l) 4 bytes)

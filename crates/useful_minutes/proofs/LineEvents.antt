@@ -1,6 +1,5 @@
 -- The events of the trips of a line.
-use Rattle.std.proofs.Common.{◌≡◌, ℕ, ◌<◌, List, length, slice_get, get_or, Some, ◌∙◌, ap}
-use Rattle.std.proofs.Common.{arith, []}
+use Rattle.std.proofs.Common.{◌≡◌, ℕ, ◌<◌, List, length, slice_get, get_or, Some, ◌∙◌, ap, arith, []}
 use Rattle.std.proofs.lemmas.List.{length-map}
 use Rattle.std.proofs.lemmas.Option.{slice_get_within, slice_get-get_or, get_or_from_slice_get}
 use Rattle.timetable.specs.declared.trips.Trip.{Trip}

@@ -1,7 +1,6 @@
 -- The trips of a line that can be boarded first, and the boardings of the line.
-use Rattle.std.proofs.Common.{◌≡◌, ◌≢◌, ℕ, ◌+◌, ◌*◌, ◌<◌, ◌≤◌, ◌⊎◌, ◌++◌, ◌∷◌, [], inl, inr, false, List, Bool}
-use Rattle.std.proofs.Common.{All, IsTrue, length}
-use Rattle.std.proofs.Common.{slice_get, slice_index, get_or, Some, refl, sym, ◌∙◌, ap, subst, arith}
+use Rattle.std.proofs.Common.{◌≡◌, ◌≢◌, ℕ, ◌+◌, ◌*◌, ◌<◌, ◌≤◌, ◌⊎◌, ◌++◌, ◌∷◌, [], inl, inr, false, List, Bool, All}
+use Rattle.std.proofs.Common.{IsTrue, length, slice_get, slice_index, get_or, Some, refl, sym, ◌∙◌, ap, subst, arith}
 use Rattle.std.proofs.lemmas.Bool.{cases_lt, false≢true}
 use Rattle.std.proofs.lemmas.Option.{same_Some, slice_get_within, slice_get-get_or, get_or_from_slice_get}
 use Rattle.timetable.specs.declared.least.TheConstants.{NEVER}
@@ -12,7 +11,7 @@ use Rattle.timetable.specs.Lines.{IsLine, Line, LineTable, AreLinesOf}
 use Rattle.timetable.specs.LineViews.{IsAt, IsViewOf, departures_in, rows_of_line}
 use Rattle.timetable.specs.Networks.{Net, IsNet}
 use Rattle.timetable.proofs.KnownParts.{all_at, event_stop, foot_short}
-use Rattle.timetable.proofs.ListsAddedTo.{get_added, get_cases, get_kept}
+use Rattle.timetable.proofs.ListsAddedTo.{get_added, get_cases, get_kept, is_there}
 use Rattle.useful_minutes.specs.Boarding.{IsNear}
 use Rattle.useful_minutes.specs.Marks.{AreBoardings, AreWalks, CoversLine, CoversTrip, Grows, IsBoarding}
 use Rattle.useful_minutes.proofs.LineEvents.{events_here}
@@ -95,11 +94,6 @@ no_boarding calls walks n s call here none b =
           b.some (sym b.walk ∙ walk)
     ]
 
--- what stands at a position
-there : {X : Type 0} (xs : List X) (k : ℕ) → k < length xs → (x : X) × (slice_get xs k ≡ Some x)
-there [] k l = absurd (omega (arith, l))
-there (x ∷ xs) k l = (get_or (x ∷ xs) k x, slice_get-get_or (x ∷ xs) k x l)
-
 -- a walk from the origin is short, and is noted
 near_short : (n : Net) → IsNet n → (origin p seconds : ℕ) → IsNear n origin p seconds → seconds ≤ MOST_FOOT_SECONDS
 near_short n ok origin p seconds near = elim near [
@@ -125,10 +119,10 @@ module _ (n : Net) (origin : ℕ) (walks : List ℕ) (ok : IsNet n) (are : AreWa
         let trip : ℕ = get_or row 0 0 in
         let first = slice_get-get_or row 0 0 is.some in
         let within = all_at (λ (i : ℕ). i < length n.trips) row 0 trip is.in_range first in
-        let t = there n.trips trip within in
+        let t = is_there n.trips trip within in
         let events = events_here n.trips row 0 trip t.0 first t.1 in
         let long = view.positions 0 t.0.events events in
-        let e = there t.0.events k (omega (arith, l, long)) in
+        let e = is_there t.0.events k (omega (arith, l, long)) in
         let stop = event_stop n ok trip k e.0 (t.0, t.1, e.1) in
         let same = view.stop 0 k e.0 (get_or calls k d) (record { row = t.0.events; trip = events; event = e.1 })
         (slice_get-get_or calls k d l) in
@@ -161,7 +155,7 @@ module _ (n : Net) (origin : ℕ) (walks : List ℕ) (ok : IsNet n) (are : AreWa
           let long = view.positions r c.t.events events in
           let is_at : IsAt (rows_of_line n.trips row) r j c.on =
           record { row = c.t.events; trip = events; event = c.here } in
-          let call = there calls j (let l = c.rides_on in omega (arith, l, long)) in
+          let call = is_there calls j (let l = c.rides_on in omega (arith, l, long)) in
           let stop = view.stop r j c.on call.0 is_at call.1 in
           let inside = event_stop n ok trip j c.on (c.t, c.runs, c.here) in
           let walk = no_longer c.on.stop.0 c.seconds inside c.near in
@@ -184,7 +178,7 @@ module _ (n : Net) (origin : ℕ) (walks : List ℕ) (ok : IsNet n) (are : AreWa
           (slice_get_within bs k.0 (j, slice_index walks call.0.stop.0) k.1) k.1
           (omega (arith, time, in_time, walk, walks_same)) in
           let other = (boards.each found.i found.j found.seconds found.here).0 in
-          let on = there c.t.events found.j (let l = other.rides_on in omega (arith, l, long)) in
+          let on = is_there c.t.events found.j (let l = other.rides_on in omega (arith, l, long)) in
           let other_at : IsAt (rows_of_line n.trips row) r found.j on.0 =
           record { row = c.t.events; trip = events; event = on.1 } in
           let other_stop = view.stop r found.j on.0 other.call other_at other.here in
@@ -239,8 +233,8 @@ pub times_of_line : (n : Net) (lines : LineTable) → AreLinesOf n.stops n.trips
     slice_get lines.calls line ≡ Some calls → LineTimes n lines line calls
 times_of_line n lines lined line calls here =
     let within = slice_get_within lines.calls line calls here in
-    let row = there lines.lines line (omega (arith, within, lined.viewed.calls_size)) in
-    let times = there lines.times line (omega (arith, within, lined.viewed.calls_size, lined.viewed.times_size)) in
+    let row = is_there lines.lines line (omega (arith, within, lined.viewed.calls_size)) in
+    let times = is_there lines.times line (omega (arith, within, lined.viewed.calls_size, lined.viewed.times_size)) in
     record {
       row = row.0;
       times = times.0;

@@ -1,14 +1,12 @@
 -- Which minutes are searched, minute by minute.
 use Rattle.std.proofs.Common.{◌≡◌, ℕ, zero, suc, ◌+◌, ◌-◌, ◌*◌, ◌<◌, ◌≤◌, ◌⊎◌, inl, inr, List, [], ◌∷◌, ◌++◌, Bool}
-use Rattle.std.proofs.Common.{length, slice_index}
-use Rattle.std.proofs.Common.{sym, ◌∙◌, ap, subst, arith}
+use Rattle.std.proofs.Common.{length, slice_index, sym, ◌∙◌, ap, subst, arith}
 use Rattle.std.proofs.lemmas.Bool.{cases_lt}
 use Rattle.std.proofs.lemmas.List.{length_push, get_or_append_left, get_or-append-add}
 use Rattle.useful_minutes.specs.Boarding.{Catches}
 use Rattle.useful_minutes.specs.Marks.{CoversAll, IsMarked}
-use Rattle.useful_minutes.specs.Plan.{AreMinutes, HasMarked, StandsIn, IsPlan, SkipsNothing}
+use Rattle.useful_minutes.specs.Plan.{AreMinutes, HasMarked, StandsIn, IsPlan, SkipsNothing, SearchesAll}
 use Rattle.useful_minutes.specs.Orders.{AreSteps}
-use Rattle.useful_minutes.specs.Plan.{SearchesAll}
 use Rattle.timetable.specs.Networks.{Net}
 
 -- what stood in a list stands there yet when something was added, and then that

@@ -1,6 +1,5 @@
 //! The labels that stand in for others, four minutes at a time: by the places of their bytes.
-ghost use Rattle.std.specs.Prelude.{◌≡◌, ℕ, ◌+◌, ◌*◌, ◌/◌, ◌%◌, ◌^◌, ◌<◌, ◌≤◌, length, slice_index};
-ghost use Rattle.std.specs.Prelude.{IfOk};
+ghost use Rattle.std.specs.Prelude.{◌≡◌, ℕ, ◌+◌, ◌*◌, ◌/◌, ◌%◌, ◌^◌, ◌<◌, ◌≤◌, length, slice_index, IfOk};
 ghost use Rattle.useful_minutes.specs.Orders.{AreSteps, AreOrders, IsOrder, Takes};
 
 use std::alloc::{AllocError, Global};

@@ -1,5 +1,5 @@
 //! Which minutes of a window are searched.
-ghost use Rattle.std.specs.Prelude.{◌≡◌, ℕ, ◌<◌, ◌≤◌, ◌⊎◌, length, IfOk, OnOk};
+ghost use Rattle.std.specs.Prelude.{◌≡◌, ◌<◌, ◌≤◌, ◌⊎◌, length, IfOk, OnOk};
 ghost use Rattle.useful_minutes.specs.Plan.{AreMinutes, HasMarked, AreStandIns, ArePadded, IsPlan, SkipsNothing};
 ghost use Rattle.useful_minutes.specs.Plan.{SearchesAll};
 ghost use Rattle.timetable.specs.declared.limits.TheConstants.{END_OF_AXIS};

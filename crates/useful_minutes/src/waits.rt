@@ -3,7 +3,7 @@ ghost use Rattle.std.specs.Prelude.{◌≡◌, ℕ, ◌+◌, ◌*◌, ◌<◌, �
 ghost use Rattle.std.specs.Prelude.{OnOk};
 ghost use Rattle.trip_lanes.specs.declared.lanes.TheConstants.{LANES};
 ghost use Rattle.useful_minutes.specs.Orders.{AreSteps, AreOrders};
-ghost use Rattle.useful_minutes.specs.Waits.{AreFilled, HasRoom, label_at, label_from, waited};
+ghost use Rattle.useful_minutes.specs.Waits.{AreFilled, HasRoom, label_from, waited};
 ghost use Rattle.useful_minutes.specs.declared.orders.TheConstants.{AT_ONCE as AT_ONCE_VALUE};
 
 use crate::orders::{AT_ONCE, Four, Order, in_order, orders_of};

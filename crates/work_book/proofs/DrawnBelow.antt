@@ -1,7 +1,7 @@
 -- A number that a seat drew is below the next one, so where there is one there are jobs.
 use Rattle.std.proofs.Common.{◌≡◌, ◌<◌, ◌*◌, ◌==◌, ℕ, zero, suc, List, true, length, get_or, arith, subst, sym}
-use Rattle.std.proofs.lemmas.Bool.Decides.{nat_tests}
 use Rattle.std.proofs.lemmas.List.Folds.{Any-from_list_any}
+use Rattle.std.proofs.lemmas.Bool.{eqb-true}
 use Rattle.work_book.specs.Seat.{SeatState, has_drawn}
 use Rattle.work_book.specs.Book.{BookState, IsBook, AllDrawnBelow}
 
@@ -13,12 +13,9 @@ drawn_below n number seats k seat all here at found =
     let of_seat = subst (λ (s : SeatState). (i d : ℕ) → i < length s.drawn →
     get_or s.drawn i d < n) (sym at) (all k seat here) in
     let low = of_seat some.0 some.1 some.2 in
-    let same = same_number some.1 number some.4 in
+    let same = eqb-true some.1 number some.4 in
     let there : get_or seat.drawn some.0 some.1 ≡ some.1 = some.3 in
     omega arith
-  where
-    same_number : (a b : ℕ) → (a == b) ≡ true → a ≡ b
-    same_number a b h = grind (arith, nat_tests)
 
 -- a product that is above a number has a first factor
 pub first_factor : (a b n : ℕ) → n < a * b → 0 < a

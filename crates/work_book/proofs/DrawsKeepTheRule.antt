@@ -1,7 +1,6 @@
 -- A draw keeps the rule.
-use Rattle.std.proofs.Common.{◌≡◌, ℕ, zero, suc, ◌+◌, ◌-◌, ◌%◌, ◌^◌, ◌<◌, ◌≤◌, min, List, [], ◌∷◌, Bool, true}
-use Rattle.std.proofs.Common.{false, length, set, slice_index, if◌then◌else◌, true≢false, refl, sym, ap, ◌∙◌}
-use Rattle.std.proofs.Common.{subst, arith}
+use Rattle.std.proofs.Common.{◌≡◌, ℕ, zero, suc, ◌+◌, ◌-◌, ◌%◌, ◌^◌, ◌<◌, ◌≤◌, min, List, [], ◌∷◌, Bool, true, false}
+use Rattle.std.proofs.Common.{length, set, slice_index, if◌then◌else◌, true≢false, refl, sym, ap, ◌∙◌, subst, arith}
 use Rattle.std.specs.List.{sum_by, All}
 use Rattle.std.proofs.Math.Nat.{mod-eq_of_lt}
 use Rattle.std.proofs.Math.Decide.{dec_lt}
@@ -18,8 +17,8 @@ use Rattle.work_book.specs.declared.rule.View.{View}
 use Rattle.work_book.specs.declared.rule.Extent.{Extent}
 use Rattle.work_book.proofs.SumsOverViews.{sum_set, sum_at, sum_le}
 use Rattle.work_book.proofs.RuleAsSums.{Held, held_of, kept_of, limit_of, draws_of, keeps_of, times, times_append}
-use Rattle.work_book.proofs.RuleAsSums.{once_below}
-use Rattle.work_book.proofs.RuleAsSums.{once_set, once_below_at, Grows, fits_set, own_on, own_set, all_counted}
+use Rattle.work_book.proofs.RuleAsSums.{once_below, once_set, once_below_at, Grows, fits_set, own_on, own_set}
+use Rattle.work_book.proofs.RuleAsSums.{all_counted}
 
 -- one number more is drawn
 once_more : (x n : ℕ) → once_below x n + times x (n ∷ []) ≡ once_below x (n + 1)

@@ -1,11 +1,12 @@
 -- The first state of a board keeps the rule, and what its last state shows of the seat that closes it.
-use Rattle.std.proofs.Common.{◌≡◌, ◌==◌, ℕ, zero, suc, ◌+◌, ◌-◌, ◌<◌, ◌≤◌, List, [], ◌∷◌, Bool, true}
-use Rattle.std.proofs.Common.{slice_index, nat_lt, if◌then◌else◌, replicate, true≢false, refl, sym, ap, ◌∙◌, subst}
-use Rattle.std.proofs.Common.{zero-add, arith, not, ◌*◌, mul-le-mul_left}
+use Rattle.std.proofs.Common.{◌≡◌, ◌==◌, ℕ, zero, suc, ◌+◌, ◌-◌, ◌<◌, ◌≤◌, List, [], ◌∷◌, Bool, true, slice_index}
+use Rattle.std.proofs.Common.{nat_lt, if◌then◌else◌, replicate, true≢false, refl, sym, ap, ◌∙◌, subst, zero-add, arith}
+use Rattle.std.proofs.Common.{not, ◌*◌, mul-le-mul_left}
 use Rattle.std.specs.List.{All}
 use Rattle.std.specs.Slots.{slots_items}
 use Rattle.std.proofs.lemmas.Bool.Decides.{nat_tests}
 use Rattle.std.proofs.lemmas.List.{length-replicate}
+use Rattle.std.proofs.lemmas.Bool.{ltb-true, lt-ltb}
 use mathlib.Core.Option.{some, some-ne-none, some-injective}
 use lib.ListN.{get_elem?}
 use Rattle.atomic_table.specs.Table.{State, opening, Final, Seen}
@@ -20,8 +21,7 @@ use Rattle.work_book.specs.declared.rule.Extent.{Extent}
 use Rattle.work_book.specs.declared.shared.Closed.{Closed}
 use Rattle.work_book.proofs.SumsOverViews.{sum_at, sum_one}
 use Rattle.work_book.proofs.RuleAsSums.{Held, held_of, kept_of, limit_of, draws_of, keeps_of, times, once_below}
-use Rattle.work_book.proofs.RuleAsSums.{once_set}
-use Rattle.work_book.proofs.RuleAsSums.{once_below_at, marked_shown, own_none, all_found, all_counted}
+use Rattle.work_book.proofs.RuleAsSums.{once_set, once_below_at, marked_shown, own_none, all_found, all_counted}
 
 zero_at : (n i : ℕ) → slice_index (replicate n 0) i ≡ 0
 zero_at zero i = refl
@@ -65,16 +65,10 @@ opens k few =
         (own_none k.jobs ws (first_view (limit_of k)) refl refl)
     first_own ws (suc i) v e = absurd (some-ne-none v (sym e))
 
-lt_true : (n : ℕ) → 0 < n → nat_lt 0 n ≡ true
-lt_true n h = grind (arith, nat_tests)
-
-true_lt : (n : ℕ) → nat_lt 0 n ≡ true → 0 < n
-true_lt n h = grind (arith, nat_tests)
-
 -- each settled job of the book that is shown was settled under a number that was drawn for it
 as_drawn : (k : Extent) (s : State (Unit {0}) View) (vs : List View) → Held k s → AreSettledAsDrawn (shown k s.words vs)
 as_drawn k s vs h job marked =
-    let some_mark : 0 < mark_of s.words job = true_lt _ (sym (marked_shown k s.words vs job) ∙ marked) in
+    let some_mark : 0 < mark_of s.words job = ltb-true 0 _ (sym (marked_shown k s.words vs job) ∙ marked) in
     let a = h.numbers job some_mark in
     (mark_of s.words job - 1, (let b = a.0 in omega arith), a.1)
 
@@ -93,7 +87,7 @@ closes_at c id v s h same at =
           omega arith);
       known = subst (λ (ws : List ℕ). All (λ job. is_marked (shown k ws (v ∷ [])) job ≡ true) v.known) same
           (all_found (λ job. is_marked (shown k s.words (v ∷ [])) job ≡ true) v.known
-          (λ x found. marked_shown k s.words (v ∷ []) x ∙ lt_true _ (mine.known x found)));
+          (λ x found. marked_shown k s.words (v ∷ []) x ∙ lt-ltb 0 _ (mine.known x found)));
       numbers = subst (λ (ws : List ℕ). AreSettledAsDrawn (shown k ws (v ∷ []))) same (as_drawn k s (v ∷ []) h);
       jobs_of = (h.own id v at).jobs_of;
       marks = subst (λ (ws : List ℕ). All (λ n. mark_of ws (job_among k.jobs n) ≡ n + 1) v.under) same

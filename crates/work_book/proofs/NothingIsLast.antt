@@ -3,14 +3,14 @@ use Rattle.std.proofs.Common.{◌≡◌, ◌≤◌, ◌+◌, ◌*◌, ◌∷◌,
 use Rattle.std.proofs.Common.{refl, ◌&&◌, nat_lt, if◌then◌else◌}
 use Rattle.std.proofs.Math.ListN.{set}
 use Rattle.std.specs.List.{slice_get}
-use Rattle.std.proofs.lemmas.Bool.Decides.{nat_tests}
+use Rattle.std.proofs.lemmas.Bool.{ltb-false}
+use Rattle.std.proofs.lemmas.Option.{same_Some}
 use Rattle.work_book.specs.Seat.{with_drawn, with_kept, as_lost}
 use Rattle.work_book.specs.Book.{BookState, acts, job_of, is_marked, on_seat}
 use Rattle.work_book.specs.Steps.{lease_of, answer_of, answers_of, after, run_of}
 use Rattle.work_book.specs.Laws.{IsNothingLast}
 use Rattle.work_book.specs.declared.steps.Step.{Step}
 use Rattle.work_book.specs.declared.steps.Step.TheVariants.{Draw, Look, Settle, Loss}
-use Rattle.work_book.specs.declared.steps.Answer.{Answer}
 use Rattle.work_book.specs.declared.steps.Answer.TheVariants as answer
 use Rattle.work_book.proofs.StepsAreFair.{IsFair, step_fair, run_fair}
 
@@ -23,10 +23,8 @@ pub record IsLater (old new : BookState) : Type 0 where
 pub one_later : (book : BookState) (step : Step) → IsLater book (after book step)
 one_later book (Draw seat) = go (acts book seat && nat_lt book.next (book.jobs * book.tries))
   where
-    go : (b : Bool) → IsLater book (if b then record (on_seat book seat (with_drawn book.next)) {
-      next =
-          book.next + 1;
-    } else book)
+    go : (b : Bool) → IsLater book
+        (if b then record (on_seat book seat (with_drawn book.next)) { next = book.next + 1 } else book)
     go true = record { jobs = refl; tries = refl; next = omega arith }
     go false = record { jobs = refl; tries = refl; next = omega arith }
 one_later book (Look seat job) = record { jobs = refl; tries = refl; next = omega arith }
@@ -60,14 +58,11 @@ told : (book : BookState) (step : Step) → IsFair book → answer_of book step 
     book.next ≡ book.jobs * book.tries
 told book (Draw seat) fair h = go (acts book seat) (nat_lt book.next (book.jobs * book.tries)) refl h
   where
-    not_below : (a b : ℕ) → nat_lt a b ≡ false → b ≤ a
-    not_below a b h = grind (arith, nat_tests)
-
     go : (a b : Bool) → nat_lt book.next (book.jobs * book.tries) ≡ b
         → (if a then (if b then answer.Lease (lease_of book book.next) else answer.Nothing) else answer.Refused)
         ≡ answer.Nothing → book.next ≡ book.jobs * book.tries
     go true true e h = cc
-    go true false e h = let most = fair.next in let least = not_below _ _ e in omega arith
+    go true false e h = let most = fair.next in let least = ltb-false _ _ e in omega arith
     go false b e h = cc
 told book (Look seat job) fair h = go _ h
   where
@@ -88,12 +83,9 @@ told book (Loss seat) fair h = go _ h
     go true h = cc
     go false h = cc
 
-some_is : (a b : Answer) → Some a ≡ Some b → a ≡ b
-some_is a b e = cc
-
 pub nothing_last : (steps : List Step) (book : BookState) → IsFair book → IsNothingLast book steps
 nothing_last [] book fair k h = cc
-nothing_last (step ∷ steps) book fair zero h = told book step fair (some_is _ _ h)
+nothing_last (step ∷ steps) book fair zero h = told book step fair (same_Some _ _ h)
 nothing_last (step ∷ steps) book fair (suc k) h =
     let more = nothing_last steps (after book step) (step_fair book step fair) k h in
     let same = one_later book step in
@@ -104,7 +96,7 @@ pub nothing_stays : (steps : List Step) (book : BookState) → IsFair book → (
     slice_get (answers_of book steps) k ≡ Some answer.Nothing → (run_of book steps).next ≡ book.jobs * book.tries
 nothing_stays [] book fair k h = cc
 nothing_stays (step ∷ steps) book fair zero h =
-    let full = told book step fair (some_is _ _ h) in
+    let full = told book step fair (same_Some _ _ h) in
     let all = all_later (step ∷ steps) book in
     let most = (run_fair (step ∷ steps) book fair).next in
     let size : (run_of book (step ∷ steps)).jobs * (run_of book (step ∷ steps)).tries ≡ book.jobs * book.tries =

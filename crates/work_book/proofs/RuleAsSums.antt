@@ -6,6 +6,7 @@ use Rattle.std.specs.List.{sum_by, slice_get, list_any, All}
 use Rattle.std.proofs.lemmas.Bool.Decides.{nat_tests}
 use Rattle.std.proofs.lemmas.List.Sums.{sum_by-cons, sum_by-append}
 use Rattle.std.proofs.lemmas.List.Folds.{list_any_at}
+use Rattle.std.proofs.lemmas.Bool.{eq-eqb}
 use mathlib.Core.Option.{some}
 use lib.ListN.{get_elem?}
 use Rattle.atomic_table.specs.Table.{State}
@@ -167,10 +168,7 @@ times_append x xs ys = sum_by-append (λ y. if y == x then 1 else 0) xs ys
 -- what holds of each number that is found in a list holds of its elements
 pub all_found : (P : ℕ → Type 0) (xs : List ℕ) → ((x : ℕ) → list_any (λ y. y == x) xs ≡ true → P x) → All P xs
 all_found P xs each k d below = each (get_or xs k d)
-    (list_any_at (λ y. y == get_or xs k d) xs k d below (itself (get_or xs k d)))
-  where
-    itself : (n : ℕ) → (n == n) ≡ true
-    itself n = grind (arith, nat_tests)
+    (list_any_at (λ y. y == get_or xs k d) xs k d below (eq-eqb (get_or xs k d) _ refl))
 
 -- and so does what holds of each number that it counts
 pub all_counted : (P : ℕ → Type 0) (xs : List ℕ) → ((x : ℕ) → 0 < times x xs → P x) → All P xs

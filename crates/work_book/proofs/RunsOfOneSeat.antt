@@ -1,7 +1,7 @@
 -- A run of a book with one seat: it draws up to a number, and settles the jobs that are to be settled.
-use Rattle.std.proofs.Common.{◌≡◌, ◌==◌, ◌&&◌, ℕ, zero, suc, ◌+◌, ◌*◌, ◌<◌, ◌≤◌, List, [], ◌∷◌, ◌++◌, Bool}
-use Rattle.std.proofs.Common.{true, false, not, length, set, get_or, nat_lt, if◌then◌else◌, refl, sym, ap, ◌∙◌, subst}
-use Rattle.std.proofs.Common.{arith, replicate, ◌||◌}
+use Rattle.std.proofs.Common.{◌≡◌, ◌==◌, ◌&&◌, ℕ, zero, suc, ◌+◌, ◌*◌, ◌<◌, ◌≤◌, List, [], ◌∷◌, ◌++◌, Bool, true, false}
+use Rattle.std.proofs.Common.{not, length, set, get_or, if◌then◌else◌, refl, sym, ap, ◌∙◌, subst, arith, replicate}
+use Rattle.std.proofs.Common.{◌||◌}
 use Rattle.std.specs.List.{list_any}
 use Rattle.std.proofs.Math.Nat.{mod-lt}
 use Rattle.std.proofs.Math.Decide.{dec_lt}
@@ -10,6 +10,7 @@ use Rattle.std.proofs.lemmas.Bool.Decides.{nat_tests}
 use Rattle.std.proofs.lemmas.List.{length-replicate, length-set, get_or-set_same, get_or-set_other}
 use Rattle.std.proofs.lemmas.List.Folds.{list_any-append}
 use Rattle.std.proofs.lemmas.Option.{unwrap_or-slice_get}
+use Rattle.std.proofs.lemmas.Bool.{lt-ltb, or_right}
 use Rattle.work_book.specs.Book.{BookState, is_marked, job_among}
 use Rattle.work_book.specs.Steps.{after, run_of}
 use Rattle.work_book.specs.declared.steps.Step.{Step}
@@ -126,25 +127,18 @@ module _ (jobs tries next : ℕ) (settled : ℕ → Bool) (within : next ≤ job
   after_draw : (n : ℕ) (marks : List Bool) (drawn kept : List ℕ) → n < next →
       after (one n marks drawn kept) (Draw 0) ≡ one (n + 1) marks (drawn ++ n ∷ []) kept
   after_draw n marks drawn kept low = ap (λ (b : Bool). if b then one (n + 1) marks (drawn ++ n ∷ []) kept else one n
-      marks drawn kept) (lt_true n (jobs * tries) (omega arith))
-    where
-      lt_true : (a b : ℕ) → a < b → nat_lt a b ≡ true
-      lt_true a b h = grind (arith, nat_tests)
+      marks drawn kept) (lt-ltb n (jobs * tries) (omega arith))
 
   one_more : (n : ℕ) (drawn : List ℕ) → HasAll n drawn → HasAll (n + 1) (drawn ++ n ∷ [])
   one_more n drawn has x low = list_any-append (λ y. y == x) drawn (n ∷ []) ∙ found (dec_lt x n)
     where
-      right : (a : Bool) → (a || true) ≡ true
-      right true = refl
-      right false = refl
-
       last : (n x : ℕ) → n ≡ x → list_any (λ y. y == x) (n ∷ []) ≡ true
       last n x e = grind (arith, nat_tests)
 
       found : Dec (x < n) → (list_any (λ y. y == x) drawn || list_any (λ y. y == x) (n ∷ [])) ≡ true
       found (yes l) = ap (λ (b : Bool). b || list_any (λ y. y == x) (n ∷ [])) (has x l)
       found (no l) = ap (λ (b : Bool). list_any (λ y. y == x) drawn || b) (last n x (omega arith))
-          ∙ right (list_any (λ y. y == x) drawn)
+          ∙ or_right (list_any (λ y. y == x) drawn) true refl
 
   draw_rest : (left n : ℕ) (marks : List Bool) (drawn : List ℕ) → n + left ≡ next → HasAll n drawn → Settled 0 marks →
       Leads (one n marks drawn [])

@@ -1,7 +1,7 @@
 -- Steps of a run are taken back one by one, the last one first.
 use Rattle.std.proofs.Common.{◌≡◌, ◌<◌, ◌++◌, [], ◌∷◌, ℕ, List, length, get_or, take, arith, sym, ap, ◌∙◌, refl}
 use Rattle.std.proofs.Common.{length-append}
-use Rattle.std.proofs.lemmas.List.{take_more}
+use Rattle.std.proofs.lemmas.List.{take_more, same_from_push}
 use Rattle.work_book.specs.Book.{BookState}
 use Rattle.work_book.specs.Steps.{answer_of, after, answers_of, run_of}
 use Rattle.work_book.specs.TakenBack.{taken_back, HasStepped, HasRun}
@@ -21,19 +21,6 @@ answers_of-push [] step book = refl
 answers_of-push (first ∷ steps) step book =
     ap (λ (answers : List Answer). answer_of book first ∷ answers) (answers_of-push steps step (after book first))
 
--- lists that are equal with one more at their ends are equal
-pushed_same : (xs ys : List Answer) (x y : Answer) → xs ++ x ∷ [] ≡ ys ++ y ∷ [] → (xs ≡ ys) × (x ≡ y)
-pushed_same [] [] x y e = (refl, cc)
-pushed_same [] (b ∷ []) x y e = (cc, cc)
-pushed_same [] (b ∷ c ∷ ys) x y e = (cc, cc)
-pushed_same (a ∷ []) [] x y e = (cc, cc)
-pushed_same (a ∷ c ∷ xs) [] x y e = (cc, cc)
-pushed_same (a ∷ xs) (b ∷ ys) x y e =
-    let first : a ≡ b = cc in
-    let more : xs ++ x ∷ [] ≡ ys ++ y ∷ [] = cc in
-    let same = pushed_same xs ys x y more in
-    ((λ i. first i ∷ same.0 i), same.1)
-
 pub more_steps : (before : BookState) (steps : List Step) (rest : List Answer) (told : Answer) (now : BookState) →
     HasRun before steps (rest ++ told ∷ []) now → length rest < length steps
 more_steps before steps rest told now h = let few = h.few in let n = length-append rest (told ∷ []) in omega arith
@@ -51,7 +38,7 @@ last_answers : (before : BookState) (steps : List Step) (rest : List Answer) (to
     → (rest ≡ answers_of before (take (length rest) steps))
     × (told ≡ answer_of (run_of before (take (length rest) steps)) (get_or steps (length rest) d))
 last_answers before steps rest told now d h =
-    pushed_same rest (answers_of before (take (length rest) steps)) told
+    same_from_push rest (answers_of before (take (length rest) steps)) told
     (answer_of (run_of before (take (length rest) steps)) (get_or steps (length rest) d))
     (h.told ∙ ap (answers_of before) (first_steps before steps rest told now d h)
     ∙ answers_of-push (take (length rest) steps) (get_or steps (length rest) d) before)

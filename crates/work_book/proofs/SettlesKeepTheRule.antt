@@ -1,13 +1,13 @@
 -- A look, a settle and a load of any word keep the rule.
-use Rattle.std.proofs.Common.{◌≡◌, ◌≢◌, ◌==◌, ℕ, ◌+◌, ◌-◌, ◌*◌, ◌<◌, ◌≤◌, min, List, [], ◌∷◌, ◌++◌, Bool}
-use Rattle.std.proofs.Common.{true, false, length, set, slice_index, refl}
-use Rattle.std.proofs.Common.{sym, ap, ◌∙◌, subst, ⊎_elim, arith, eqb}
+use Rattle.std.proofs.Common.{◌≡◌, ◌≢◌, ◌==◌, ℕ, ◌+◌, ◌-◌, ◌*◌, ◌<◌, ◌≤◌, min, List, [], ◌∷◌, ◌++◌, Bool, true, false}
+use Rattle.std.proofs.Common.{length, set, slice_index, refl, sym, ap, ◌∙◌, subst, ⊎_elim, arith, eqb}
 use Rattle.std.specs.List.{list_any}
 use Rattle.std.proofs.Math.Decide.{dec_lt}
 use Rattle.std.proofs.Math.Nat.{mod-lt}
 use Rattle.std.proofs.lemmas.Bool.Decides.{nat_tests}
 use Rattle.std.proofs.lemmas.List.{get_or-set_same, get_or-set_other, length-set, set-get_or, map-append}
 use Rattle.std.proofs.lemmas.List.Folds.{list_any-append}
+use Rattle.std.proofs.lemmas.Bool.{or_cases}
 use mathlib.Core.Option.{some, none}
 use lib.ListN.{get_elem?}
 use native.Mathlib.Decide.{ℕ_discrete}
@@ -27,11 +27,9 @@ use Rattle.work_book.proofs.DrawnBelow.{first_factor}
 use Rattle.work_book.proofs.StepsAreFair.{counted}
 use Rattle.work_book.proofs.SumsOverViews.{sum_set, sum_at}
 use Rattle.work_book.proofs.RuleAsSums.{Held, held_of, kept_of, limit_of, draws_of, keeps_of, times, times_append}
-use Rattle.work_book.proofs.RuleAsSums.{once_below}
-use Rattle.work_book.proofs.RuleAsSums.{once_set, once_below_at, once_set_zero, once_set_some, once_below_le}
-use Rattle.work_book.proofs.RuleAsSums.{once_set_le}
-use Rattle.work_book.proofs.RuleAsSums.{Grows, same_words, fits_set, Stays, same_marks, own_on, own_set}
-use Rattle.work_book.proofs.SplitsAndJoinsKeepTheRule.{either_true}
+use Rattle.work_book.proofs.RuleAsSums.{once_below, once_set, once_below_at, once_set_zero, once_set_some}
+use Rattle.work_book.proofs.RuleAsSums.{once_below_le, once_set_le, Grows, same_words, fits_set, Stays, same_marks}
+use Rattle.work_book.proofs.RuleAsSums.{own_on, own_set}
 
 times_self : (x : ℕ) → times x (x ∷ []) ≡ 1
 times_self x = grind (arith, nat_tests)
@@ -102,7 +100,7 @@ known_fits limit old new v w j up now live f marked limit_same shares_same told_
       (λ (q : knows v i ≡ true). let a = f.known i q in let b = up (i + 1) in omega arith)
       (λ (q : list_any (λ known. known == i) (j ∷ []) ≡ true). subst (λ (z : ℕ). 0
       < mark_of new z) (the_one i j q) marked)
-      (either_true (knows v i) (list_any (λ known. known == i) (j ∷ [])) (sym e ∙ p));
+      (or_cases (knows v i) (list_any (λ known. known == i) (j ∷ [])) (sym e ∙ p));
 }
 
 -- a seat whose number it is that the board gives: the number is below the next one
@@ -203,7 +201,7 @@ module _ (k : Extent) (slots id : ℕ) (me : Mine) (job : ℕ) (live : 1 ≤ me.
             let e = the_one x n q in
             ap (λ (y : ℕ). mark_of new (job_among k.jobs y)) (sym e) ∙ ap (mark_of new) of_job ∙ here
             ∙ ap (λ (y : ℕ). y + 1) e)
-            (either_true (settled_under v x) (list_any (λ y. y == x) (n ∷ []))
+            (or_cases (settled_under v x) (list_any (λ y. y == x) (n ∷ []))
             (sym (list_any-append (λ y. y == x) v.under (n ∷ [])) ∙ p));
       }
 
@@ -288,10 +286,8 @@ module _ (k : Extent) (slots id : ℕ) (me : Mine) (job : ℕ) (live : 1 ≤ me.
   settles n has of_job s kept len at fit =
       let h = held_of k s kept in
       subst (λ (z : ℕ × ℕ). Gives s (set_to n (mark_of s.words job))
-      (Sees (mark_of s.words job) (λ i. keeping i z.1 me.0) z.0)) (λ i. (
-        sym one_less i,
-        sym (less_one_number n) i,
-      )) (go h (dec_lt 0 (mark_of s.words job)))
+      (Sees (mark_of s.words job) (λ i. keeping i z.1 me.0) z.0)) (λ i. (sym one_less i, sym (less_one_number n) i))
+      (go h (dec_lt 0 (mark_of s.words job)))
     where
       go : Held k s → Dec (0 < mark_of s.words job) →
           Gives s (set_to n (mark_of s.words job)) (Sees (mark_of s.words job) (λ i. keeping i n me.0) job)

@@ -1,10 +1,10 @@
 -- A split and a join keep the rule.
-use Rattle.std.proofs.Common.{◌≡◌, ◌≢◌, ◌⊎◌, ℕ, ◌+◌, ◌-◌, ◌==◌, ◌≤◌, List, [], ◌∷◌, ◌++◌, Bool, true, false, ◌||◌}
-use Rattle.std.proofs.Common.{set, if◌then◌else◌, true≢false, refl, sym, ◌∙◌, subst, ⊎_elim, inl}
-use Rattle.std.proofs.Common.{inr, arith}
+use Rattle.std.proofs.Common.{◌≡◌, ◌≢◌, ◌⊎◌, ℕ, ◌+◌, ◌-◌, ◌==◌, ◌≤◌, List, [], ◌∷◌, ◌++◌, Bool, true, false, ◌||◌, set}
+use Rattle.std.proofs.Common.{if◌then◌else◌, true≢false, refl, sym, ◌∙◌, subst, ⊎_elim, arith}
 use Rattle.std.proofs.lemmas.List.{map-append}
 use Rattle.std.proofs.lemmas.List.Sums.{sum_by_push}
 use Rattle.std.proofs.lemmas.List.Folds.{list_any-append}
+use Rattle.std.proofs.lemmas.Bool.{or_cases}
 use mathlib.Core.Option.{some}
 use lib.ListN.{get_elem?}
 use Rattle.atomic_table.specs.Table.{State, Splits, Joins}
@@ -80,16 +80,12 @@ held_split k id v two s h at =
 pub splits : (k : Extent) (id : ℕ) (v : View) → 2 ≤ v.share → Splits (IsKept k) id v (less_one v) (split_off v)
 splits k id v two s h at = kept_of k _ (held_split k id v two s (held_of k s h) at)
 
-pub either_true : (a b : Bool) → (a || b) ≡ true → (a ≡ true) ⊎ (b ≡ true)
-either_true true b e = inl refl
-either_true false b e = inr e
-
 own_both : (jobs : ℕ) (words : List ℕ) (v w : View) → MarksOwn jobs words v → MarksOwn jobs words w →
     MarksOwn jobs words (merged v w)
 own_both jobs words v w a b = record {
   jobs_of = (λ i. a.jobs_of i ++ b.jobs_of i) ∙ sym (map-append (job_among jobs) v.under w.under);
   marks = λ n p. ⊎_elim (a.marks n) (b.marks n)
-      (either_true (settled_under v n) (settled_under w n) (sym (list_any-append (λ x. x == n) v.under w.under)
+      (or_cases (settled_under v n) (settled_under w n) (sym (list_any-append (λ x. x == n) v.under w.under)
       ∙ p));
 }
 
@@ -134,10 +130,10 @@ held_join k id v other w one s h at apart there =
           (fits_set (limit_of k) s.words s.words s.views id both (same_words s.words) h.fits
           record {
             limited = λ p. mine.limited (omega arith);
-            told = λ t. ⊎_elim mine.told yours.told (either_true v.told w.told t);
+            told = λ t. ⊎_elim mine.told yours.told (or_cases v.told w.told t);
             empty = λ p. absurd (omega arith);
             known = λ j p. ⊎_elim (mine.known j) (yours.known j)
-                (either_true (knows v j) (knows w j) (sym (list_any-append _ v.known w.known) ∙ p));
+                (or_cases (knows v j) (knows w j) (sym (list_any-append _ v.known w.known) ∙ p));
           })
           record {
             limited = λ p. absurd (omega arith);

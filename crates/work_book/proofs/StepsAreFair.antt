@@ -1,13 +1,13 @@
 -- What every step keeps: each number below the next one drawn once, each settled job kept once.
-use Rattle.std.proofs.Common.{◌≡◌, ◌≢◌, ◌<◌, ◌≤◌, ◌+◌, ◌*◌, ◌==◌, ◌++◌, ◌∷◌, [], ℕ, zero, suc, List, Bool, true, false}
+use Rattle.std.proofs.Common.{◌≡◌, ◌<◌, ◌≤◌, ◌+◌, ◌*◌, ◌==◌, ◌++◌, ◌∷◌, [], ℕ, zero, suc, List, Bool, true, false}
 use Rattle.std.proofs.Common.{Option, Some, None, length, get_or, arith, sym, ap, ◌∙◌, refl, subst, replicate}
-use Rattle.std.proofs.Common.{unwrap_or, not, ◌&&◌, add-zero, zero-add, count_by, nat_lt, ◌⊎◌, inl, inr, if◌then◌else◌}
+use Rattle.std.proofs.Common.{unwrap_or, not, add-zero, zero-add, count_by, nat_lt, inl, inr, if◌then◌else◌}
 use Rattle.std.proofs.Math.ListN.{set}
 use Rattle.std.proofs.Math.Nat.{mod-lt}
 use Rattle.std.specs.List.{slice_get, sum_by, list_any}
 use Rattle.std.specs.Option.{option_map_or}
 use Rattle.std.proofs.lemmas.List.{length-replicate, length-set, get_or-set_same, get_or-set_other}
-use Rattle.std.proofs.lemmas.Bool.{cases_order}
+use Rattle.std.proofs.lemmas.Bool.{eq-eqb, ne_eqb, and_parts, cases_eq, ltb-true, not-true}
 use Rattle.std.proofs.lemmas.Bool.Decides.{nat_tests}
 use Rattle.std.proofs.lemmas.List.Sums.{sum_by-set, sum_by-append}
 use Rattle.std.proofs.lemmas.Option.{slice_get_within, get_or_from_slice_get, unwrap_or-slice_get}
@@ -52,10 +52,6 @@ same_seats : (count : SeatState → ℕ) (book : BookState) (seat : ℕ) (f : Se
 same_seats count book seat f same acting =
     seat_change count book seat 0 f (λ s. same s ∙ sym (add-zero _)) acting ∙ add-zero _
 
-both : (a b : Bool) → (a && b) ≡ true → (a ≡ true) × (b ≡ true)
-both true b h = (refl, h)
-both false b h = cc
-
 -- one more number counts if it is the one
 pushed : (x n : ℕ) (xs : List ℕ) → count_by (λ y. y == n) (xs ++ x ∷ []) ≡ count_by (λ y. y == n) xs + one_if (x == n)
 pushed x n xs =
@@ -65,9 +61,6 @@ pushed x n xs =
 
 next_one : (n next : ℕ) → one_if (nat_lt n next) + one_if (next == n) ≡ one_if (nat_lt n (next + 1))
 next_one n next = grind (arith, nat_tests)
-
-lt_true : (a b : ℕ) → nat_lt a b ≡ true → a < b
-lt_true a b h = grind (arith, nat_tests)
 
 drawn : (book : BookState) (seat : ℕ) (b : Bool) → IsFair book →
     (b ≡ true → (acts book seat ≡ true) × (book.next < book.jobs * book.tries))
@@ -93,33 +86,21 @@ lost book seat true fair h = record {
   kept = λ job. same_seats (kept_in job) book seat as_lost (λ s. refl) (h refl) ∙ fair.kept job;
 }
 
-same_or_not : (a b : ℕ) → (a ≡ b) ⊎ (a ≢ b)
-same_or_not a b = elim (cases_order a b) [
-  | inl e ↦ inl e
-  | inr h ↦ inr (λ e. elim h [ inl l ↦ omega arith | inr l ↦ omega arith ])
-]
-
 -- a mark that is set counts if it is the job's own
 mark_set : (book : BookState) (k job : ℕ) → k < length book.marks → is_marked book k ≡ false
     → one_if (unwrap_or (slice_get (set book.marks k true) job) false) ≡ one_if (is_marked book job) + one_if (k == job)
-mark_set book k job here unset = elim (same_or_not k job) [
+mark_set book k job here unset = elim (cases_eq k job) [
   | inl e ↦ (let a : unwrap_or (slice_get (set book.marks k true) job) false ≡ true =
       unwrap_or-slice_get (set book.marks k true) job false
       ∙ ap (λ q. get_or (set book.marks k true) q false) (sym e) ∙ get_or-set_same book.marks k true false here in
       let b : is_marked book job ≡ false = ap (is_marked book) (sym e) ∙ unset in
-      let t : (k == job) ≡ true = test_true k job e in rw (a, b, t) refl)
+      let t : (k == job) ≡ true = eq-eqb k job e in rw (a, b, t) refl)
   | inr n ↦ (let a : unwrap_or (slice_get (set book.marks k true) job) false ≡ is_marked book job =
       unwrap_or-slice_get (set book.marks k true) job false
       ∙ get_or-set_other book.marks k job true false (λ e. n (sym e))
       ∙ sym (unwrap_or-slice_get book.marks job false) in
-      let t : (k == job) ≡ false = test_false k job n in rw (a, t) (sym (add-zero _)))
+      let t : (k == job) ≡ false = ne_eqb k job n in rw (a, t) (sym (add-zero _)))
 ]
-  where
-    test_true : (a b : ℕ) → a ≡ b → (a == b) ≡ true
-    test_true a b e = grind (arith, nat_tests)
-
-    test_false : (a b : ℕ) → a ≢ b → (a == b) ≡ false
-    test_false a b n = grind (arith, nat_tests)
 
 settled : (book : BookState) (seat k : ℕ) (b : Bool) → IsFair book →
     (b ≡ true → (k < book.jobs) × (acts book seat ≡ true) × (is_marked book k ≡ false))
@@ -167,16 +148,13 @@ low book seat number fair h = go (slice_get book.seats seat) refl h
         below number book.next (omega arith)
 
 pub step_fair : (book : BookState) (step : Step) → IsFair book → IsFair (after book step)
-step_fair book (Draw seat) fair = drawn book seat _ fair (λ h. let p = both _ _ h in (p.0, lt_true _ _ p.1))
+step_fair book (Draw seat) fair = drawn book seat _ fair (λ h. let p = and_parts _ _ h in (p.0, ltb-true _ _ p.1))
 step_fair book (Look seat job) fair = fair
-step_fair book (Settle seat number) fair = settled book seat (job_of book number) _ fair (λ h. let p = both _ _ h in
-    let q = both _ _ p.1 in
+step_fair book (Settle seat number) fair = settled book seat (job_of book number) _ fair (λ h.
+    let p = and_parts _ _ h in
+    let q = and_parts _ _ p.1 in
     let l = low book seat number fair q.0 in let most = fair.next in
-    (mod-lt number (first_factor book.jobs book.tries number (omega arith)), p.0, not_true _ q.1))
-  where
-    not_true : (b : Bool) → not b ≡ true → b ≡ false
-    not_true true e = cc
-    not_true false e = refl
+    (mod-lt number (first_factor book.jobs book.tries number (omega arith)), p.0, not-true _ q.1))
 step_fair book (Loss seat) fair = lost book seat _ fair (λ h. h)
 
 pub run_fair : (steps : List Step) (book : BookState) → IsFair book → IsFair (run_of book steps)

@@ -8,6 +8,7 @@ use Rattle.std.specs.Option.{option_map_or}
 use Rattle.std.proofs.lemmas.List.{set-set, set-get_or, get_or-set_same, length-set, take_at}
 use Rattle.std.proofs.lemmas.Option.{slice_get_within, get_or_from_slice_get, slice_get-get_or, slice_get_read}
 use Rattle.std.proofs.lemmas.Option.{unwrap_or-slice_get}
+use Rattle.std.proofs.lemmas.Bool.{not-true}
 use Rattle.std.proofs.Math.Nat.{mod-lt}
 use Rattle.work_book.specs.Seat.{SeatState, has_drawn, with_drawn, with_kept, as_lost, without_last_drawn}
 use Rattle.work_book.specs.Seat.{without_last_kept, as_present}
@@ -26,10 +27,6 @@ seats_back : (book : BookState) (seat : ℕ) (f g : SeatState → SeatState) →
     → (on_seat (on_seat book seat f) seat g).seats ≡ book.seats
 seats_back book seat f g undone acting = go (slice_get book.seats seat) refl acting
   where
-    active : (b : Bool) → not b ≡ true → b ≡ false
-    active true h = cc
-    active false h = refl
-
     go : (o : Option SeatState) → slice_get book.seats seat ≡ o →
         option_map_or (λ (s : SeatState). not s.lost) o false ≡ true
         → (on_seat (record book { seats = option_map_or (λ (s : SeatState). set book.seats seat (f s)) o book.seats })
@@ -45,7 +42,7 @@ seats_back book seat f g undone acting = go (slice_get book.seats seat) refl act
         ap (λ (o : Option SeatState). option_map_or (λ (t : SeatState). set (set book.seats seat (f s)) seat (g t)) o
         (set book.seats seat (f s))) now
         ∙ set-set book.seats seat (f s) (g (f s))
-        ∙ ap (λ (t : SeatState). set book.seats seat t) (undone s (active s.lost h)
+        ∙ ap (λ (t : SeatState). set book.seats seat t) (undone s (not-true s.lost h)
         ∙ sym (get_or_from_slice_get book.seats seat s s e))
         ∙ set-get_or book.seats seat s
 
@@ -82,10 +79,8 @@ step_back book (Draw seat) = go (acts book seat) (nat_lt book.next (book.jobs * 
               book.next + 1;
         } else book) (Draw seat)
         (if a then (if b then answer.Lease (lease_of book book.next) else answer.Nothing) else answer.Refused) ≡ book
-    go true true e = ap (λ (seats : List SeatState). record book {
-      seats =
-          seats;
-    }) (seats_back book seat (with_drawn book.next) without_last_drawn (λ s h. undrawn book.next s) e)
+    go true true e = ap (λ (seats : List SeatState). record book { seats = seats })
+        (seats_back book seat (with_drawn book.next) without_last_drawn (λ s h. undrawn book.next s) e)
     go true false e = refl
     go false b e = refl
 step_back book (Look seat job) = refl
@@ -110,10 +105,8 @@ step_back book (Loss seat) = go (acts book seat) refl
   where
     go : (a : Bool) → acts book seat ≡ a → taken_back (if a then on_seat book seat as_lost else book) (Loss seat)
         (if a then answer.Lost else answer.Refused) ≡ book
-    go true e = ap (λ (seats : List SeatState). record book {
-      seats =
-          seats;
-    }) (seats_back book seat as_lost as_present unlost e)
+    go true e = ap (λ (seats : List SeatState). record book { seats = seats })
+        (seats_back book seat as_lost as_present unlost e)
     go false e = refl
 
 -- what a step that was answered so lets take back

@@ -1,5 +1,5 @@
 //! One seat's lists.
-ghost use Rattle.std.specs.Prelude.{◌≡◌, ◌<◌, ◌++◌, ◌∷◌, [], length, All, OnOk, OnErr};
+ghost use Rattle.std.specs.Prelude.{◌≡◌, ◌<◌, All, OnOk, OnErr};
 ghost use Rattle.work_book.specs.Seat.{new_seat, has_drawn, with_drawn, with_kept, as_lost, without_last_drawn};
 ghost use Rattle.work_book.specs.Seat.{without_last_kept, as_present};
 

@@ -1,6 +1,6 @@
 //! A board, its seats, and what is left when it is closed. Their methods are in `board`, since the words of those
 //! contracts name these types.
-ghost use Rattle.std.specs.Prelude.{◌≡◌, ◌+◌, ◌*◌, ◌≤◌, []};
+ghost use Rattle.std.specs.Prelude.{◌≡◌, ◌+◌, ◌≤◌, []};
 ghost use Rattle.std.specs.Slots.{slots_len, IsFull};
 ghost use Rattle.work_book.specs.declared.limits.TheConstants.{MOST_JOBS, MOST_TRIES};
 

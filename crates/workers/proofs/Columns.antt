@@ -3,7 +3,7 @@ use Rattle.std.proofs.Common.{◌≡◌, ◌<◌, ◌+◌, ◌*◌, ◌/◌, ◌
 use Rattle.std.proofs.Common.{refl, sym, ap, ◌∙◌, subst, arith}
 use Rattle.std.specs.List.{All, AllZip, range_with_len, slice_get}
 use Rattle.std.proofs.lemmas.List.{ext_get_or, get_or-map, length-map, same_lists}
-use Rattle.std.proofs.lemmas.Option.{get_or_from_slice_get, slice_get-get_or, slice_get_within}
+use Rattle.std.proofs.lemmas.Option.{get_or_from_slice_get, slice_get-get_or, slice_get_within, same_Some}
 use Rattle.std.proofs.lemmas.List.FromFn.{get_or-range_with_len, length-map-range_with_len, length-range_with_len}
 use Rattle.timetable.specs.declared.trips.StopNo.{StopNo}
 use Rattle.timetable.specs.Networks.{Net}
@@ -74,9 +74,6 @@ rows_columns n origin opportunities q destinations whole some all h g =
     (subst (λ (t : DurationTable). AllZip (IsOfShare t opportunities q.limits destinations) q.shares some) times
     g.shares_are)
 
-inner : {A : Type 0} (x y : A) → Some x ≡ Some y → x ≡ y
-inner x y e = cc
-
 abbrev to : List StopNo → Query → Query
 to destinations q = record q { destinations = destinations }
 
@@ -86,8 +83,8 @@ module _ (s : StudyData) (destinations : List StopNo)
   row_columns : (scenario origin : ℕ) (row other : RowData) → IsRowOf s scenario origin row →
       IsRowOf (study_to destinations s) scenario origin other → other ≡ row_at destinations row
   row_columns scenario origin row other h g =
-      let network : g.network ≡ h.network = inner g.network h.network (sym g.network_is ∙ h.network_is) in
-      let stop : g.stop ≡ h.stop = inner g.stop h.stop (sym g.stop_is ∙ h.stop_is) in
+      let network : g.network ≡ h.network = same_Some g.network h.network (sym g.network_is ∙ h.network_is) in
+      let stop : g.stop ≡ h.stop = same_Some g.stop h.stop (sym g.stop_is ∙ h.stop_is) in
       let of_network : IsRow h.network g.stop.0 s.opportunities (to destinations s.query) other.shares =
       subst (λ (n : Net). IsRow n g.stop.0 s.opportunities (to destinations s.query) other.shares) network g.is_row in
       let of_stop : IsRow h.network h.stop.0 s.opportunities (to destinations s.query) other.shares =

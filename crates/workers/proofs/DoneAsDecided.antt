@@ -7,7 +7,6 @@ use Rattle.collector.specs.Row.{RowData}
 use Rattle.workers.specs.Study.{StudyData}
 use Rattle.workers.specs.Held.{Decides, DoesAs, HoldsMore, copies_for}
 use Rattle.workers.specs.declared.gates.Verdict.{Verdict}
-use Rattle.workers.specs.declared.gates.Verdict.TheVariants.{Lose}
 use Rattle.workers.specs.declared.worker.Ending.TheVariants.{Short}
 use Rattle.workers.specs.declared.worker.Next.{Next}
 use Rattle.workers.specs.declared.worker.Next.TheVariants.{Draw, End}

@@ -3,11 +3,12 @@ use Rattle.std.proofs.Common.{◌≡◌, ◌<◌, ◌+◌, ◌*◌, ◌/◌, ◌
 use Rattle.std.proofs.Common.{subst}
 use Rattle.std.specs.List.{slice_get}
 use Rattle.std.proofs.lemmas.Option.{slice_get-get_or}
+use Rattle.std.proofs.lemmas.Nat.{same_from_place}
 use Rattle.collector.specs.Row.{RowData}
 use Rattle.collector.specs.Places.{PlacesData, MatrixData, place_of}
 use Rattle.collector.specs.Offers.{IsFinished, IsFirstEmpty}
 use Rattle.collector.proofs.Offered.{in_range}
-use Rattle.collector.proofs.Placed.{map_length, map_at, one_place}
+use Rattle.collector.proofs.Placed.{map_length, map_at}
 use Rattle.collector.proofs.Divide.{origin_below, joined}
 use Rattle.workers.specs.Study.{StudyData, StudyFits}
 use Rattle.workers.specs.Rows.{IsRowOf}
@@ -63,7 +64,7 @@ matrix_of s places m full done =
           let here : slice_get m.rows k ≡ Some row =
           ap (λ n. slice_get m.rows (scenario * n + origin)) (sym origins) ∙ at in
           let is = row_of_place s places m k row full done below here in
-          let same = one_place (k / length s.origins) (k % length s.origins) scenario origin (length s.origins)
+          let same = same_from_place (k / length s.origins) (k % length s.origins) scenario origin (length s.origins)
           (origin_below (length s.networks) (length s.origins) k below) right (joined (length s.origins) k) in
           subst (λ n. IsRowOf s scenario n row) same.1 (subst (λ n. IsRowOf s n (k % length s.origins) row) same.0 is);
     }

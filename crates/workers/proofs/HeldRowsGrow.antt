@@ -3,10 +3,10 @@ use Rattle.std.proofs.Common.{◌≡◌, ◌≢◌, ◌==◌, ◌||◌, ◌*◌,
 use Rattle.std.proofs.Common.{length, refl, sym, ap, ◌∙◌, subst, ⊎_elim, arith}
 use Rattle.std.specs.List.{list_any}
 use Rattle.std.proofs.Math.Nat.{mod-lt, mul_comm}
-use Rattle.std.proofs.lemmas.Bool.Decides.{nat_tests}
 use Rattle.std.proofs.lemmas.List.{append-nil, append_assoc, length-append}
 use Rattle.std.proofs.lemmas.List.Elements.{All-cons, All-nil, All-push, All-same}
 use Rattle.std.proofs.lemmas.List.Folds.{list_any-append}
+use Rattle.std.proofs.lemmas.Bool.{eq-eqb}
 use Rattle.work_book.specs.Board.{IsLease, SettledAs}
 use Rattle.work_book.specs.Views.{knows}
 use Rattle.work_book.specs.declared.lease.Lease.{Lease}
@@ -80,10 +80,8 @@ pub holds_new : (s : StudyData) (rows more : List RowData) (kept now : List ℕ)
 holds_new s rows more kept now job row h is more_is now_is = record {
   are_rows = rows_more s rows more job row h.are_rows is more_is;
   jobs =
-      subst (λ (z : List ℕ × List ℕ). HaveSameJobs z.0 z.1) (λ i. (
-        sym (jobs_more s rows more job row is more_is) i,
-        sym now_is i,
-      ))
+      subst (λ (z : List ℕ × List ℕ). HaveSameJobs z.0 z.1)
+      (λ i. (sym (jobs_more s rows more job row is more_is) i, sym now_is i))
       (same_push (jobs_of_rows s rows) kept job h.jobs);
 }
 
@@ -146,12 +144,9 @@ known_last job xs now e =
     ap (list_any (λ known. known == job)) e ∙ list_any-append (λ known. known == job) xs (job ∷ [])
     ∙ last (list_any (λ known. known == job) xs)
   where
-    itself : (job == job) ≡ true
-    itself = grind (arith, nat_tests)
-
     last : (b : Bool) → (b || list_any (λ known. known == job) (job ∷ [])) ≡ true
     last true = refl
-    last false = ap (λ b. b || false) itself
+    last false = ap (λ b. b || false) (eq-eqb job job refl)
 
 -- a seat knows a job that it settled
 pub known_after : (v w : View) (lease : Lease) (s : Settled) → SettledAs v lease s w → knows w lease.job ≡ true

@@ -1,6 +1,6 @@
 -- How often a job stands in a list.
-use Rattle.std.proofs.Common.{◌≡◌, ◌==◌, ℕ, ◌+◌, ◌<◌, ◌≤◌, List, [], ◌∷◌, ◌++◌, ◌⊎◌, inl, inr, true, refl, ap}
-use Rattle.std.proofs.Common.{arith, if◌then◌else◌}
+use Rattle.std.proofs.Common.{◌≡◌, ◌==◌, ℕ, ◌+◌, ◌<◌, ◌≤◌, List, [], ◌∷◌, ◌++◌, ◌⊎◌, inl, inr, refl, ap, arith}
+use Rattle.std.proofs.Common.{if◌then◌else◌}
 use Rattle.std.specs.List.{All}
 use Rattle.std.proofs.lemmas.List.Elements.{All-head, All-tail}
 use Rattle.std.proofs.lemmas.List.Sums.{sum_by-cons, sum_by-append}
@@ -17,9 +17,6 @@ count_append job xs ys = sum_by-append (λ y. if y == job then 1 else 0) xs ys
 
 pub count_cons : (job x : ℕ) (xs : List ℕ) → count_in job (x ∷ xs) ≡ same x job + count_in job xs
 count_cons job x xs = sum_by-cons (λ y. if y == job then 1 else 0) x xs
-
-pub same_true : (x job : ℕ) → (x == job) ≡ true → x ≡ job
-same_true x job h = grind (arith, nat_tests)
 
 same_self : (job : ℕ) → same job job ≡ 1
 same_self job = grind (arith, nat_tests)

@@ -6,8 +6,7 @@ use Rattle.std.proofs.Math.ListN.{set}
 use Rattle.std.proofs.Math.Nat.{mod-eq_of_lt}
 use Rattle.std.specs.List.{slice_get}
 use Rattle.std.proofs.lemmas.List.{length-set, length-replicate, get_or-set_same, get_or-set_other}
-use Rattle.std.proofs.lemmas.Bool.{cases_order}
-use Rattle.std.proofs.lemmas.Bool.Decides.{nat_tests}
+use Rattle.std.proofs.lemmas.Bool.{cases_order, and_from, lt-ltb, eq-eqb}
 use Rattle.work_book.specs.Book.{BookState, new_book, acts, seat_has, is_marked, job_of}
 use Rattle.work_book.specs.Steps.{after}
 use Rattle.work_book.specs.declared.steps.Step.TheVariants.{Draw}
@@ -22,16 +21,6 @@ use Rattle.workers.specs.Plain.{DoesJob, HasNoJob, IsUnderWay}
 use Rattle.workers.proofs.WholeRows.{is_whole_row}
 use Rattle.workers.proofs.SeatSteps.{drew, leased, none_left, settled, keeps}
 
-lt_true : (a b : ℕ) → a < b → nat_lt a b ≡ true
-lt_true a b h = grind (arith, nat_tests)
-
-eq_test : (a b : ℕ) → a ≡ b → (a == b) ≡ true
-eq_test a b h = grind (arith, nat_tests)
-
-and_true : (a b : Bool) → a ≡ true → b ≡ true → (a && b) ≡ true
-and_true true b h k = k
-and_true false b h k = h
-
 if_true : (b : Bool) (p q : PlacesData) → b ≡ true → (if b then p else q) ≡ p
 if_true true p q e = refl
 if_true false p q e = cc
@@ -44,23 +33,23 @@ offered s places job row fits are low none is =
     let place : place_of places row.scenario row.origin ≡ job =
     (λ i. is.scenario_is i * are.origins i + is.origin_is i) ∙ joined (length s.origins) job in
     let in_scenario : nat_lt row.scenario places.scenarios ≡ true =
-    lt_true _ _ (subst (λ n. row.scenario < n) (sym are.scenarios)
+    lt-ltb _ _ (subst (λ n. row.scenario < n) (sym are.scenarios)
     (subst (λ n. n < length s.networks) (sym is.scenario_is)
     (scenario_below (length s.networks) (length s.origins) job low))) in
     let in_origin : nat_lt row.origin places.origins ≡ true =
-    lt_true _ _ (subst (λ n. row.origin < n) (sym are.origins)
+    lt-ltb _ _ (subst (λ n. row.origin < n) (sym are.origins)
     (subst (λ n. n < length s.origins) (sym is.origin_is)
     (origin_below (length s.networks) (length s.origins) job low))) in
     let wide : has_all_cells places row ≡ true = is_whole_row s places _ _ row fits are is in
-    let of_study : (row.study == places.study) ≡ true = eq_test _ _ (is.study_is ∙ sym are.study) in
-    let there : belongs places row ≡ true = and_true _ _ of_study
-    (and_true _ _ in_scenario (and_true _ _ in_origin wide)) in
+    let of_study : (row.study == places.study) ≡ true = eq-eqb _ _ (is.study_is ∙ sym are.study) in
+    let there : belongs places row ≡ true = and_from _ _ of_study
+    (and_from _ _ in_scenario (and_from _ _ in_origin wide)) in
     let gap : is_open places row ≡ true = ap (λ k. not (is_some (row_at places k))) place
     ∙ ap (λ (o : Option RowData). not (is_some o)) none in
     if_true (belongs places row && is_open places row) (record places {
       rows =
           set places.rows (place_of places row.scenario row.origin) (Some row);
-    }) places (and_true _ _ there gap)
+    }) places (and_from _ _ there gap)
     ∙ ap (λ k. record places { rows = set places.rows k (Some row) }) place
 
 -- one more job has its row

@@ -9,19 +9,19 @@ use Rattle.std.proofs.Math.Decide.{dec_lt}
 use Rattle.std.proofs.lemmas.List.{length-replicate}
 use Rattle.std.proofs.lemmas.List.Elements.{All-head, All-tail}
 use Rattle.std.proofs.lemmas.Option.{slice_get_within}
-use Rattle.std.proofs.lemmas.Bool.Decides.{nat_tests}
+use Rattle.std.proofs.lemmas.Nat.{same_from_place}
+use Rattle.std.proofs.lemmas.Bool.{lt-ltb, eq-eqb, eqb-true}
 use Rattle.work_book.specs.Laws.{kept_in}
 use Rattle.work_book.specs.Moves.{IsOnce}
 use Rattle.work_book.specs.Views.{seat_of}
 use Rattle.work_book.specs.declared.rule.View.{View}
 use Rattle.collector.specs.Row.{RowData}
 use Rattle.collector.specs.Places.{PlacesData, MatrixData, place_of, row_at}
-use Rattle.collector.specs.Offers.{belongs, has_all_cells, is_open, after_offer, IsFinished, IsFirstEmpty}
-use Rattle.collector.specs.Offers.{offered}
+use Rattle.collector.specs.Offers.{belongs, has_all_cells, is_open, after_offer, IsFinished, IsFirstEmpty, offered}
 use Rattle.collector.specs.Laws.{is_for}
 use Rattle.collector.proofs.Divide.{origin_below, joined}
 use Rattle.collector.proofs.Offered.{in_range, offered_at, offered_sizes, offered_length}
-use Rattle.collector.proofs.Placed.{one_place}
+use Rattle.collector.proofs.Placed.{none_at}
 use Rattle.workers.specs.Study.{StudyData, StudyFits}
 use Rattle.workers.specs.Rows.{IsRowOf}
 use Rattle.workers.specs.Jobs.{jobs_of, IsRowOfJob, ArePlaces, AreFilled, places_without_rows}
@@ -29,14 +29,7 @@ use Rattle.workers.specs.Held.{count_in, HaveSameJobs, job_of_row, jobs_of_rows,
 use Rattle.workers.specs.Filling.{IsFilledAs, AreFilledAs}
 use Rattle.workers.specs.Outcomes.{KeptEachJob, IsFirstUnkept}
 use Rattle.workers.proofs.WholeRows.{is_whole_row}
-use Rattle.collector.proofs.Placed.{none_at}
-use Rattle.workers.proofs.JobCounts.{count_append, count_cons, same, same_true}
-
-lt_true : (a b : ℕ) → a < b → nat_lt a b ≡ true
-lt_true a b h = grind (arith, nat_tests)
-
-eq_test : (a b : ℕ) → a ≡ b → (a == b) ≡ true
-eq_test a b h = grind (arith, nat_tests)
+use Rattle.workers.proofs.JobCounts.{count_append, count_cons, same}
 
 and_true : (a b c : Bool) → a ≡ true → b ≡ c → (a && b) ≡ c
 and_true true b c h k = k
@@ -48,13 +41,13 @@ for_its_job : (s : StudyData) (places : PlacesData) (row : RowData) (job : ℕ) 
     → is_for places job row ≡ (job_of_row s row == job)
 for_its_job s places row job fits are is =
     let in_scenario : nat_lt row.scenario places.scenarios ≡ true =
-    lt_true _ _ (subst (λ n. row.scenario < n) (sym are.scenarios)
+    lt-ltb _ _ (subst (λ n. row.scenario < n) (sym are.scenarios)
     (slice_get_within s.networks row.scenario is.network is.network_is)) in
     let in_origin : nat_lt row.origin places.origins ≡ true =
-    lt_true _ _ (subst (λ n. row.origin < n) (sym are.origins)
+    lt-ltb _ _ (subst (λ n. row.origin < n) (sym are.origins)
     (slice_get_within s.origins row.origin is.stop is.stop_is)) in
     let wide : has_all_cells places row ≡ true = is_whole_row s places _ _ row fits are is in
-    let of_study : (row.study == places.study) ≡ true = eq_test _ _ (is.study_is ∙ sym are.study) in
+    let of_study : (row.study == places.study) ≡ true = eq-eqb _ _ (is.study_is ∙ sym are.study) in
     let there : belongs places row ≡ true = and_true _ _ true of_study
     (and_true _ _ true in_scenario (and_true _ _ true in_origin wide)) in
     and_true (belongs places row) (place_of places row.scenario row.origin == job) (job_of_row s row == job) there
@@ -66,8 +59,8 @@ row_of_its_job : (s : StudyData) (row : RowData) (job : ℕ) → job < jobs_of s
 row_of_its_job s row job low is e =
     let n = length s.origins in
     let right = slice_get_within s.origins row.origin is.stop is.stop_is in
-    let at = one_place row.scenario row.origin (job / n) (job % n) n right (origin_below (length s.networks) n job low)
-    (e ∙ sym (joined n job)) in
+    let at = same_from_place row.scenario row.origin (job / n) (job % n) n right
+    (origin_below (length s.networks) n job low) (e ∙ sym (joined n job)) in
     subst (λ k. IsRowOf s (job / n) k row) at.1 (subst (λ k. IsRowOf s k row.origin row) at.0 is)
 
 module _ (s : StudyData) (job : ℕ) where
@@ -94,7 +87,7 @@ module _ (s : StudyData) (job : ℕ) where
           IsFilledAs s (jobs_of_rows s rows) job (find (is_for places job) rows)
           → IsFilledAs s (jobs_of_rows s (x ∷ rows)) job (cond b (Some x) (find (is_for places job) rows))
       go true e is more =
-          let it = same_true (job_of_row s x) job e in
+          let it = eqb-true (job_of_row s x) job e in
           let a = count_cons job (job_of_row s x) (jobs_of_rows s rows) in
           let b : same (job_of_row s x) job ≡ 1 = ap (λ t. if t then 1 else 0) e in
           (row_of_its_job s x job low is it, omega arith)

@@ -5,6 +5,7 @@ use Rattle.std.proofs.lemmas.Bool.Decides.{nat_tests}
 use Rattle.std.specs.Prelude.{IfErr, IfOk}
 use Rattle.std.specs.List.{All}
 use Rattle.std.proofs.lemmas.List.Elements.{All-append, All-head, All-tail}
+use Rattle.std.proofs.lemmas.Bool.{ltb-true}
 use Rattle.work_book.specs.Board.{seen_by}
 use Rattle.work_book.specs.Moves.{IsOnce}
 use Rattle.work_book.specs.Views.{merged, stepped}
@@ -132,13 +133,10 @@ pub started_is : (worked : List Worked) (n : ℕ) (empty : Bool) → n ≡ lengt
     not empty ≡ nat_lt 0 (length worked)
 started_is worked n empty long is = ap not is ∙ not_none n ∙ ap (nat_lt 0) long
 
-lt_of : (n : ℕ) → nat_lt 0 n ≡ true → 0 < n
-lt_of n h = grind (arith, nat_tests)
-
 -- whether some are there
 pub some_are : (worked : List Worked) (started : Bool) → started ≡ nat_lt 0 (length worked) → started ≡ true →
     0 < length worked
-some_are worked started is h = lt_of (length worked) (sym is ∙ h)
+some_are worked started is h = ltb-true 0 (length worked) (sym is ∙ h)
 
 -- two matrices of a study are one
 pub one_matrix : (s : StudyData) (r q : Result MatrixData RunFault) → IfOk r (λ m. IsMatrix s m) →

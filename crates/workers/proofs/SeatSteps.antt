@@ -1,37 +1,17 @@
 -- What a draw, and a settle, of seat 0 change.
 use Rattle.std.proofs.Common.{◌≡◌, ◌≢◌, ◌<◌, ◌≤◌, ◌+◌, ◌*◌, ◌%◌, ◌==◌, ◌&&◌, ◌||◌, ◌∷◌, [], ℕ, Bool, true, false, not}
-use Rattle.std.proofs.Common.{List, refl, sym, ap, ◌∙◌, arith, nat_lt, if◌then◌else◌}
+use Rattle.std.proofs.Common.{List, refl, sym, ap, ◌∙◌, nat_lt, if◌then◌else◌}
 use Rattle.std.proofs.Math.ListN.{set}
 use Rattle.std.proofs.lemmas.List.{get_or-set_other}
 use Rattle.std.proofs.lemmas.List.Folds.{list_any-append}
 use Rattle.std.proofs.lemmas.Option.{unwrap_or-slice_get}
-use Rattle.std.proofs.lemmas.Bool.Decides.{nat_tests}
+use Rattle.std.proofs.lemmas.Bool.{and_from, or_right, lt-ltb, ltb-false, ltb-true, eq-eqb}
 use Rattle.work_book.specs.Seat.{SeatState, with_drawn, with_kept}
 use Rattle.work_book.specs.Book.{BookState, acts, seat_has, job_of, is_marked, on_seat}
 use Rattle.work_book.specs.Steps.{lease_of, answer_of, after}
 use Rattle.work_book.specs.declared.lease.Lease.{Lease}
 use Rattle.work_book.specs.declared.steps.Step.TheVariants.{Draw, Settle}
 use Rattle.work_book.specs.declared.steps.Answer.TheVariants as answer
-
-lt_true : (a b : ℕ) → a < b → nat_lt a b ≡ true
-lt_true a b h = grind (arith, nat_tests)
-
-lt_of : (a b : ℕ) → nat_lt a b ≡ true → a < b
-lt_of a b h = grind (arith, nat_tests)
-
-lt_false : (a b : ℕ) → nat_lt a b ≡ false → b ≤ a
-lt_false a b h = grind (arith, nat_tests)
-
-self_eq : (n : ℕ) → (n == n) ≡ true
-self_eq n = grind (arith, nat_tests)
-
-and_true : (a b : Bool) → a ≡ true → b ≡ true → (a && b) ≡ true
-and_true true b h k = k
-and_true false b h k = h
-
-or_true : (a b : Bool) → b ≡ true → (a || b) ≡ true
-or_true true b h = refl
-or_true false b h = h
 
 -- a seat acts after a change of its lists
 acts_on : (book : BookState) (f : SeatState → SeatState) → ((v : SeatState) → (f v).lost ≡ v.lost) →
@@ -51,7 +31,7 @@ has_on book n h = go book.seats h
         seat_has (on_seat (record book { seats = seats }) 0 (with_drawn n)) 0 n ≡ true
     go [] h = cc
     go (v ∷ vs) h = list_any-append (λ drawn. drawn == n) v.drawn (n ∷ [])
-        ∙ or_true _ _ (ap (λ b. b || false) (self_eq n))
+        ∙ or_right _ _ (ap (λ b. b || false) (eq-eqb n n refl))
 
 -- a book after a draw of seat 0
 pub record IsDrawn (old new : BookState) : Type 0 where
@@ -64,12 +44,10 @@ pub record IsDrawn (old new : BookState) : Type 0 where
 
 pub drew : (book : BookState) → acts book 0 ≡ true → book.next < book.jobs * book.tries →
     IsDrawn book (after book (Draw 0))
-drew book seat low = go (acts book 0 && nat_lt book.next (book.jobs * book.tries)) (and_true _ _ seat (lt_true _ _ low))
+drew book seat low = go (acts book 0 && nat_lt book.next (book.jobs * book.tries)) (and_from _ _ seat (lt-ltb _ _ low))
   where
-    go : (b : Bool) → b ≡ true → IsDrawn book (if b then record (on_seat book 0 (with_drawn book.next)) {
-      next =
-          book.next + 1;
-    } else book)
+    go : (b : Bool) → b ≡ true → IsDrawn book
+        (if b then record (on_seat book 0 (with_drawn book.next)) { next = book.next + 1 } else book)
     go true e = record {
       jobs = refl;
       tries = refl;
@@ -91,7 +69,7 @@ leased book lease h = go (acts book 0) (nat_lt book.next (book.jobs * book.tries
         → (book.next < book.jobs * book.tries) × (lease.number ≡ book.next) × (lease.job ≡ book.next % book.jobs)
     go true true e h =
         let same : lease_of book book.next ≡ lease = cc in
-        (lt_of _ _ e, sym (ap (λ (l : Lease). l.number) same), sym (ap (λ (l : Lease). l.job) same))
+        (ltb-true _ _ e, sym (ap (λ (l : Lease). l.number) same), sym (ap (λ (l : Lease). l.job) same))
     go true false e h = cc
     go false b e h = cc
 
@@ -105,7 +83,7 @@ none_left book seat none = go (acts book 0) (nat_lt book.next (book.jobs * book.
         answer.Refused) ≢ answer.Lease lease)
         → book.jobs * book.tries ≤ book.next
     go true true e h none = absurd (none (lease_of book book.next) refl)
-    go true false e h none = lt_false _ _ h
+    go true false e h none = ltb-false _ _ h
     go false b e h none = cc
 
 -- a book after seat 0 settled the job of a number
@@ -141,7 +119,7 @@ pub keeps : (book : BookState) (number : ℕ) → acts book 0 ≡ true → seat_
     is_marked book (job_of book number) ≡ false
     → answer_of book (Settle 0 number) ≡ answer.Kept
 keeps book number seat has mark = go (acts book 0 && seat_has book 0 number) (is_marked book (job_of book number))
-    (and_true _ _ seat has) mark
+    (and_from _ _ seat has) mark
   where
     go : (a b : Bool) → a ≡ true → b ≡ false →
         (if a then (if b then answer.Double else answer.Kept) else answer.Refused) ≡ answer.Kept

@@ -4,7 +4,7 @@ use Rattle.std.proofs.Common.{map, take, inl, inr, refl, sym, ap, ◌∙◌, ari
 use Rattle.std.specs.List.{All, AllZip, slice_get}
 use Rattle.std.proofs.Math.Seq.{take-suc}
 use Rattle.std.proofs.lemmas.List.{ext_get_or, get_or-map, length-map, map-append}
-use Rattle.std.proofs.lemmas.Option.{slice_get-get_or}
+use Rattle.std.proofs.lemmas.Option.{slice_get-get_or, same_Some}
 use Rattle.timetable.specs.declared.trips.StopNo.{StopNo}
 use Rattle.rounds.specs.Table.{DurationTable}
 use Rattle.shares.specs.Percentiles.{AreCells, AreCellsAt}
@@ -33,18 +33,13 @@ module _ {A B : Type 0} (R : A → B → Type 0) where
   zip_from [] [] h each = tt
   zip_from [] (y ∷ ys) h each = absurd (omega arith)
   zip_from (x ∷ xs) [] h each = absurd (omega arith)
-  zip_from (x ∷ xs) (y ∷ ys) h each = (
-    each zero x y refl refl,
-    zip_from xs ys (omega arith) (λ k a b. each (suc k) a b),
-  )
-
-inner : {A : Type 0} (x y : A) → Some x ≡ Some y → x ≡ y
-inner x y e = cc
+  zip_from (x ∷ xs) (y ∷ ys) h each =
+      (each zero x y refl refl, zip_from xs ys (omega arith) (λ k a b. each (suc k) a b))
 
 -- what stands in a list with one more element stood there before, or is that element
 pub pushed_at : (xs : List CellsData) (x y : CellsData) (j : ℕ) → slice_get (xs ++ x ∷ []) j ≡ Some y →
     (slice_get xs j ≡ Some y) ⊎ ((j ≡ length xs) × (x ≡ y))
-pushed_at [] x y zero h = inr (refl, inner x y h)
+pushed_at [] x y zero h = inr (refl, same_Some x y h)
 pushed_at [] x y (suc j) h = absurd (cc)
 pushed_at (z ∷ xs) x y zero h = inl h
 pushed_at (z ∷ xs) x y (suc j) h = elim (pushed_at xs x y j h) [

@@ -3,7 +3,7 @@ use Rattle.std.proofs.Common.{◌≡◌, ◌<◌, ◌+◌, ◌*◌, ◌/◌, ◌
 use Rattle.std.proofs.Common.{ap, ◌∙◌, subst}
 use Rattle.std.specs.List.{slice_get, AllZip}
 use Rattle.std.proofs.lemmas.List.{same_lists}
-use Rattle.std.proofs.lemmas.Option.{slice_get-get_or}
+use Rattle.std.proofs.lemmas.Option.{slice_get-get_or, same_Some}
 use Rattle.timetable.specs.declared.trips.StopNo.{StopNo}
 use Rattle.timetable.specs.Networks.{Net}
 use Rattle.rounds.specs.Table.{DurationTable}
@@ -47,9 +47,6 @@ row_unique n origin opportunities q some other h g =
     (subst (λ (t : DurationTable). AllZip (IsOfShare t opportunities q.limits q.destinations) q.shares other) times
     g.shares_are)
 
-inner : {A : Type 0} (x y : A) → Some x ≡ Some y → x ≡ y
-inner x y e = cc
-
 -- of equal networks, equal stops and the same question too
 pub same_given : (s t : StudyData) (scenario of_other origin from_other : ℕ) (row other : RowData) →
     s.opportunities ≡ t.opportunities → s.query ≡ t.query
@@ -57,8 +54,8 @@ pub same_given : (s t : StudyData) (scenario of_other origin from_other : ℕ) (
     slice_get s.origins origin ≡ slice_get t.origins from_other
     → IsRowOf s scenario origin row → IsRowOf t of_other from_other other → row.shares ≡ other.shares
 same_given s t scenario of_other origin from_other row other opportunities query networks origins h g =
-    let network : h.network ≡ g.network = inner h.network g.network (sym h.network_is ∙ networks ∙ g.network_is) in
-    let stop : h.stop ≡ g.stop = inner h.stop g.stop (sym h.stop_is ∙ origins ∙ g.stop_is) in
+    let network : h.network ≡ g.network = same_Some h.network g.network (sym h.network_is ∙ networks ∙ g.network_is) in
+    let stop : h.stop ≡ g.stop = same_Some h.stop g.stop (sym h.stop_is ∙ origins ∙ g.stop_is) in
     let of_network : IsRow g.network h.stop.0 s.opportunities s.query row.shares =
     subst (λ (n : Net). IsRow n h.stop.0 s.opportunities s.query row.shares) network h.is_row in
     let of_stop : IsRow g.network g.stop.0 s.opportunities s.query row.shares =

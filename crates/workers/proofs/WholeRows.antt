@@ -1,11 +1,10 @@
 -- Each row of a study that fits has a cell per destination and a sum per limit for each share.
-use Rattle.std.proofs.Common.{◌≡◌, ◌<◌, ◌==◌, ◌&&◌, ℕ, Bool, true, false, None, Some, length, get_or, sym, ap, ◌∙◌}
-use Rattle.std.proofs.Common.{subst, arith}
+use Rattle.std.proofs.Common.{◌≡◌, ◌<◌, ℕ, true, None, Some, length, get_or, sym, ap, ◌∙◌, subst}
 use Rattle.std.specs.List.{slice_get}
 use Rattle.std.proofs.lemmas.List.{length-map}
 use Rattle.std.proofs.lemmas.List.Sums.{list_all-from_AllPass}
 use Rattle.std.proofs.lemmas.Option.{slice_get_within, get_or_from_slice_get}
-use Rattle.std.proofs.lemmas.Bool.Decides.{nat_tests}
+use Rattle.std.proofs.lemmas.Bool.{and_from, eq-eqb}
 use Rattle.timetable.specs.declared.trips.StopNo.{StopNo}
 use Rattle.timetable.specs.Networks.{Net}
 use Rattle.shares.specs.Opportunities.{access_of}
@@ -17,13 +16,6 @@ use Rattle.workers.specs.Rows.{IsOfShare, IsRowOf}
 use Rattle.workers.specs.Matrices.{HasAllCells}
 use Rattle.workers.specs.Jobs.{ArePlaces}
 use Rattle.workers.proofs.Shares.{zip_length, zip_at}
-
-eq_test : (a b : ℕ) → a ≡ b → (a == b) ≡ true
-eq_test a b h = grind (arith, nat_tests)
-
-and_true : (a b : Bool) → a ≡ true → b ≡ true → (a && b) ≡ true
-and_true true b h k = k
-and_true false b h k = h
 
 -- each network has as many stops as there are opportunities
 pub stops_of : (s : StudyData) (k : ℕ) (n : Net) → StudyFits s → slice_get s.networks k ≡ Some n →
@@ -59,7 +51,7 @@ pub is_whole_row : (s : StudyData) (places : PlacesData) (scenario origin : ℕ)
     → has_all_cells places row ≡ true
 is_whole_row s places scenario origin row fits are is =
     let has = cells_of s scenario origin row fits is in
-    and_true _ _ (eq_test _ _ (has.shares_are ∙ sym are.shares))
+    and_from _ _ (eq-eqb _ _ (has.shares_are ∙ sym are.shares))
     (list_all-from_AllPass (is_whole places.width places.limits) row.shares
-    (λ k d below. and_true _ _ (eq_test _ _ (has.cells k d below ∙ sym are.width))
-    (eq_test _ _ (has.access k d below ∙ sym are.limits))))
+    (λ k d below. and_from _ _ (eq-eqb _ _ (has.cells k d below ∙ sym are.width))
+    (eq-eqb _ _ (has.access k d below ∙ sym are.limits))))

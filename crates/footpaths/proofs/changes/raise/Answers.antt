@@ -1,6 +1,5 @@
-use Rattle.std.proofs.Common.{◌∙◌, length, get_or, set, ap, arith, rules, subst, sym, ◌≡◌, ◌<◌, ℕ, List}
+use Rattle.std.proofs.Common.{set, rules}
 use Rattle.timetable.specs.declared.trips.StopNo.{StopNo}
-use Rattle.footpaths.specs.Changes.{has_stop, longer}
 use Rattle.footpaths.proofs.ChangeFacts.{raised_more, set_within}
 use Rattle.footpaths.proofs.changes.raise.Goals as goal
 

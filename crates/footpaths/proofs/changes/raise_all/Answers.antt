@@ -1,7 +1,5 @@
-use Rattle.std.proofs.Common.{◌≡◌, ◌∙◌, ◌<◌, take, [], ℕ, Bool, List, length, get_or, min, ap, arith, refl, false}
-use Rattle.std.proofs.Common.{rules, subst, sym}
+use Rattle.std.proofs.Common.{◌≡◌, ◌∙◌, ◌<◌, take, [], List, length, get_or, min, ap, arith, false, sym}
 use Rattle.std.proofs.lemmas.List.{length-replicate}
-use Rattle.timetable.specs.declared.trips.StopNo.{StopNo}
 use Rattle.timetable.specs.declared.limits.TheConstants.{MOST_CHANGE_SECONDS}
 use Rattle.table_files.specs.declared.transfers.Link.{Link}
 use Rattle.table_files.specs.declared.place.Place.TheVariants.{Stop}
@@ -56,11 +54,8 @@ loop-link-preserved c =
 pub returns : goal.returns
 returns c =
     let feed = c.args.feed.now in
-    let all : c.loop-link.changes ≡ _ = changes_all feed c.loop-link.link-index c.loop-link.changes (omega (
-      arith,
-      ap length c.links-link-items.ensures,
-      c.loop-link-test.false,
-    )) c.loop-link.invariant.same
+    let all : c.loop-link.changes ≡ _ = changes_all feed c.loop-link.link-index c.loop-link.changes
+    (omega (arith, ap length c.links-link-items.ensures, c.loop-link-test.false)) c.loop-link.invariant.same
     (λ p within. c.loop-link.invariant.each p within
     ∙ ap (λ (l : List Link). change_of feed.children (take c.loop-link.link-index l) p)
     c.links-link-items.ensures) in

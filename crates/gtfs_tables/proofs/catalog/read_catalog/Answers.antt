@@ -7,8 +7,7 @@ use Rattle.gtfs_tables.specs.Catalog.{IsCatalog}
 use Rattle.gtfs_tables.specs.declared.catalog.Catalog.{Catalog}
 use Rattle.gtfs_tables.proofs.FilesGiveAFeed.{is_catalog}
 use Rattle.gtfs_tables.proofs.FirstFileFault.{fifth_of_five, first_of_five, fourth_of_five, none_of_five}
-use Rattle.gtfs_tables.proofs.FirstFileFault.{second_of_five}
-use Rattle.gtfs_tables.proofs.FirstFileFault.{third_of_five}
+use Rattle.gtfs_tables.proofs.FirstFileFault.{second_of_five, third_of_five}
 use Rattle.gtfs_tables.proofs.catalog.read_catalog.Goals as goal
 
 pub returns-in_err-places-clause-fault : goal.returns-in_err-places-clause-fault

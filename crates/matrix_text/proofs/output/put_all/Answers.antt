@@ -2,9 +2,9 @@ use Rattle.std.proofs.Common.{arith, append-nil, [], subst, ◌≡◌, ◌-◌, 
 use Rattle.std.proofs.Common.{length-drop}
 use Rattle.std.proofs.lemmas.List.{take_all}
 use Rattle.std.proofs.Math.Seq.{take-add}
-use Rattle.std.proofs.KnownBytes.{Appends-trans}
+use Rattle.std.proofs.KnownBytes.{Appends-trans, Appends-kept}
 use Rattle.std.specs.Io.KnownBytes.{Appends}
-use Rattle.matrix_text.proofs.Prefixes.{first_out, kept_out, part_out}
+use Rattle.matrix_text.proofs.Prefixes.{first_out, part_out}
 use Rattle.matrix_text.proofs.output.put_all.Goals as goal
 
 pub loop-sent-preserved : goal.loop-sent-preserved
@@ -48,9 +48,10 @@ returns-in-Ok-eq0-clause-cut g c =
 
 pub returns-in-Err-clause-err : goal.returns-in-Err-clause-err
 returns-in-Err-clause-err g c =
-    first_out _ _ c.args.bytes.now c.loop-sent.sent (kept_out _ _ _ _ c.loop-sent.invariant.out c.in-Err.ensures.bytes)
+    first_out _ _ c.args.bytes.now c.loop-sent.sent
+    (Appends-kept _ _ _ _ c.loop-sent.invariant.out c.in-Err.ensures.bytes)
 
 pub returns-in-Err-clause-cut : goal.returns-in-Err-clause-cut
 returns-in-Err-clause-cut g c =
     part_out _ _ c.args.bytes.now c.loop-sent.sent (omega arith)
-    (kept_out _ _ _ _ c.loop-sent.invariant.out c.in-Err.ensures.bytes)
+    (Appends-kept _ _ _ _ c.loop-sent.invariant.out c.in-Err.ensures.bytes)

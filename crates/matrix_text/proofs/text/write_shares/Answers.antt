@@ -47,7 +47,6 @@ returns-in_err-write_share-clause-err g c =
 
 pub returns-clause-ok : goal.returns-clause-ok
 returns-clause-ok g c =
-    let contents = g.W.Write.contents in
     let pairs : List (ℕ × CellsData) = zip c.args.shares.now c.args.rows.now in
     let line = share_line c.args.name.now c.args.stop.now in
     let yielded = c.loop-share.yielded in

@@ -16,10 +16,8 @@ loop-stop-preserved g c l p h below departs never = elim (cases_lt p c.loop-stop
             let low =
             lower_arrival g.R.LaneLabels.labels c.args.ride.now c.args.ready.now s l w.index-ride-stop.result
             w.index-ready-stop.result w.index-ride-stop.result w.index-ready-stop.result w.lower_of.result
-            w.index-ride-stop.is w.index-ready-stop.is (omega (
-              arith,
-              c.requires.same,
-            )) c.loop-stop-test.true (w.lower_of.ensures l h) in
+            w.index-ride-stop.is w.index-ready-stop.is (omega (arith, c.requires.same)) c.loop-stop-test.true
+            (w.lower_of.ensures l h) in
             absurd (w.is_reached.ensures.0 w.if-not-is_reached.false l h departs (low ∙ rw e at never))
         | else-not-is_near-via-else-not-is_near w ↦ c.is_near.ensures.0 w.if-not-is_near.false
       ])
@@ -38,10 +36,8 @@ returns-then-not-is_reached g c =
             let low =
             lower_arrival g.R.LaneLabels.labels c.args.ride.now c.args.ready.now s l c.index-ride-stop.result
             c.index-ready-stop.result c.index-ride-stop.result c.index-ready-stop.result c.lower_of.result
-            c.index-ride-stop.is c.index-ready-stop.is (omega (
-              arith,
-              c.requires.same,
-            )) c.loop-stop-test.true (c.lower_of.ensures l lt) in
+            c.index-ride-stop.is c.index-ready-stop.is (omega (arith, c.requires.same)) c.loop-stop-test.true
+            (c.lower_of.ensures l lt) in
             false≢true (sym c.if-not-is_near.true ∙ c.is_near.ensures.1
             (h l s lt c.loop-stop-test.true departs (sym low ∙ never)))) in
             absurd (false≢true (sym c.if-not-is_reached.true ∙ c.is_reached.ensures.1 reached)),

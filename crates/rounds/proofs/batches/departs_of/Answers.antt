@@ -1,5 +1,4 @@
-use Rattle.std.proofs.Common.{◌≡◌, ◌≢◌, ℕ, ◌+◌, ◌*◌, ◌<◌, inl, inr, slice_index, sym, ◌∙◌, subst}
-use Rattle.std.proofs.Common.{arith}
+use Rattle.std.proofs.Common.{◌≡◌, ◌≢◌, ℕ, ◌+◌, ◌*◌, ◌<◌, inl, inr, slice_index, sym, ◌∙◌, subst, arith}
 use Rattle.std.proofs.lemmas.Bool.{cases_lt}
 use Rattle.useful_minutes.proofs.SearchedMinutes.{not_far}
 use Rattle.rounds.specs.Batches.{IsSearchedAt}
@@ -37,10 +36,7 @@ loop-l-preserved g c =
       | then-from-l w ↦
           let s =
           not_far q.window.minutes q.searched.now c.requires.asked.searched lanes c.args.from l g.met.R.LaneLabels.some
-          (omega (
-            arith,
-            here,
-          )) w.if-from-l.true in
+          (omega (arith, here)) w.if-from-l.true in
           let told = w.alight-departs.ensures in
           let same : (k : ℕ) → k < lanes → k ≢ l →
           slice_index (labels w.alight-departs.result) k ≡ slice_index (labels c.loop-l.departs) k =

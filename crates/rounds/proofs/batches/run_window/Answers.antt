@@ -43,7 +43,6 @@ loop-i-init g c =
 
 pub overflow_add-first : goal.overflow_add-first
 overflow_add-first g c =
-    let n = c.args.query.network.now in
     let w = c.args.query.window in
     let searched = c.args.query.searched.now in
     let are = c.requires.search.asked.searched in
@@ -59,7 +58,6 @@ overflow_add-first g c =
 
 pub base_of-base-requires-clause-first : goal.base_of-base-requires-clause-first
 base_of-base-requires-clause-first g c =
-    let n = c.args.query.network.now in
     let w = c.args.query.window in
     let searched = c.args.query.searched.now in
     let are = c.requires.search.asked.searched in
@@ -67,14 +65,11 @@ base_of-base-requires-clause-first g c =
     let lanes = g.R.LaneLabels.LANES in
     let own = c.LANES-lanes.result in
     let own_same = c.LANES-lanes.ensures in
-    let some : 0 < lanes = omega (arith, g.met.R.LaneLabels.some) in
     let i = c.loop-i.i in
-    let batch : ℕ = batch_at own (length searched) i in
     axis w fits searched are lanes own i own_same g.met.R.LaneLabels.some c.loop-i-test.true
 
 pub run_bounded-requires-clause-batch : goal.run_bounded-requires-clause-batch
 run_bounded-requires-clause-batch g c =
-    let n = c.args.query.network.now in
     let w = c.args.query.window in
     let searched = c.args.query.searched.now in
     let are = c.requires.search.asked.searched in
@@ -94,10 +89,8 @@ run_bounded-requires-clause-batch g c =
           elim (cases_lt (own * batch + l) (length searched)) [
             | inl lt ↦
                 let t = d.live lt in
-                let s = spans w fits searched are lanes own i own_same g.met.R.LaneLabels.some turn l (omega (
-                  arith,
-                  h,
-                )) lt in
+                let s = spans w fits searched are lanes own i own_same g.met.R.LaneLabels.some turn l
+                (omega (arith, h)) lt in
                 omega (arith, t, s.1, base.near, h)
             | inr ge ↦ let t = d.dead ge in omega (arith, t)
           ];
@@ -119,10 +112,8 @@ run_bounded-requires-clause-batch g c =
                 let e = c.loop-i.invariant.next (batch + 1) (omega (arith, turn, more)) pos in
                 let lt = full w fits searched are lanes own i own_same g.met.R.LaneLabels.some turn pos l h in
                 let t = d.live lt in
-                let s = spans w fits searched are lanes own i own_same g.met.R.LaneLabels.some turn l (omega (
-                  arith,
-                  h,
-                )) lt in
+                let s = spans w fits searched are lanes own i own_same g.met.R.LaneLabels.some turn l
+                (omega (arith, h)) lt in
                 let next = before_next w fits searched are lanes own i own_same g.met.R.LaneLabels.some turn pos l h in
                 omega (arith, e, t, s.1, next, base.near, base.within, h)
           ];
@@ -130,7 +121,6 @@ run_bounded-requires-clause-batch g c =
 
 pub run_bounded-requires-clause-bounds : goal.run_bounded-requires-clause-bounds
 run_bounded-requires-clause-bounds g c =
-    let n = c.args.query.network.now in
     let w = c.args.query.window in
     let searched = c.args.query.searched.now in
     let are = c.requires.search.asked.searched in
@@ -171,7 +161,6 @@ run_bounded-requires-clause-bounds g c =
 
 pub write_batch-requires-clause-batch : goal.write_batch-requires-clause-batch
 write_batch-requires-clause-batch g c =
-    let n = c.args.query.network.now in
     let w = c.args.query.window in
     let searched = c.args.query.searched.now in
     let are = c.requires.search.asked.searched in
@@ -218,10 +207,8 @@ write_batch-requires-clause-since g c l p h within reached =
           (c.run_bounded.ensures.states l h) p there reached
       | inr ge ↦ absurd (reached (lane_dead n c.known.ensures c.base_of-base.result g.R.LaneLabels.NEVER
           c.args.query.origin.0
-          time c.args.query.rides ride ready (omega (
-            arith,
-            base.near,
-          )) (d.dead ge) (c.run_bounded.ensures.states l h) p there))
+          time c.args.query.rides ride ready (omega (arith, base.near)) (d.dead ge)
+          (c.run_bounded.ensures.states l h) p there))
     ]
 
 pub loop-i-preserved : goal.loop-i-preserved
@@ -273,10 +260,8 @@ loop-i-preserved g c =
           let since = c.write_batch.ensures.written k p h (within p there) (omega (arith, place', l)) in
           subst (λ (x : ℕ). label_of w.minutes c.write_batch.new.labels p x ≡ NEVER) place'
           (since.never_so (lane_dead n c.known.ensures c.base_of-base.result never c.args.query.origin.0 (time k)
-          c.args.query.rides (ride k) (ready k) (omega (
-            arith,
-            base.near,
-          )) late (c.run_bounded.ensures.states k h) p there))
+          c.args.query.rides (ride k) (ready k) (omega (arith, base.near)) late
+          (c.run_bounded.ensures.states k h) p there))
       | inr ge ↦ kept p j l ge ∙ old.room.dead p j there past l
     ] in
     record {
@@ -301,10 +286,8 @@ loop-i-preserved g c =
                 let place : own * batch + k ≡ j = omega (arith, f, le) in
                 let place' : lanes * batch + k ≡ j = omega (arith, f, le, same) in
                 let t = (c.departs_of-departs.ensures k h).live (omega (arith, l, place)) in
-                let s = spans w fits searched are lanes own i own_same g.met.R.LaneLabels.some turn k (omega (
-                  arith,
-                  h,
-                )) (omega (arith, l, place)) in
+                let s = spans w fits searched are lanes own i own_same g.met.R.LaneLabels.some turn k (omega (arith, h))
+                (omega (arith, l, place)) in
                 let minute = ap at place in
                 let departs : time k ≢ never = λ late. omega (arith, late, t, s.1, h, base.near) in
                 let told : arrival (ride k) (ready k) p ≡ never →
@@ -323,20 +306,12 @@ loop-i-preserved g c =
                   arith,
                   g.met.R.LaneLabels.never_fits,
                 )) (omega (arith, minute, s.1, h, base.near, base.within)) told _
-                (c.write_batch.ensures.written k p h (within p there) (omega (
-                  arith,
-                  place',
-                  l,
-                  few_searched w.minutes searched are,
-                ))))
+                (c.write_batch.ensures.written k p h (within p there)
+                (omega (arith, place', l, few_searched w.minutes searched are))))
             | inr ge ↦
                 subst (λ (y : ℕ). IsLeastOrNever (IsDuration n c.args.query.origin.0 (departure w (at j))
                 c.args.query.rides p) y) (sym (kept p j (omega (arith, l, few_searched w.minutes searched are)) ge))
-                (old.each (batch + 1) p j (omega (arith, turn)) there l (omega (
-                  arith,
-                  after,
-                  ge,
-                )))
+                (old.each (batch + 1) p j (omega (arith, turn)) there l (omega (arith, after, ge)))
           ];
     }
 

@@ -45,10 +45,8 @@ since-requires-clause-later g c l h reached =
     c.index-ready-stop.is in_ride c.loop-stop-test.true (c.lower_of-arrived.ensures m at) in
     let late : arrival (lane m (labels_in labels ride)) (lane m (labels_in labels ready)) s ≢ g.R.LaneLabels.NEVER →
     slice_index (labels c.args.departs) m ≤ arrival (lane m (labels_in labels ride))
-    (lane m (labels_in labels ready)) s = rw (
-      c.as_slice-ride.ensures.value,
-      c.as_slice-ready.ensures.value,
-    ) (c.requires.since m s at in_ready) in
+    (lane m (labels_in labels ready)) s = rw (c.as_slice-ride.ensures.value, c.as_slice-ready.ensures.value)
+    (c.requires.since m s at in_ready) in
     let then = late (λ e. reached (low ∙ e)) in
     omega (arith, low, then, c.sixteen-from.ensures l h)
 

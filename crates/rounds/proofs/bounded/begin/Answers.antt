@@ -1,6 +1,5 @@
-use Rattle.std.proofs.Common.{rules, ◌≡◌, ◌≢◌, ◌<◌, ◌≤◌, ℕ, List, length, replicate, slice_index, slice_get}
-use Rattle.std.proofs.Common.{get_or, ap}
-use Rattle.std.proofs.Common.{refl, sym, ◌∙◌, arith}
+use Rattle.std.proofs.Common.{rules, ◌≡◌, ◌≢◌, ◌<◌, ◌≤◌, ℕ, List, length, replicate, slice_index, slice_get, get_or, ap}
+use Rattle.std.proofs.Common.{◌+◌, refl, sym, ◌∙◌, arith}
 use Rattle.std.proofs.lemmas.Option.{same_Some, slice_get-get_or}
 use Rattle.timetable.specs.Footpaths.{FeetData}
 use Rattle.timetable.specs.RoundSteps.{Lowers}
@@ -33,10 +32,8 @@ bound_ready-requires-clause-bound g c =
     let was = c.args.kept.now in
     let x = get_or was 0 c.index-kept-0.result in
     let long = kept_long base never 0 n later x
-    (c.requires.bounds 0 x (omega arith) (slice_get-get_or was 0 c.index-kept-0.result (omega (
-      arith,
-      c.requires.many,
-    )))) in
+    (c.requires.bounds 0 x (omega arith)
+    (slice_get-get_or was 0 c.index-kept-0.result (omega (arith, c.requires.many)))) in
     omega (
       arith,
       long.1,
@@ -80,12 +77,8 @@ walk_marked-requires-clause-settled g c l x h within none =
     let low = rw (cleared never (length c.as_mut_slice-ride.result.now) n.stops l (rows c.clear.new.labels)
     (c.clear.ensures l h) (ap length c.as_mut_slice-ride.ensures.value
     ∙ c.requires.workspace.ride)) at (c.set_out.ensures.lanes l h) in
-    let there : x < n.stops = omega (
-      arith,
-      within,
-      ap (λ (f : FeetData). length f.walks) c.feet.ensures,
-      c.known.ensures.in_range.lists,
-    ) in
+    let there : x < n.stops =
+    omega (arith, within, ap (λ (f : FeetData). length f.walks) c.feet.ensures, c.known.ensures.in_range.lists) in
     let other : x ≢ origin = λ e. none (ap (slice_get c.set_out.new.marked) e ∙ c.set_out.ensures.here) in
     rw c.feet.ensures (start_walks never (cut_net base never n) ok later origin
     (slice_index (g.R.LaneLabels.labels c.args.batch.departs) l) (lane l (rows c.set_out.new.ride))
@@ -102,10 +95,8 @@ keep_both-requires-clause-ride g c =
     let was = c.args.kept.now in
     let x = get_or was 0 c.index-kept-0.result in
     let long = kept_long base never 0 n later x
-    (c.requires.bounds 0 x (omega arith) (slice_get-get_or was 0 c.index-kept-0.result (omega (
-      arith,
-      c.requires.many,
-    )))) in
+    (c.requires.bounds 0 x (omega arith)
+    (slice_get-get_or was 0 c.index-kept-0.result (omega (arith, c.requires.many)))) in
     omega (
       arith,
       long.0,
@@ -125,10 +116,8 @@ keep_both-requires-clause-ready g c =
     let was = c.args.kept.now in
     let x = get_or was 0 c.index-kept-0.result in
     let long = kept_long base never 0 n later x
-    (c.requires.bounds 0 x (omega arith) (slice_get-get_or was 0 c.index-kept-0.result (omega (
-      arith,
-      c.requires.many,
-    )))) in
+    (c.requires.bounds 0 x (omega arith)
+    (slice_get-get_or was 0 c.index-kept-0.result (omega (arith, c.requires.many)))) in
     omega (
       arith,
       long.1,
@@ -163,7 +152,7 @@ returns-clause-workspace g c =
     let ready : length c.walk_marked.new.ready ≡ stops =
     c.walk_marked.auto.ready ∙ (c.bound_ready.auto.labels ∙ (c.clear-2.auto.labels
     ∙ (ap length c.as_mut_slice-ready.ensures.value ∙ c.requires.workspace.ready))) in
-    let before : length c.walk_marked.new.before ≡ stops =
+    let before : length c.walk_marked.new.before ≡ stops + 1 =
     c.walk_marked.auto.before ∙ (ap length c.as_mut_slice-before.ensures.value ∙ c.requires.workspace.before) in
     let marked : length c.set_out.new.marked ≡ stops =
     c.set_out.auto.marked ∙ (ap length c.as_mut_slice-marked.ensures.value ∙ c.requires.workspace.marked) in
@@ -195,7 +184,7 @@ returns-clause-labels g c =
     let ready : length c.walk_marked.new.ready ≡ stops =
     c.walk_marked.auto.ready ∙ (c.bound_ready.auto.labels ∙ (c.clear-2.auto.labels
     ∙ (ap length c.as_mut_slice-ready.ensures.value ∙ c.requires.workspace.ready))) in
-    let before : length c.walk_marked.new.before ≡ stops =
+    let before : length c.walk_marked.new.before ≡ stops + 1 =
     c.walk_marked.auto.before ∙ (ap length c.as_mut_slice-before.ensures.value ∙ c.requires.workspace.before) in
     let marked : length c.set_out.new.marked ≡ stops =
     c.set_out.auto.marked ∙ (ap length c.as_mut_slice-marked.ensures.value ∙ c.requires.workspace.marked) in

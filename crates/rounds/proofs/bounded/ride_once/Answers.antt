@@ -1,6 +1,5 @@
-use Rattle.std.proofs.Common.{rules, ◌≡◌, ◌<◌, ◌≤◌, ◌+◌, inl, inr, ℕ, List, Bool, length, slice_index, slice_get}
-use Rattle.std.proofs.Common.{get_or}
-use Rattle.std.proofs.Common.{ap, refl, sym, ◌∙◌, arith}
+use Rattle.std.proofs.Common.{rules, ◌≡◌, ◌<◌, ◌≤◌, ◌+◌, inl, inr, ℕ, List, Bool, length, slice_index, get_or, ap, refl}
+use Rattle.std.proofs.Common.{sym, ◌∙◌, arith}
 use Rattle.std.proofs.lemmas.Bool.{cases_lt}
 use Rattle.std.proofs.lemmas.Option.{same_Some, slice_get-get_or}
 use Rattle.timetable.specs.Footpaths.{FeetData}
@@ -76,10 +75,8 @@ scan_lines-requires-clause-before g c l h =
     let rows = labels_in g.R.LaneLabels.labels in
     let x = get_or c.args.kept.now (c.args.rides + 1) c.index-kept-rides.result in
     let bound = c.requires.kept.bounds (c.args.rides + 1) x (omega arith) (omega arith)
-    (slice_get-get_or c.args.kept.now (c.args.rides + 1) c.index-kept-rides.result (omega (
-      arith,
-      c.requires.kept.many,
-    ))) in
+    (slice_get-get_or c.args.kept.now (c.args.rides + 1) c.index-kept-rides.result
+    (omega (arith, c.requires.kept.many))) in
     let settled = settled_of l g.R.LaneLabels.labels c.as_mut_slice-ride.ensures.value
     c.as_mut_slice-ready.ensures.value c.as_mut_slice-before.ensures.value c.as_mut_slice-fallen.ensures.value
     (c.requires.labels.settled l h) in
@@ -139,12 +136,8 @@ transfer_marked-requires-clause-settled g c l x h within none =
     (omega (arith, c.requires.kept.many))) in
     let lowered = rows c.lower_to.new.labels in
     let ridden = rows c.scan_lines.new.ride in
-    let there : x < n.stops = omega (
-      arith,
-      within,
-      ap (λ (f : FeetData). length f.walks) c.feet.ensures,
-      c.known.ensures.in_range.lists,
-    ) in
+    let there : x < n.stops =
+    omega (arith, within, ap (λ (f : FeetData). length f.walks) c.feet.ensures, c.known.ensures.in_range.lists) in
     let falls = lane_falls (lane l lowered) (lane l ridden) (c.scan_lines.ensures.lanes l h) x in
     let marks_long : length c.fill.new.self ≡ n.stops =
     c.fill.ensures.len ∙ (ap length c.as_mut_slice-marked.ensures.value ∙ c.requires.workspace.marked) in
@@ -234,7 +227,7 @@ returns-clause-workspace g c =
     let ready : length c.transfer_marked.new.ready ≡ stops =
     c.transfer_marked.auto.ready ∙ (c.bound_ready.auto.labels
     ∙ (ap length c.as_mut_slice-ready.ensures.value ∙ c.requires.workspace.ready)) in
-    let before : length c.transfer_marked.new.before ≡ stops =
+    let before : length c.transfer_marked.new.before ≡ stops + 1 =
     c.transfer_marked.auto.before ∙ (ap length c.as_mut_slice-before.ensures.value ∙ c.requires.workspace.before) in
     let falls : length c.falls_of.new.falls ≡ stops =
     c.falls_of.auto.falls ∙ (ap length c.as_mut_slice-falls.ensures.value ∙ c.requires.workspace.falls) in
@@ -274,7 +267,7 @@ returns-clause-labels g c =
     let ready : length c.transfer_marked.new.ready ≡ stops =
     c.transfer_marked.auto.ready ∙ (c.bound_ready.auto.labels
     ∙ (ap length c.as_mut_slice-ready.ensures.value ∙ c.requires.workspace.ready)) in
-    let before : length c.transfer_marked.new.before ≡ stops =
+    let before : length c.transfer_marked.new.before ≡ stops + 1 =
     c.transfer_marked.auto.before ∙ (ap length c.as_mut_slice-before.ensures.value ∙ c.requires.workspace.before) in
     let falls : length c.falls_of.new.falls ≡ stops =
     c.falls_of.auto.falls ∙ (ap length c.as_mut_slice-falls.ensures.value ∙ c.requires.workspace.falls) in
@@ -357,7 +350,6 @@ returns-clause-kept g c =
     let departs = g.R.LaneLabels.labels c.args.batch.departs in
     let some : 0 < g.R.LaneLabels.LANES = omega (arith, g.met.R.LaneLabels.some) in
     let k = c.args.rides in
-    let was = c.args.kept.now in
     let bound = c.requires.kept.bounds (k + 1) (get_or c.args.kept.now (c.args.rides + 1) c.index-kept-rides.result)
     (omega arith) (omega arith) (slice_get-get_or c.args.kept.now (c.args.rides + 1) c.index-kept-rides.result
     (omega (arith, c.requires.kept.many))) in

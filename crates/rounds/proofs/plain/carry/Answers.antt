@@ -4,8 +4,7 @@ use Rattle.timetable.specs.declared.trips.Event.{Event}
 use Rattle.trip_lanes.proofs.TripByEvents.{carry_alight, carry_pass, boards_still, boards_here, boards_not, carry_all}
 use Rattle.rounds.proofs.plain.carry.Goals as goal
 use Rattle.rounds.proofs.plain.carry.Goals.{then-aboard+then-event, else-aboard, else-aboard-via-then-aboard+else-event}
-use Rattle.rounds.proofs.plain.carry.Goals.{else-aboard-via-else-aboard}
-use Rattle.rounds.proofs.plain.carry.Goals.{then-event-2+then-ready-stop, else-event-2}
+use Rattle.rounds.proofs.plain.carry.Goals.{else-aboard-via-else-aboard, then-event-2+then-ready-stop, else-event-2}
 use Rattle.rounds.proofs.plain.carry.Goals.{else-event-2-via-then-event-2+else-ready-stop}
 use Rattle.rounds.proofs.plain.carry.Goals.{else-event-2-via-else-event-2}
 
@@ -46,7 +45,5 @@ loop-event-preserved c =
     }
 
 pub returns : goal.returns
-returns c = carry_all c.args.ready.now c.args.trip.now c.loop-event.event-index (omega (
-  arith,
-  ap length c.as_slice-event-items.ensures,
-)) c.loop-event.invariant.lowered
+returns c = carry_all c.args.ready.now c.args.trip.now c.loop-event.event-index
+    (omega (arith, ap length c.as_slice-event-items.ensures)) c.loop-event.invariant.lowered

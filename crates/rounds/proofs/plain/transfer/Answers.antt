@@ -37,14 +37,8 @@ loop-from-preserved c =
       lowered = elim c.if-arrived.branch [
         | then-arrived w ↦ rw w.ready-is (transfer_one feet ride x w.leaving.result.now w.leaving.ensures
             c.loop-from.invariant.lowered
-            (lowers_alike (λ p y l. (
-              l.0,
-              w.if-arrived.true,
-              omega (arith, l.1, w.change-change.ensures),
-            )) (λ p y l. (
-              l.0,
-              omega (arith, l.2, w.change-change.ensures),
-            )) w.lower.ensures)
+            (lowers_alike (λ p y l. (l.0, w.if-arrived.true, omega (arith, l.1, w.change-change.ensures)))
+            (λ p y l. (l.0, omega (arith, l.2, w.change-change.ensures))) w.lower.ensures)
             (lowers_alike (λ p y l. (w.if-arrived.true, l)) (λ p y l. l.1) w.walk_from.ensures))
         | else-arrived w ↦
             let within : x < length feet.walks = omega arith in

@@ -7,7 +7,6 @@ use Rattle.rounds.proofs.plain.walk.Goals.{then-time, else-time}
 
 pub walk_from-requires-clause-targets : goal.walk_from-requires-clause-targets
 walk_from-requires-clause-targets c k d within =
-    let feet = c.args.feet.now.walks in
     let row = c.leaving.result.now in
     let in_range = (c.known.ensures.in_range.walks.rows c.loop-stop.stop row c.leaving.ensures).targets k
     (get_or row k d) (slice_get-get_or row k d within) in

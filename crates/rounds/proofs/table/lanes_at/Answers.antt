@@ -1,5 +1,3 @@
-use Rattle.std.proofs.Common.{◌≡◌, ◌+◌, ◌*◌, ◌<◌, ◌≤◌, ◌∙◌, ℕ, List, sym, ap, arith}
-use Rattle.rounds.specs.Table.{batches_of, label_in, label_of}
 use Rattle.rounds.proofs.LabelsAsDurations.{part_at}
 use Rattle.rounds.proofs.table.lanes_at.Goals as goal
 

@@ -13,10 +13,8 @@ loop-stop-preserved g c =
     lower_arrival g.R.LaneLabels.labels c.args.ride.now c.args.ready.now s 0 c.index-ride-stop.result
     c.index-ready-stop.result
     c.index-ride-stop.result c.index-ready-stop.result c.lower_of.result
-    c.index-ride-stop.is c.index-ready-stop.is (omega (arith, c.requires.ride)) (omega (
-      arith,
-      c.requires.ready,
-    )) (c.lower_of.ensures 0 some) in
+    c.index-ride-stop.is c.index-ready-stop.is (omega (arith, c.requires.ride)) (omega (arith, c.requires.ready))
+    (c.lower_of.ensures 0 some) in
     record {
       falls = λ p. elim (cases_eq p s) [
         | inl e ↦ let was = c.loop-stop.invariant.falls s in

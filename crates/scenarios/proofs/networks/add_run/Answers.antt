@@ -3,10 +3,11 @@ use Rattle.std.proofs.Common.{true, w64, ℤ}
 use Rattle.std.specs.List.{list_all}
 use Rattle.std.proofs.lemmas.Int.{to_z-of_z}
 use Rattle.std.proofs.lemmas.Result.{err_from_is_err_and, on_ok_weaker}
+use Rattle.std.proofs.lemmas.Bool.{and_right}
 use Rattle.service_days.specs.Instances.{instance_events}
 use Rattle.scenarios.specs.Edits.{keeps_of}
 use Rattle.scenarios.specs.Networks.{is_event_on_axis, moved_trip, sum_of}
-use Rattle.scenarios.proofs.KeptRuns.{and_false, as_many, kept, stays_by_events}
+use Rattle.scenarios.proofs.KeptRuns.{as_many, kept, stays_by_events}
 use Rattle.scenarios.proofs.networks.add_run.Goals as goal
 
 pub returns-in_err-moved_trip-clause-fault : goal.returns-in_err-moved_trip-clause-fault
@@ -23,7 +24,7 @@ returns-in_err-moved_trip-clause-fault c =
       | inl m ↦ inl m
       | inr l ↦ inr (
         l.0,
-        and_false _ _ (events
+        and_right _ _ (events
             ∙ ap (λ (z : ℤ). list_all (is_event_on_axis z) (instance_events t)) (sym same) ∙ l.1),
       )
     ])

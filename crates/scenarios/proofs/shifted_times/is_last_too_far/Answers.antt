@@ -1,8 +1,8 @@
+use Rattle.service_days.proofs.RunLists.{all_at}
 use Rattle.std.specs.Prelude.{All}
 use Rattle.timetable.specs.Trips.{EventsRise}
 use Rattle.gtfs_tables.specs.Feed.{IsDeparting}
 use Rattle.gtfs_tables.specs.declared.trip.FeedTrip.{FeedTrip}
-use Rattle.scenarios.proofs.MovedTrips.{all_at}
 use Rattle.scenarios.proofs.shifted_times.is_last_too_far.Goals as goal
 
 pub is_in_range-requires-clause-rise : goal.is_in_range-requires-clause-rise

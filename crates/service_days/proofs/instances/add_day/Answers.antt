@@ -1,11 +1,10 @@
-use Rattle.std.proofs.Common.{ℕ, arith}
+use Rattle.std.proofs.Common.{ℕ, arith, List}
 use Rattle.std.proofs.lemmas.Result.{err_from_is_err_and}
 use Rattle.std.proofs.lemmas.List.FromFn.{length-enumerate_from}
 use Rattle.std.specs.List.{enumerate_from}
 use Rattle.gtfs_tables.specs.declared.trip.FeedTrip.{FeedTrip}
 use Rattle.service_days.specs.Instances.{runs_if}
 use Rattle.service_days.specs.declared.run.Run.{Run}
-use Rattle.std.proofs.Common.{List}
 use Rattle.service_days.proofs.RunLists.{fault_of_part, list_more, list_whole, numbered}
 use Rattle.service_days.proofs.instances.add_day.Goals as goal
 
@@ -31,10 +30,8 @@ loop-number-preserved c =
     let n = c.loop-number.number in
     let t = c.trip.result.now in
     let count = length-enumerate_from 0 trips in
-    list_more f (enumerate_from 0 trips) n (n, t) (
-      n,
-      t,
-    ) (omega arith) (numbered trips n t c.trip.ensures) c.args.runs.now c.loop-number.runs
+    list_more f (enumerate_from 0 trips) n (n, t) (n, t) (omega arith) (numbered trips n t c.trip.ensures)
+    c.args.runs.now c.loop-number.runs
     c.add_if_running.new.runs c.loop-number.invariant
     c.in_ok-add_if_running.ensures.good
 

@@ -1,5 +1,4 @@
-use Rattle.std.proofs.Common.{List, subst, sym}
-use Rattle.timetable.specs.Networks.{Net}
+use Rattle.std.proofs.Common.{subst, sym}
 use Rattle.studies.specs.Inputs.{AreWithinLimit, InputFiles, inputs_of}
 use Rattle.studies.specs.Kept.{lasting_files, lasting_settings}
 use Rattle.studies.specs.Settings.{SettingsData}

@@ -1,4 +1,5 @@
 use Rattle.std.proofs.Common.{◌≡◌, ◌++◌, List, [], subst, sym}
+use Rattle.table_records.proofs.FaultFacts.{tells_more}
 use Rattle.gtfs_tables.specs.Feed.{FeedData}
 use Rattle.gtfs_tables.specs.Opportunities.{opportunities_faults}
 use Rattle.gtfs_tables.specs.Origins.{destinations_faults, origins_faults}
@@ -12,7 +13,7 @@ use Rattle.studies.specs.Inputs.{InputFiles, inputs_of}
 use Rattle.studies.specs.Parts.{point_faults}
 use Rattle.studies.specs.Stages.{AreTables, TellsTables}
 use Rattle.studies.proofs.FewOrigins.{few_origins}
-use Rattle.studies.proofs.FirstOfLists.{none_of_both, tells_left, tells_right}
+use Rattle.studies.proofs.FirstOfLists.{none_of_both, tells_right}
 use Rattle.studies.proofs.StudyFacts.{err_by}
 use Rattle.studies.proofs.tables.read_tables.Goals as goal
 
@@ -35,7 +36,7 @@ returns-in_err-origins-clause-fault c =
     let e = c.in_err-origins.field-0.0 in
     err_by (λ (e : StudyFault). TellsTables e i feed) c.from_residual.result (fault.Feed e)
     c.from_residual.ensures.1
-    (tells_left e (origins_faults i.origins feed) (after_origins i feed) c.in_err-origins.ensures.fault)
+    (tells_more e (origins_faults i.origins feed) (after_origins i feed) c.in_err-origins.ensures.fault)
 
 pub read_opportunities-requires : goal.read_opportunities-requires
 read_opportunities-requires c = c.requires.opportunities
@@ -48,7 +49,7 @@ returns-in_err-opportunities-clause-fault c =
     err_by (λ (e : StudyFault). TellsTables e i feed) c.from_residual-in_err-opportunities.result (fault.Feed e)
     c.from_residual-in_err-opportunities.ensures.1
     (past_origins i feed e c.in_ok-origins.ensures.good.0
-    (tells_left e (opportunities_faults i.opportunities feed) (destinations_faults i.destinations feed)
+    (tells_more e (opportunities_faults i.opportunities feed) (destinations_faults i.destinations feed)
     c.in_err-opportunities.ensures.fault))
 
 pub read_destinations-requires : goal.read_destinations-requires

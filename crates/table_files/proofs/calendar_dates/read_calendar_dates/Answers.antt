@@ -4,8 +4,7 @@ use Rattle.csv.specs.Records.{fields_of}
 use Rattle.table_records.specs.Faults.{Tells}
 use Rattle.table_records.specs.Table.{records_of}
 use Rattle.table_records.specs.declared.fault.FileName.TheVariants as file
-use Rattle.table_files.specs.CalendarDates.{checks, required, row_of}
-use Rattle.table_files.specs.CalendarDates.{AreExceptions}
+use Rattle.table_files.specs.CalendarDates.{checks, required, row_of, AreExceptions}
 use Rattle.table_records.proofs.TableFacts.{fault_told, table_given}
 use Rattle.table_records.proofs.ReadingFacts.{headed, missing}
 use Rattle.table_files.proofs.calendar_dates.read_calendar_dates.Goals as goal

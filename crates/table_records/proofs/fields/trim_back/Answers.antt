@@ -1,11 +1,8 @@
-use Rattle.std.proofs.Common.{◌≡◌, ◌≢◌, ◌-◌, ◌==◌, ◌∙◌, ℕ, arith, sym, false}
-use Rattle.std.proofs.lemmas.Bool.Decides.{nat_tests}
+use Rattle.std.proofs.Common.{◌≡◌, ◌-◌, ◌∙◌, arith, sym, false}
+use Rattle.std.proofs.lemmas.Bool.{ne_eqb}
 use Rattle.table_records.proofs.Trims.{shorter_by_space, ends_here}
 use Rattle.table_records.proofs.fields.trim_back.Goals as goal
 use Rattle.table_records.proofs.fields.trim_back.Goals.{then-loop-end-test+else-text-end-eq32, else-loop-end-test}
-
-not_equal : (m n : ℕ) → m ≢ n → (m == n) ≡ false
-not_equal m n h = grind (arith, nat_tests)
 
 pub loop-end-preserved : goal.loop-end-preserved
 loop-end-preserved c = (
@@ -19,7 +16,7 @@ returns c =
     elim c.loop-end-test.branch [
       | then-loop-end-test+else-text-end-eq32 w ↦
           sym (ends_here c.loop-end.end (c.loop-end.end - 1) c.args.text.now (omega arith) c.loop-end.invariant.1
-          (not_equal _ _ w.if-text-end-eq32.false)) ∙ c.loop-end.invariant.0
+          (ne_eqb _ _ w.if-text-end-eq32.false)) ∙ c.loop-end.invariant.0
       | else-loop-end-test w ↦
           let none : c.loop-end.end ≡ 0 = omega arith in
           rw none (rw none at c.loop-end.invariant.0)

@@ -15,8 +15,7 @@ use Rattle.trip_lanes.specs.Rows.{IsCutViewOf, NoneOvertakes, IsCaught}
 use Rattle.trip_lanes.proofs.LoweredStop.{row_lane}
 use Rattle.trip_lanes.proofs.TripInOneLane.{lane_falls, marks_then}
 use Rattle.trip_lanes.proofs.LineByPositions.{LineAt, at_position, slice_get_row, line_alight, line_pass, line_board}
-use Rattle.trip_lanes.proofs.LineByPositions.{line_stay}
-use Rattle.trip_lanes.proofs.LineByPositions.{line_past}
+use Rattle.trip_lanes.proofs.LineByPositions.{line_stay, line_past}
 use Rattle.trip_lanes.proofs.FallsCompose.{falls_of_none}
 use Rattle.trip_lanes.proofs.line_scan.scan_line.Goals as goal
 use Rattle.trip_lanes.proofs.line_scan.scan_line.Goals.{then-call+then-span, else-call}
@@ -71,11 +70,8 @@ loop-position-preserved g c =
             length-map c.loop-position.ride labels,
           ))
           (λ r on.
-          let e = at_position base never rows calls times view r x (omega (
-            arith,
-            old.ranks k r h on,
-            size,
-          )) c.loop-position-test.true in
+          let e = at_position base never rows calls times view r x (omega (arith, old.ranks k r h on, size))
+          c.loop-position-test.true in
           let least = w.arrivals.ensures.least k r h on in
           let is = (told rows view).arrival r x e.0 e.1 in
           (e.0, e.1, omega (arith, least, is)))

@@ -16,7 +16,7 @@ invariant-loop-stop g l =
       marks : MarksFallenOf g.R.LaneLabels.LANES (labels_in g.R.LaneLabels.labels l.initial.ready)
           (labels_in g.R.LaneLabels.labels l.ready)
           l.initial.fallen l.fallen;
-      befores : length l.before ≡ length l.ride;
+      befores : length l.before ≡ length l.initial.before;
       noted : (k : ℕ) (was : List ℕ) → k < g.R.LaneLabels.LANES →
           AreNoted was (lane k (labels_in g.R.LaneLabels.labels l.initial.ready))
           (lane k (labels_in g.R.LaneLabels.labels l.initial.before)) l.initial.fallen →

@@ -58,11 +58,8 @@ loop-event-preserved c =
         | then-event-2 w ↦
             let stop = c.requires.stops x here at in
             let read = lane_old c.args.ready.now here.stop.0 k (omega (arith, stop, c.requires.ready)) in
-            rw (
-              w.bar-is,
-              w.board-aboard.ensures k l,
-              ← read,
-            ) (lane_board (lane k c.args.ready.now) t x here at w.if-event-2.true (before.lanes k l)
+            rw (w.bar-is, w.board-aboard.ensures k l, ← read)
+            (lane_board (lane k c.args.ready.now) t x here at w.if-event-2.true (before.lanes k l)
             (got_off k l))
         | else-event-2 w ↦ rw w.bar-is (lane_shut (lane k c.args.ready.now) t x here at w.if-event-2.false
             (before.lanes k l) (got_off k l))
@@ -81,7 +78,5 @@ loop-event-preserved c =
 
 pub returns-clause-lanes : goal.returns-clause-lanes
 returns-clause-lanes c l h =
-    carry_all (lane l c.args.ready.now) c.args.trip.now c.loop-event.event-index (omega (
-      arith,
-      ap length c.as_slice-event-items.ensures,
-    )) (c.loop-event.invariant.lanes l h).lowered
+    carry_all (lane l c.args.ready.now) c.args.trip.now c.loop-event.event-index
+    (omega (arith, ap length c.as_slice-event-items.ensures)) (c.loop-event.invariant.lanes l h).lowered

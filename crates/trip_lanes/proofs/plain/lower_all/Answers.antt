@@ -9,8 +9,5 @@ returns c l h =
     let xs = c.args.labels.now in
     let old = lane_old xs c.args.stop l c.requires in
     let long : c.args.stop < length (lane l xs) = omega (arith, length-map xs (λ w. slice_index w l), c.requires) in
-    rw (
-      map-set (λ w. slice_index w l) xs c.args.stop c.lower_of-lowered.result,
-      c.lower_of-lowered.ensures l h,
-      ← old,
-    ) (lowers_set (lane l xs) c.args.stop (slice_index c.args.times l) long)
+    rw (map-set (λ w. slice_index w l) xs c.args.stop c.lower_of-lowered.result, c.lower_of-lowered.ensures l h, ← old)
+    (lowers_set (lane l xs) c.args.stop (slice_index c.args.times l) long)

@@ -1,5 +1,4 @@
-use Rattle.std.proofs.Common.{inl, inr, false, get_or, slice_index, refl}
-use Rattle.std.proofs.Common.{arith}
+use Rattle.std.proofs.Common.{inl, inr, false, get_or, slice_index, refl, arith}
 use Rattle.std.proofs.lemmas.Option.{slice_get-get_or}
 use Rattle.timetable.specs.declared.views.Call.{Call}
 use Rattle.useful_minutes.proofs.MarkedLines.{boardings_more, boardings_same, no_boarding}

@@ -13,8 +13,6 @@ loop-m-preserved c =
           c.gap_of-gap.ensures.some c.gap_of-gap.ensures.near c.loop-m.invariant)
       | else-marks-m+else-m-marks+else-next-m w ↦ rw (w.searched-is, w.next-is)
           (picked_same c.args.marks.now m c.gap_of-gap.result c.loop-m.next c.loop-m.searched.items c.loop-m.invariant
-          (λ is. false≢true (sym w.if-marks-m.false ∙ is)) (λ e. omega (arith, e, w.if-m-marks.false)) (omega (
-            arith,
-            w.if-next-m.false,
-          )))
+          (λ is. false≢true (sym w.if-marks-m.false ∙ is)) (λ e. omega (arith, e, w.if-m-marks.false))
+          (omega (arith, w.if-next-m.false)))
     ]

@@ -1,5 +1,4 @@
-use Rattle.std.proofs.Common.{◌≡◌, ℕ, ◌*◌, ◌<◌, inl, inr, get_or, min, slice_get, Some, sym, ◌∙◌}
-use Rattle.std.proofs.Common.{subst, arith}
+use Rattle.std.proofs.Common.{◌≡◌, ℕ, ◌*◌, ◌<◌, inl, inr, get_or, min, slice_get, Some, sym, ◌∙◌, subst, arith}
 use Rattle.std.proofs.lemmas.Option.{slice_get-get_or}
 use Rattle.timetable.specs.declared.trips.StopNo.{StopNo}
 use Rattle.timetable.proofs.KnownParts.{foot_in_range}
@@ -18,11 +17,8 @@ lower_stop-requires-in-loop-stop-clause-labels c =
     let at : slice_get n.feet.walks c.args.origin.0 ≡ Some row = rw c.feet.ensures at c.leaving-stop-items.ensures in
     let target = foot_in_range n.feet c.known.ensures.feet c.args.origin.0 (get_or row k none).0.0 (get_or row k none).1
     (row, k, at, here) in
-    let within = rows_within c.args.rows (get_or row k none).0.0 n.stops (omega (
-      arith,
-      target.0,
-      c.known.ensures.in_range.lists,
-    )) in
+    let within = rows_within c.args.rows (get_or row k none).0.0 n.stops
+    (omega (arith, target.0, c.known.ensures.in_range.lists)) in
     omega (arith, within, c.loop-stop.invariant.same, c.requires.labels)
 
 pub loop-stop-preserved : goal.loop-stop-preserved
@@ -54,7 +50,5 @@ returns-clause-walked c p m h l =
     let n = c.args.network.now in
     let row = c.leaving-stop-items.result.now in
     let at : slice_get n.feet.walks c.args.origin.0 ≡ Some row = rw c.feet.ensures at c.leaving-stop-items.ensures in
-    walked_all n c.args.origin.0 row at c.loop-stop.stop-index p _ _ (omega (
-      arith,
-      c.loop-stop-test.false,
-    )) (c.loop-stop.invariant.walked p m h l)
+    walked_all n c.args.origin.0 row at c.loop-stop.stop-index p _ _ (omega (arith, c.loop-stop-test.false))
+    (c.loop-stop.invariant.walked p m h l)

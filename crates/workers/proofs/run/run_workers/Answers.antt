@@ -16,10 +16,8 @@ returns-clause-matrix g c =
     let s = study_of c.args.study.now in
     let v = seen_by c.gather-short.new.seat in
     let none : (seen_by c.split_all.new.seat).kept ≡ [] = c.in_ok-seats.ensures.lists.1 ∙ c.requires.empty.1 in
-    let start = subst (λ (z : List ℕ × PlacesData). AreFilledAs s z.0 z.1) (λ i. (
-      sym none i,
-      sym c.in_ok-collector.ensures i,
-    )) (opens s) in
+    let start = subst (λ (z : List ℕ × PlacesData). AreFilledAs s z.0 z.1)
+    (λ i. (sym none i, sym c.in_ok-collector.ensures i)) (opens s) in
     matrix_ended s v c.gather-short.new.collector
     (c.gather-short.ensures.filled s c.requires.fits (λ k d below. (c.in_ok-worked.ensures.given k d below).holds)
     start) c.matrix_of.result c.matrix_of.ensures.full
@@ -29,10 +27,8 @@ returns-clause-shape g c =
     let s = study_of c.args.study.now in
     let v = seen_by c.gather-short.new.seat in
     let none : (seen_by c.split_all.new.seat).kept ≡ [] = c.in_ok-seats.ensures.lists.1 ∙ c.requires.empty.1 in
-    let start = subst (λ (z : List ℕ × PlacesData). AreFilledAs s z.0 z.1) (λ i. (
-      sym none i,
-      sym c.in_ok-collector.ensures i,
-    )) (opens s) in
+    let start = subst (λ (z : List ℕ × PlacesData). AreFilledAs s z.0 z.1)
+    (λ i. (sym none i, sym c.in_ok-collector.ensures i)) (opens s) in
     shape_ended s v c.gather-short.new.collector
     (c.gather-short.ensures.filled s c.requires.fits (λ k d below. (c.in_ok-worked.ensures.given k d below).holds)
     start) c.matrix_of.result c.requires.fits c.matrix_of.ensures.full
@@ -42,10 +38,8 @@ returns-clause-kept g c =
     let s = study_of c.args.study.now in
     let v = seen_by c.gather-short.new.seat in
     let none : (seen_by c.split_all.new.seat).kept ≡ [] = c.in_ok-seats.ensures.lists.1 ∙ c.requires.empty.1 in
-    let start = subst (λ (z : List ℕ × PlacesData). AreFilledAs s z.0 z.1) (λ i. (
-      sym none i,
-      sym c.in_ok-collector.ensures i,
-    )) (opens s) in
+    let start = subst (λ (z : List ℕ × PlacesData). AreFilledAs s z.0 z.1)
+    (λ i. (sym none i, sym c.in_ok-collector.ensures i)) (opens s) in
     kept_ended s v c.gather-short.new.collector
     (c.gather-short.ensures.filled s c.requires.fits (λ k d below. (c.in_ok-worked.ensures.given k d below).holds)
     start) c.matrix_of.result c.gather-short.ensures.once c.matrix_of.ensures.full
@@ -56,26 +50,18 @@ returns-clause-fault g c =
     let v = seen_by c.gather-short.new.seat in
     let worked = c.in_ok-worked.worked in
     let none : (seen_by c.split_all.new.seat).kept ≡ [] = c.in_ok-seats.ensures.lists.1 ∙ c.requires.empty.1 in
-    let start = subst (λ (z : List ℕ × PlacesData). AreFilledAs s z.0 z.1) (λ i. (
-      sym none i,
-      sym c.in_ok-collector.ensures i,
-    )) (opens s) in
+    let start = subst (λ (z : List ℕ × PlacesData). AreFilledAs s z.0 z.1)
+    (λ i. (sym none i, sym c.in_ok-collector.ensures i)) (opens s) in
     let filled = c.gather-short.ensures.filled s c.requires.fits
     (λ k d below. (c.in_ok-worked.ensures.given k d below).holds) start in
-    let few : length worked.items ≤ c.args.workers = omega (
-      arith,
-      c.in_ok-worked.ensures.few,
-      c.in_ok-seats.ensures.count,
-      worked.ok.0,
-    ) in
+    let few : length worked.items ≤ c.args.workers =
+    omega (arith, c.in_ok-worked.ensures.few, c.in_ok-seats.ensures.count, worked.ok.0) in
     fault_ended s (g.G.Gate.decides c.args.gate.now) (g.G.Gate.was_told c.args.gate.now) c.args.board.now c.args.workers
     (seen_by c.args.seat.now) v worked.items c.matrix_of.result few c.in_ok-worked.ensures.given
     (c.gather-short.ensures.joined ∙ ap (λ (z : View). joined z worked.items) c.in_ok-seats.ensures.left)
     (c.matrix_of.ensures.fault s v worked.items filled c.gather-short.ensures.once c.gather-short.ensures.short
-    (started_is worked.items (vec_len worked) c.is_empty-started.result (omega (
-      arith,
-      worked.ok.0,
-    )) c.is_empty-started.ensures))
+    (started_is worked.items (vec_len worked) c.is_empty-started.result
+    (omega (arith, worked.ok.0)) c.is_empty-started.ensures))
 
 pub returns-clause-split : goal.returns-clause-split
 returns-clause-split g c =

@@ -62,10 +62,8 @@ loop-left-preserved-in-Continue-branch-2 c =
     let stops = length c.args.self.now.labels.items in
     let m = marks c.loop-left.self in
     let ks = heap_items c.pop.new.self in
-    let taken = note_taken leaving stops c.args.source.0 c.args.limit m ks (
-      c.in-Some.left,
-      c.in-Some.stop,
-    ) c.in-Some.ensures.permutation c.loop-left.invariant in
+    let taken = note_taken leaving stops c.args.source.0 c.args.limit m ks (c.in-Some.left, c.in-Some.stop)
+    c.in-Some.ensures.permutation c.loop-left.invariant in
     let at = c.index.ensures ∙ get_or_default m.labels c.in-Some.stop c.index.result.now 0
     (rw c.loop-left.invariant.count taken.1) in
     let now : Marks = record { labels = m.labels; touched = m.touched; noted = ks } in
@@ -73,10 +71,8 @@ loop-left-preserved-in-Continue-branch-2 c =
     (marks c.pass_on.new.self) =
     subst (λ (ls : List (StopNo × ℕ)). PassedOn c.args.limit (c.args.limit - c.in-Some.left) ls now
     (marks c.pass_on.new.self)) c.leaving.ensures c.in_ok-pass_on.ensures in
-    note_served leaving stops c.args.source.0 c.args.limit m (marks c.pass_on.new.self) ks (
-      c.in-Some.left,
-      c.in-Some.stop,
-    ) c.in-Some.ensures.permutation c.loop-left.invariant
+    note_served leaving stops c.args.source.0 c.args.limit m (marks c.pass_on.new.self) ks
+    (c.in-Some.left, c.in-Some.stop) c.in-Some.ensures.permutation c.loop-left.invariant
     (c.if-label-index.true ∙ at) passed
 
 pub loop-left-preserved : goal.loop-left-preserved
@@ -85,17 +81,13 @@ loop-left-preserved c =
     let stops = length c.args.self.now.labels.items in
     let m = marks c.loop-left.self in
     let ks = heap_items c.pop.new.self in
-    let taken = note_taken leaving stops c.args.source.0 c.args.limit m ks (
-      c.in-Some.left,
-      c.in-Some.stop,
-    ) c.in-Some.ensures.permutation c.loop-left.invariant in
+    let taken = note_taken leaving stops c.args.source.0 c.args.limit m ks (c.in-Some.left, c.in-Some.stop)
+    c.in-Some.ensures.permutation c.loop-left.invariant in
     let at = c.index.ensures ∙ get_or_default m.labels c.in-Some.stop c.index.result.now 0
     (rw c.loop-left.invariant.count taken.1) in
     let other = c.if-label-index.false in
-    note_dropped leaving stops c.args.source.0 c.args.limit m ks (
-      c.in-Some.left,
-      c.in-Some.stop,
-    ) c.in-Some.ensures.permutation c.loop-left.invariant (λ e. other (e ∙ sym at))
+    note_dropped leaving stops c.args.source.0 c.args.limit m ks (c.in-Some.left, c.in-Some.stop)
+    c.in-Some.ensures.permutation c.loop-left.invariant (λ e. other (e ∙ sym at))
 
 pub returns : goal.returns
 returns c =

@@ -1,6 +1,6 @@
-use Rattle.std.proofs.Common.{◌≡◌, ◌+◌, ◌*◌, ◌<◌, ◌≤◌, ◌∙◌, ℕ, List, length, get_or, refl, sym, ap, arith, slice_index}
+use Rattle.std.proofs.Common.{◌≡◌, ◌*◌, ◌<◌, ◌∙◌, ℕ, List, get_or, sym, ap, arith, slice_index}
 use Rattle.std.proofs.lemmas.List.{get_or_default}
-use Rattle.rounds.specs.Table.{AreLanes, DurationTable, batches_of, label_in, label_of, known_of, at, table_of}
+use Rattle.rounds.specs.Table.{AreLanes, DurationTable, batches_of, label_of, known_of, at}
 use Rattle.rounds.proofs.LabelsAsDurations.{all_before, known_at}
 use Rattle.rounds.proofs.table.Durations.lanes_of.Goals as goal
 

@@ -1,18 +1,14 @@
-use Rattle.std.proofs.Common.{◌≡◌, ◌∙◌, Bool, true, false, inl, refl}
-use Rattle.std.specs.Prelude.{not}
+use Rattle.std.proofs.Common.{◌≡◌, ◌∙◌, true, false, inl}
+use Rattle.std.proofs.lemmas.Bool.{not-false}
 use Rattle.csv.specs.Records.{fields_of}
 use Rattle.table_records.proofs.RecordsLeft.{read_step}
 use Rattle.table_records.proofs.records.Records.next.Goals as goal
-
-not_false : (b : Bool) → not b ≡ false → b ≡ true
-not_false true e = refl
-not_false false e = cc e
 
 pub invariant_of-self-2 : goal.invariant_of-self-2
 invariant_of-self-2 c more =
     let plain = c.self.invariant c.if-self.false in
     let read = c.in-Ok.ensures.reads plain.trims plain.ready in
-    let found : c.in-Ok.found ≡ true = not_false _ more in
+    let found : c.in-Ok.found ≡ true = not-false _ more in
     record {
       goes = c.in-Ok.ensures.goes ∙ plain.goes;
       trims = read.3 ∙ plain.trims;

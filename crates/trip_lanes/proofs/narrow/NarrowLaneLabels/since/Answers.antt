@@ -21,11 +21,8 @@ returns c l h =
     let counted_len : length (zip2 less times departs) ≡ 16 =
     length-zip2 less times departs (times_len ∙ sym departs_len) ∙ times_len in
     let fits = c.requires.fits (16 * c.args.part + l) inside in
-    rw (sym time) (since_of 65535 (2 ^ 32) (get_or departs l 0) (get_or times l 0) NEVER _ (omega (
-      arith,
-      fits,
-      time,
-    )) (λ _. refl)
+    rw (sym time) (since_of 65535 (2 ^ 32) (get_or departs l 0) (get_or times l 0) NEVER _ (omega (arith, fits, time))
+    (λ _. refl)
     (λ live. rw time (c.requires.later l lt (λ e. live (time ∙ e))))
     (sel_at w32 16 eqb times (replicate 16 65535) (replicate 16 NEVER) (zip2 less times departs) l lt times_len refl
     refl counted_len
