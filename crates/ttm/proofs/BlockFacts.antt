@@ -1,11 +1,13 @@
 -- Blocks of lines, byte after byte and block after block.
-use Rattle.std.proofs.Common.{◌≡◌, ◌∙◌, ◌++◌, ◌==◌, ◌&&◌, ℕ, Bool, true, false, List, [], ◌∷◌, refl, sym, ap, subst}
-use Rattle.std.proofs.Common.{if◌then◌else◌, Option, Some, None, append-nil}
-use Rattle.std.proofs.KnownBytes.{Consumes-trans}
+use Rattle.std.proofs.Common.{◌≡◌, ◌∙◌, ◌++◌, ◌==◌, ◌&&◌, ◌<◌, ◌≤◌, ℕ, Bool, true, false, List, [], ◌∷◌, length, refl}
+use Rattle.std.proofs.Common.{sym, ap, subst, if◌then◌else◌, Option, Some, None, Vec, append-nil, arith}
+use Rattle.std.proofs.KnownBytes.{Consumes-nil, Consumes-trans}
 use Rattle.std.proofs.lemmas.Bool.{eq-eqb, eqb-true, false_from_ne_true}
+use Rattle.std.specs.declared.alloc.Global.{Global}
 use Rattle.std.specs.Io.KnownBytes.{Consumes, IsAtEnd}
 use Rattle.ttm.specs.Blocks.{AreBlocks, Gathers, IsBlock, IsLast, IsNext, IsReadOf, block_at, is_closed, rest_at}
 use Rattle.ttm.specs.declared.blocks.Block.{Block}
+use Rattle.ttm.specs.declared.blocks.Gathered.TheVariants as gathered
 use Rattle.ttm.specs.declared.blocks.Gathered.{Gathered}
 
 -- whether a line begins after these bytes

@@ -61,7 +61,16 @@ feed_read finds folder feed f = (
     (_, f.routes),
     (
       (_, f.calendar),
-      ((_, f.calendar_dates), ((_, f.trips), ((_, f.stop_times), ((_, f.frequencies), ((_, f.transfers), tt))))),
+      (
+        (_, f.calendar_dates),
+        (
+          (_, f.trips),
+          (
+            (_, f.stop_times),
+            ((_, f.frequencies), ((_, f.transfers), tt)),
+          ),
+        ),
+      ),
     ),
   ),
 )
@@ -81,8 +90,10 @@ scenario_at : (finds : Finds) (before_it : List (List ℕ)) (path : List ℕ) (r
 scenario_at finds [] path rest files u h why = before finds (Needed path ∷ []) (scenario_asks rest) u why
 scenario_at finds (p ∷ ps) path rest [] u h why = absurd h
 scenario_at finds (p ∷ ps) path rest (f ∷ fs) u h why =
-    later finds (Needed p) (scenario_asks (ps ++ path ∷ rest)) u (f.bytes, h.1)
-    (scenario_at finds ps path rest fs u h.2 why)
+    later finds (Needed p) (scenario_asks (ps ++ path ∷ rest)) u (
+      f.bytes,
+      h.1,
+    ) (scenario_at finds ps path rest fs u h.2 why)
 
 pub scenario_unread : (finds : Finds) (paths before_it : List (List ℕ)) (path : List ℕ) (rest : List (List ℕ))
     (files : List NamedBytes) (u : Unread)

@@ -1,8 +1,12 @@
 -- An answer and its parts.
 use Rattle.std.proofs.Common.{◌≡◌, ◌++◌, ◌+◌, ◌<◌, ℕ, zero, suc, Bool, true, false, not, cond, List, [], ◌∷◌, Option}
-use Rattle.std.proofs.Common.{Some, None, Result, Ok, Err, IfOk, IfErr, OnErr, OnOk, inl, inr, refl, sym, ap, subst}
-use Rattle.std.proofs.Common.{◌∙◌, Bor, arith, is_err, length, map, take, slice_index_or}
+use Rattle.std.proofs.Common.{Some, None, Result, Ok, Err, IfOk, IfErr, OnErr, OnOk, Vec, inl, inr, refl, sym, ap}
+use Rattle.std.proofs.Common.{subst, append-nil, ◌∙◌, Bor, arith, is_err, length, map, take, slice_index_or}
+use Rattle.std.specs.Io.KnownBytes.{Appends, Keeps}
+use Rattle.std.proofs.KnownBytes.{Appends-kept}
+use Rattle.std.specs.declared.alloc.Global.{Global}
 use Rattle.command_line.specs.declared.task.QuestionTask.{QuestionTask}
+use Rattle.matrix_text.specs.Prefixes.{PutsPrefix}
 use Rattle.studies.specs.Inputs.{InputFiles}
 use Rattle.studies.specs.Settings.{SettingsData}
 use Rattle.ttm.specs.Blocks.{HasNoText, IsBlock, IsReadOf, TellsWords, block_at, is_word, words_in}

@@ -2,16 +2,15 @@
 use Rattle.std.proofs.Common.{◌≡◌, ◌∙◌, ◌++◌, ℕ, Bool, true, false, List, [], ◌∷◌, refl, sym, ap, subst, Option}
 use Rattle.std.proofs.Common.{append_assoc, append-nil, inl, inr}
 use Rattle.std.proofs.KnownBytes.{Appends-nil, Appends-trans, Consumes-nil, Consumes-trans}
-use Rattle.std.specs.Io.KnownBytes.{Appends, Consumes}
+use Rattle.std.specs.Io.KnownBytes.{Appends, Consumes, IsAtEnd}
 use Rattle.std.specs.List.{concat}
 use Rattle.matrix_text.specs.Prefixes.{PutsPrefix}
-use Rattle.matrix_text.proofs.Prefixes.{cut_after}
 use Rattle.studies.specs.Inputs.{InputFiles}
 use Rattle.studies.specs.Settings.{SettingsData}
 use Rattle.ttm.proofs.BlockFacts.{AreClosed, closed_are_blocks, more_blocks, more_closed}
 use Rattle.ttm.specs.Blocks.{AreBlocks}
 use Rattle.ttm.specs.Files.{Finds}
-use Rattle.ttm.specs.Talk.{AreReplies, IsBroken, IsReply, IsStep, IsStop, IsTalk, IsWhole}
+use Rattle.ttm.specs.Talk.{AreReplies, IsBroken, IsCut, IsReply, IsStep, IsStop, IsTalk, IsTurn, IsWhole}
 use Rattle.ttm.specs.declared.talk.TalkFault.{TalkFault}
 use Rattle.ttm.specs.declared.talk.TalkFault.TheVariants as stop
 
@@ -38,6 +37,25 @@ more_replies finds kept base (b ∷ bs) (r ∷ rs) block reply h one =
 concat_more : (xs : List (List ℕ)) (x : List ℕ) → concat (xs ++ x ∷ []) ≡ concat xs ++ x
 concat_more [] x = append-nil x
 concat_more (y ∷ ys) x = ap (λ l. y ++ l) (concat_more ys x) ∙ sym (append_assoc y (concat ys) x)
+
+-- a whole text and a part of the next
+pub part_after : (a b c : Option (List ℕ)) (xs ys : List ℕ) → Appends a b xs → PutsPrefix b c ys →
+    PutsPrefix a c (xs ++ ys)
+part_after a b c xs ys first next = record {
+  out = xs ++ next.out;
+  left = next.left;
+  split = append_assoc xs next.out next.left ∙ ap (λ l. xs ++ l) next.split;
+  appended = Appends-trans a b c xs next.out first next.appended;
+}
+
+-- a part of a text is a part of a longer one
+pub part_before : (a b : Option (List ℕ)) (xs ys : List ℕ) → PutsPrefix a b xs → PutsPrefix a b (xs ++ ys)
+part_before a b xs ys part = record {
+  out = part.out;
+  left = part.left ++ ys;
+  split = sym (append_assoc part.out part.left ys) ∙ ap (λ l. l ++ ys) part.split;
+  appended = part.appended;
+}
 
 -- one more question, after which the input goes on
 pub goes_on : (finds : Finds) (kept : InputFiles) (base : SettingsData) (a b c out mid put : Option (List ℕ)) →
@@ -100,7 +118,7 @@ stops finds kept base a b c out mid put stop.Write h stopped =
       replies = h.replies ++ t.reply ∷ [];
       answered = more_replies finds kept base h.blocks h.replies _ t.reply h.answered t.answered;
       part = subst (PutsPrefix out put) (sym (concat_more h.replies t.reply))
-          (cut_after out mid put (concat h.replies) t.reply h.whole t.replied);
+          (part_after out mid put (concat h.replies) t.reply h.whole t.replied);
     }
 stops finds kept base a b c out mid put stop.Read h stopped = record {
   bytes = h.bytes;

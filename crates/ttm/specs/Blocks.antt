@@ -2,8 +2,8 @@
 -- "A question is a block of lines, one word a line, and ends with an empty line or where the input ends. One of more
 -- than 65,536 bytes isn't read, and neither is one with a word that isn't UTF-8." (The program's own rule.) Bytes are
 -- ASCII: 10 is LF.
-use Rattle.std.specs.Prelude.{◌≡◌, ◌≢◌, ◌≤◌, ◌<◌, ◌⊎◌, ◌==◌, ◌&&◌, ℕ, Bool, true, false, List, [], ◌∷◌, map, length}
-use Rattle.std.specs.Prelude.{Option, Some, None, Result, Ok, Err, String, Vec, ⊤, string_bytes, if◌then◌else◌}
+use Rattle.std.specs.Prelude.{◌≡◌, ◌≢◌, ◌≤◌, ◌<◌, ◌⊎◌, ◌==◌, ◌&&◌, ℕ, Bool, true, false, not, List, [], ◌∷◌, map}
+use Rattle.std.specs.Prelude.{length, Option, Some, None, Result, Ok, Err, String, Vec, ⊤, string_bytes, if◌then◌else◌}
 use Rattle.std.specs.Io.KnownBytes.{Consumes, IsAtEnd}
 use Rattle.std.specs.List.{filter, slice_split}
 use Rattle.std.specs.Str.{IsUtf8}

@@ -12,7 +12,7 @@ use Rattle.clap.specs.Words.{Text}
 use Rattle.command_line.specs.Lines.{line, line_of, no_memory, path_rest, read_status, status_of}
 use Rattle.command_line.specs.Questions.{Asks, IsQuestionLine, TellsQuestion, question_status_of}
 use Rattle.command_line.specs.declared.files.ReadFault.{ReadFault}
-use Rattle.command_line.specs.declared.statuses.TheConstants.{DONE, NOT_MOVED, REFUSED}
+use Rattle.command_line.specs.declared.statuses.TheConstants.{DONE, NO_ROOM, NOT_MOVED, REFUSED}
 use Rattle.command_line.specs.declared.task.QuestionTask.{QuestionTask}
 use Rattle.command_line.specs.declared.task.WordFault.{WordFault}
 use Rattle.matrix_text.specs.Prefixes.{PutsPrefix}

@@ -1,6 +1,7 @@
 use Rattle.std.proofs.Common.{inl, inr, map, string_bytes, subst, ℕ}
 use Rattle.std.specs.Process.{exit_status}
-use Rattle.command_line.specs.Words.{word_status_of, Tells as TellsWords}
+use Rattle.command_line.specs.Words.{word_status_of}
+use Rattle.command_line.specs.Words.{Tells as TellsWords}
 use Rattle.command_line.specs.declared.task.WordFault.TheVariants as word
 use Rattle.ttm.specs.Answers.{EndsText}
 use Rattle.ttm.proofs.program.asked.Goals as goal

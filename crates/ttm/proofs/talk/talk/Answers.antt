@@ -1,3 +1,4 @@
+use Rattle.std.proofs.Common.{[], refl}
 use Rattle.studies.specs.Inputs.{inputs_of}
 use Rattle.ttm.proofs.TalkFacts.{breaks, ends_at, goes_on_at, none_answered, stops}
 use Rattle.ttm.proofs.talk.talk.Goals as goal
