@@ -5,8 +5,8 @@ ghost use Rattle.std.specs.Prelude.{◌≡◌, IfOk};
 use std::alloc::{AllocError, Global};
 use timetable::{Call, CallTimes, Event, Events, Feet, Lines, Network, StopNo, Trip};
 
-// An event where one may board and alight, at a stop, that arrives and departs at these seconds.
-fn at(stop: u32, arrive: u32, depart: u32) -> Event {
+/// An event where one may board and alight, at a stop, that arrives and departs at these seconds.
+pub(crate) fn at(stop: u32, arrive: u32, depart: u32) -> Event {
     Event {
         stop: StopNo(stop),
         arrive,

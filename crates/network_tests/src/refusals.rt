@@ -1,5 +1,6 @@
 //! Footpaths and trips that are refused come back as they were given.
 
+use crate::lines::at;
 use std::alloc::{AllocError, Global};
 use std::test::Fail;
 use timetable::{Event, Events, Feet, NetFault, Network, StopNo, Trip};
@@ -53,17 +54,6 @@ fn is_walk_refused(alloc: Global) -> Result<bool, AllocError> {
 fn footpaths_come_back_with_their_change_times(rt: HostRuntime) -> Result<(), Fail> {
     assert!(rt; is_walk_refused(rt.alloc())?);
     Ok(())
-}
-
-/// An event where one may board and alight.
-fn at(stop: u32, arrive: u32, depart: u32) -> Event {
-    Event {
-        stop: StopNo(stop),
-        arrive,
-        depart,
-        board: true,
-        alight: true,
-    }
 }
 
 /// Trip 7 of route 3, with two events.

@@ -20,34 +20,14 @@ fn mondays() -> FeedBytes<'static> {
     in_may(TRIPS, TIMES)
 }
 
-/// What a test expects of a feed.
-#[derive(Clone, Copy)]
-enum Expected {
-    ItsDays,
-    LeapDays,
-    DaysAround,
-    Departures,
-    Refusals,
-    ManyRuns,
-}
-
-/// Whether the files are read, and a feed is as expected. One function owns the feeds of all tests, so that the drop of
-/// one is proved once.
-fn gives(alloc: Global, expected: Expected, files: FeedBytes<'static>) -> bool {
+/// Whether the files are read, and this holds of their feed. One function owns the feeds of the tests, so that the drop
+/// of one is proved once.
+fn gives<F: Fn(Global, &Feed) -> bool>(alloc: Global, holds: F, files: FeedBytes<'_>) -> bool
+    requires { F.IsAlwaysCallable holds }
+{
     match feed_in(alloc, files) {
-        Some(feed) => is_as_expected(alloc, &feed, expected),
+        Some(feed) => holds(alloc, feed.as_ref()),
         None => false,
-    }
-}
-
-fn is_as_expected(alloc: Global, feed: &Feed, expected: Expected) -> bool {
-    match expected {
-        Expected::ItsDays => runs_on_its_days(feed),
-        Expected::LeapDays => runs_on_leap_days(alloc, feed),
-        Expected::DaysAround => lists_days_around(alloc, feed),
-        Expected::Departures => lists_departures(alloc, feed),
-        Expected::Refusals => refuses_studies(alloc, feed),
-        Expected::ManyRuns => lists_many(alloc, feed),
     }
 }
 
@@ -164,7 +144,7 @@ NEW,20260507,2
         ),
         ..mondays()
     };
-    assert!(rt; gives(rt.alloc(), Expected::ItsDays, files));
+    assert!(rt; gives(rt.alloc(), |_, feed| runs_on_its_days(feed), files));
 }
 
 /// Whether both trips run on the day before a date, and none on the date.
@@ -190,7 +170,7 @@ fn leap_days_are_days(rt: HostRuntime) {
         ),
         ..mondays()
     };
-    assert!(rt; gives(rt.alloc(), Expected::LeapDays, files));
+    assert!(rt; gives(rt.alloc(), runs_on_leap_days, files));
 }
 
 /// Whether studies of more days than a week list the runs of those days: from the March before, and from 137 years
@@ -247,7 +227,7 @@ T2,08:30:00,08:30:00,C,2
         ),
         ..mondays()
     };
-    assert!(rt; gives(rt.alloc(), Expected::DaysAround, files));
+    assert!(rt; gives(rt.alloc(), lists_days_around, files));
 }
 
 /// Whether a study lists each departure of rows that overlap, and none of rows that end before they begin.
@@ -277,7 +257,7 @@ T1,09:00:00,08:00:00,1
         ),
         ..mondays()
     };
-    assert!(rt; gives(rt.alloc(), Expected::Departures, files));
+    assert!(rt; gives(rt.alloc(), lists_departures, files));
 }
 
 /// Whether the study on the first date of the calendar is refused, and one that asks for all days that can be named.
@@ -309,7 +289,7 @@ fn studies_are_refused(rt: HostRuntime) {
         ),
         ..mondays()
     };
-    assert!(rt; gives(rt.alloc(), Expected::Refusals, files));
+    assert!(rt; gives(rt.alloc(), refuses_studies, files));
 }
 
 /// Whether these are 450,000 runs of the first trip, with the shifts of the first and of the last second.
@@ -350,5 +330,5 @@ fn many_departures_are_listed(rt: HostRuntime) {
         frequencies: Some(b"trip_id,start_time,end_time,headway_secs\nT1,00:00:00,125:00:00,1\n"),
         ..mondays()
     };
-    assert!(rt; gives(rt.alloc(), Expected::ManyRuns, files));
+    assert!(rt; gives(rt.alloc(), lists_many, files));
 }

@@ -1,5 +1,6 @@
 //! The scenario without edits, and its networks over small feeds.
 
+use crate::lines::at;
 use crate::small_feeds::{feed_in, in_may};
 use gtfs_tables::{Feed, FeedBytes, read_date};
 use scenarios::{Scenario, base, network_of};
@@ -62,17 +63,6 @@ fn network_around_monday(
 
 /// A trip as its route, its number and its events.
 type ExpectedTrip = (u32, u32, [Event; 2]);
-
-/// A vehicle at a stop, where travellers may board and alight.
-fn at(stop: u32, arrive: u32, depart: u32) -> Event {
-    Event {
-        stop: StopNo(stop),
-        arrive,
-        depart,
-        board: true,
-        alight: true,
-    }
-}
 
 fn is_trip(trip: &Trip, expected: &ExpectedTrip) -> bool {
     trip.route == expected.0
