@@ -5,7 +5,8 @@ use std::alloc::{AllocError, Global};
 use std::test::Fail;
 use timetable::{Call, CallTimes, Event, Events, Feet, NEVER, StopNo, Trip};
 use trip_lanes::{
-    Lanes, LineView, Narrow, ReadyLabels, UNFALLEN, carry_trip, falls_of, scan_line, transfer, walk,
+    LaneLabels, Lanes, LineView, Narrow, ReadyLabels, UNFALLEN, carry_trip, scan_line, transfer,
+    walk,
 };
 
 /// No lane reaches the stop.
@@ -142,7 +143,7 @@ fn stops_at(time: u32) -> CallTimes {
     }
 }
 
-/// `scan_line`, `falls_of`.
+/// `scan_line`, `LaneLabels::fall`.
 #[test]
 fn each_lane_takes_the_first_trip_of_a_line(rt: HostRuntime) -> Result<(), Fail> {
     let calls = [call(0), call(1), call(2)];
@@ -163,10 +164,8 @@ fn each_lane_takes_the_first_trip_of_a_line(rt: HostRuntime) -> Result<(), Fail>
         trips: 3,
         base: 0,
     };
-    let before = [UNREACHED, UNREACHED, UNREACHED];
     let ready = [two(100, 201), UNREACHED, two(NEVER, 215)];
-    let mut falls = [UNFALLEN; 3];
-    falls_of(&before, &ready, &[true, false, true], &mut falls);
+    let falls = [ready[0].fall(UNREACHED), UNFALLEN, ready[2].fall(UNREACHED)];
     let labels = ReadyLabels {
         falls: &falls,
         ready: &ready,
@@ -189,7 +188,7 @@ fn three(first: u16, second: u16, last: u16) -> Narrow {
 }
 
 // The three trips of the line above, as labels tell them that count from 50: 50, 60, 70; 150, 160, 170; 250, 260, 270.
-/// `scan_line`, `falls_of`.
+/// `scan_line`, `LaneLabels::fall`.
 #[test]
 fn narrow_lanes_take_the_first_trip_from_their_base_on(rt: HostRuntime) -> Result<(), Fail> {
     let calls = [call(0), call(1), call(2)];
@@ -210,10 +209,8 @@ fn narrow_lanes_take_the_first_trip_from_their_base_on(rt: HostRuntime) -> Resul
         trips: 3,
         base: 50,
     };
-    let before = [FAR, FAR, FAR];
     let ready = [three(50, 151, 51), FAR, three(65_535, 165, 65_535)];
-    let mut falls = [UNFALLEN; 3];
-    falls_of(&before, &ready, &[true, false, true], &mut falls);
+    let falls = [ready[0].fall(FAR), UNFALLEN, ready[2].fall(FAR)];
     let labels = ReadyLabels {
         falls: &falls,
         ready: &ready,
@@ -228,7 +225,7 @@ fn narrow_lanes_take_the_first_trip_from_their_base_on(rt: HostRuntime) -> Resul
 }
 
 // From 50 on labels end at 65,585, and 100,000 would be 34,414 if its upper bits were left out.
-/// `scan_line`, `falls_of`.
+/// `scan_line`, `LaneLabels::fall`.
 #[test]
 fn narrow_labels_end_at_their_horizon(rt: HostRuntime) -> Result<(), Fail> {
     let calls = [call(0), call(1), call(2), call(3)];
@@ -244,10 +241,8 @@ fn narrow_labels_end_at_their_horizon(rt: HostRuntime) -> Result<(), Fail> {
         trips: 1,
         base: 50,
     };
-    let before = [FAR, FAR, FAR, FAR];
     let ready = [three(50, 51, 1), FAR, FAR, FAR];
-    let mut falls = [UNFALLEN; 4];
-    falls_of(&before, &ready, &[true, false, false, false], &mut falls);
+    let falls = [ready[0].fall(FAR), UNFALLEN, UNFALLEN, UNFALLEN];
     let labels = ReadyLabels {
         falls: &falls,
         ready: &ready,
@@ -262,7 +257,7 @@ fn narrow_labels_end_at_their_horizon(rt: HostRuntime) -> Result<(), Fail> {
 }
 
 // The trips leave at 20, 50 and 51, and labels count from 50: so the first two leave at 0, before all who are ready.
-/// `scan_line`, `falls_of`.
+/// `scan_line`, `LaneLabels::fall`.
 #[test]
 fn nobody_catches_what_left_before_the_base(rt: HostRuntime) -> Result<(), Fail> {
     let calls = [call(0), call(1)];
@@ -280,10 +275,8 @@ fn nobody_catches_what_left_before_the_base(rt: HostRuntime) -> Result<(), Fail>
         trips: 3,
         base: 50,
     };
-    let before = [FAR, FAR];
     let ready = [three(1, 2, 1), FAR];
-    let mut falls = [UNFALLEN; 2];
-    falls_of(&before, &ready, &[true, false], &mut falls);
+    let falls = [ready[0].fall(FAR), UNFALLEN];
     let labels = ReadyLabels {
         falls: &falls,
         ready: &ready,

@@ -27,3 +27,4 @@ pub mod SettledByBoth
 pub mod SkippedDepartures
 pub mod TripsAsRows
 pub mod TripsLeftOut
+pub mod UnboundedBatches

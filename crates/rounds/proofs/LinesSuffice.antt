@@ -6,7 +6,6 @@ use Rattle.std.proofs.lemmas.Bool.{cases_lt}
 use Rattle.std.proofs.lemmas.Option.{slice_get_within, slice_get-get_or}
 use Rattle.timetable.specs.declared.trips.Event.{Event}
 use Rattle.timetable.specs.declared.trips.Trip.{Trip}
-use Rattle.timetable.specs.FlatLists.{IsIn}
 use Rattle.timetable.specs.Lines.{Line, IsLine, AreLines, AreBoarded}
 use Rattle.timetable.specs.LineViews.{rows_of_line}
 use Rattle.timetable.specs.RoundSteps.{Lowers, CarriesAny}
@@ -16,7 +15,7 @@ use Rattle.trip_lanes.specs.declared.falls.Fall.{Fall}
 use Rattle.trip_lanes.specs.Falls.{AreFalls}
 use Rattle.trip_lanes.specs.Rows.{IsCaught}
 use Rattle.trip_lanes.specs.Scan.{NothingLower}
-use Rattle.rounds.specs.Scan.{CarriesLine}
+use Rattle.rounds.specs.Scan.{CarriesLine, AreDue}
 use Rattle.rounds.proofs.TripsAsRows.{row_trip, trip_row}
 use Rattle.rounds.proofs.LineByLine.{CarriesBelow, any_of_line}
 
@@ -82,9 +81,7 @@ module _ (trips : List Trip) (lines : List Line) (are : AreLines trips lines) wh
     -- nobody newly catches a trip of a line before the position that is noted for it
     pub catches_from : (stops : ℕ) (boarded : List (List (ℕ × ℕ))) → AreBoarded stops trips lines boarded →
         (falls : List Fall) (due : List ℕ) → length falls ≡ stops → AreFalls before ready falls
-        → ((p line position : ℕ) (f : Fall) → IsIn boarded p (line, position) → slice_get falls p ≡ Some f →
-        f.low < f.top → slice_index due line ≤ position)
-        → (r j : ℕ) → IsCaught before ready (rows_of_line trips line) r j → slice_index due i ≤ j
+        → AreDue boarded falls due → (r j : ℕ) → IsCaught before ready (rows_of_line trips line) r j → slice_index due i ≤ j
     catches_from stops boarded board falls due same fallen notes r j g =
         let t = row_trip trips line (line_at i line at_i) r g.from.row g.from.trip in
         let at_j : slice_get t.0.events j ≡ Some g.on = ap (λ (v : List Event). slice_get v j) t.2 ∙ g.from.event in

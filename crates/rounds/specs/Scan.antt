@@ -1,5 +1,6 @@
 -- What the trips of a line, and of lines, offer in a round.
-use Rattle.std.specs.Prelude.{◌≡◌, ℕ, List, length}
+use Rattle.std.specs.Prelude.{◌≡◌, ℕ, ◌<◌, ◌≤◌, List, length, slice_get, slice_index, Some}
+use Rattle.timetable.specs.FlatLists.{IsIn}
 use Rattle.timetable.specs.LineViews.{rows_of_line}
 use Rattle.timetable.specs.declared.trips.Trip.{Trip}
 use Rattle.timetable.specs.RoundSteps.{Carries, CarriesAny}
@@ -21,6 +22,11 @@ pub record CarriesLine (ready : List ℕ) (trips : List Trip) (line : List ℕ) 
 pub record AreSized {R : Type 0} (stops : ℕ) (labels : ReadyLabels R) : Type 0 where
   pub falls : length labels.falls.now ≡ stops
   pub ready : length labels.ready.now ≡ stops
+
+-- each line that can be boarded at a stop where a label fell is due from its position there on, or from an earlier one
+abbrev pub AreDue : List (List (ℕ × ℕ)) → List Fall → List ℕ → Type 0
+AreDue boarded falls due = (p line position : ℕ) (f : Fall) → IsIn boarded p (line, position) →
+    slice_get falls p ≡ Some f → f.low < f.top → slice_index due line ≤ position
 
 -- who was ready before, by labels that fell so far since then, rides to no lower label
 pub record AreCarried (trips : List Trip) (ready : List ℕ) (falls : List Fall) (ride : List ℕ) : Type 0 where

@@ -15,6 +15,10 @@ NoneEarlier Reached labels = (p time : ℕ) → p < length labels → Reached p 
 abbrev pub Bounds : List ℕ → ℕ → ℕ → Type 0
 Bounds bound p x = x ≡ slice_index bound p
 
+-- no stop has a bound below never
+abbrev pub IsUnbounded : ℕ → List ℕ → Type 0
+IsUnbounded never bound = (p : ℕ) → p < length bound → slice_index bound p ≡ never
+
 -- by when a stop is reached: by its ride label, or earlier where somebody who walked there is ready to board
 abbrev pub arrival : List ℕ → List ℕ → ℕ → ℕ
 arrival ride ready p = min (slice_index ride p) (slice_index ready p)

@@ -1,24 +1,25 @@
 //! Departures side by side, each round bounded by the labels of a later departure.
-ghost use Rattle.std.specs.Prelude.{◌≡◌, ◌≢◌, ℕ, ◌+◌, ◌<◌, ◌≤◌, length, replicate, slice_get, slice_index, Some, true};
-ghost use Rattle.std.specs.Prelude.{All, IfOk, IsTrue};
+ghost use Rattle.std.specs.Prelude.{◌≡◌, ◌≢◌, ℕ, ◌+◌, ◌<◌, ◌≤◌, length, replicate, slice_get, slice_index, Some};
+ghost use Rattle.std.specs.Prelude.{All, IfOk, IsTrue, true};
 ghost use Rattle.timetable.specs.RoundSteps.{Lowers};
 ghost use Rattle.timetable.specs.declared.least.TheConstants.{NEVER as NEVER_VALUE};
 ghost use Rattle.trip_lanes.specs.Cut.{cut};
 ghost use Rattle.trip_lanes.specs.Lane.{lane, labels_in};
 ghost use Rattle.rounds.specs.Cut.{cut_net};
 ghost use Rattle.rounds.specs.CappedLabels.{LaneStateTo};
-ghost use Rattle.rounds.specs.State.{Bounds};
+ghost use Rattle.rounds.specs.State.{Bounds, IsUnbounded};
 ghost use Rattle.rounds.specs.Query.{IsAsked, IsWorkspaceFor};
 ghost use Rattle.rounds.specs.Batches.{IsBatch, AreKept, start_at, bounds_in};
 ghost use Rattle.rounds.specs.Rounds.{AreAfter, AreKeptAfter};
 ghost use Rattle.rounds.specs.declared.window.TheConstants.{MOST_RIDES};
 
+use crate::due::note_falls;
 use crate::query::Query;
 use crate::scan::{Round, clear, scan_lines};
 use crate::workspace::Workspace;
 use std::alloc::{AllocError, Global};
 use timetable::NEVER;
-use trip_lanes::{LaneLabels, ReadyLabels, falls_of, lower_row, transfer_marked, walk_marked};
+use trip_lanes::{LaneLabels, ReadyLabels, lower_row, transfer_marked, walk_marked};
 
 /// The labels of one departure after so many rides, in seconds on the axis, or `NEVER`: they bound those of the
 /// departures before it.
@@ -69,7 +70,7 @@ fn lower_one<R: LaneLabels>(labels: &mut [R], stop: usize, bound: u32, base: u32
 }
 
 /// Lowers each label to the bound of its stop.
-fn lower_to<R: LaneLabels>(labels: &mut [R], bound: &[u32], base: u32)
+fn lower_each<R: LaneLabels>(labels: &mut [R], bound: &[u32], base: u32)
     requires same { length bound.now ≡ length labels.old }
     requires base { base + R.NEVER ≤ NEVER_VALUE }
     requires fits { (l p : ℕ) → l < R.LANES → slice_index (lane l (labels_in R.labels labels.old)) p ≤ R.NEVER }
@@ -81,18 +82,40 @@ fn lower_to<R: LaneLabels>(labels: &mut [R], bound: &[u32], base: u32)
     }
 }
 
-/// Lowers each label to the bound of its stop; no fall is noted any more.
-fn bound_ready<R: LaneLabels>(labels: &mut [R], fallen: &mut [bool], bound: &[u32], base: u32)
+/// Lowers each label to the bound of its stop. If the later departure is `NEVER`, nothing bounds the labels: they stay
+/// as they are, and no stop is visited.
+fn lower_to<R: LaneLabels>(labels: &mut [R], bound: &[u32], base: u32, later: u32)
+    requires same { length bound.now ≡ length labels.old }
+    requires base { base + R.NEVER ≤ NEVER_VALUE }
+    requires fits { (l p : ℕ) → l < R.LANES → slice_index (lane l (labels_in R.labels labels.old)) p ≤ R.NEVER }
+    requires bounded { later ≡ NEVER_VALUE → IsUnbounded R.NEVER (bounds_in base R.NEVER bound.now) }
+    ensures { (l : ℕ) → l < R.LANES → Lowers (Bounds (bounds_in base R.NEVER bound.now))
+        (lane l (labels_in R.labels labels.old)) (lane l (labels_in R.labels labels.new)) }
+{
+    if later != NEVER {
+        lower_each(labels, bound, base);
+    }
+}
+
+/// Lowers each label to the bound of its stop, unless the later departure is `NEVER`; no fall is noted any more.
+fn bound_ready<R: LaneLabels>(
+    labels: &mut [R],
+    fallen: &mut [bool],
+    bound: &[u32],
+    base: u32,
+    later: u32,
+)
     requires bound { length bound.now ≡ length labels.old }
     requires base { base + R.NEVER ≤ NEVER_VALUE }
     requires fits { (l p : ℕ) → l < R.LANES → slice_index (lane l (labels_in R.labels labels.old)) p ≤ R.NEVER }
+    requires bounded { later ≡ NEVER_VALUE → IsUnbounded R.NEVER (bounds_in base R.NEVER bound.now) }
     ensures lanes { (l : ℕ) → l < R.LANES → Lowers (Bounds (bounds_in base R.NEVER bound.now))
         (lane l (labels_in R.labels labels.old)) (lane l (labels_in R.labels labels.new)) }
     ensures fallen { length fallen.new ≡ length fallen.old }
     ensures none { (p : ℕ) → slice_get fallen.new p ≢ Some true }
 {
     fallen.fill(false);
-    lower_to(labels, bound, base);
+    lower_to(labels, bound, base, later);
 }
 
 /// Lowers the labels of a stop to these times, and marks that stop alone.
@@ -185,7 +208,13 @@ fn begin<R: LaneLabels>(
     clear(ready);
     set_out(ride, marked, query.origin.0 as usize, batch.departs);
     let none = &mut kept[0];
-    bound_ready(ready, fallen, none.ready.as_slice(), batch.base);
+    bound_ready(
+        ready,
+        fallen,
+        none.ready.as_slice(),
+        batch.base,
+        batch.later,
+    );
     walk_marked(query.network.feet(), ride, marked, ready, fallen, before);
     keep_both(none, ride, ready, batch.base, batch.keeps);
 }
@@ -220,9 +249,9 @@ fn ride_once<R: LaneLabels>(
     let falls = workspace.falls.as_mut_slice();
     let due = workspace.due.as_mut_slice();
     let bound = &mut kept[rides + 1];
-    lower_to(ride, bound.ride.as_slice(), base);
+    lower_to(ride, bound.ride.as_slice(), base, batch.later);
     marked.fill(false);
-    falls_of(before, ready, fallen, falls);
+    note_falls(query.lines, before, ready, fallen, falls, due);
     let labels = ReadyLabels { falls, ready };
     let round = Round {
         trips: query.network.trips(),
@@ -231,7 +260,7 @@ fn ride_once<R: LaneLabels>(
         base,
     };
     scan_lines(round, due, ride, marked);
-    bound_ready(ready, fallen, bound.ready.as_slice(), base);
+    bound_ready(ready, fallen, bound.ready.as_slice(), base, batch.later);
     transfer_marked(query.network.feet(), ride, marked, ready, fallen, before);
     keep_both(bound, ride, ready, base, batch.keeps);
 }

@@ -1,12 +1,14 @@
-//! Which lines a round scans, and from where: those that one may board at a stop where a label fell, each from the
-//! first of such positions on.
-ghost use Rattle.std.specs.Prelude.{◌≡◌, ℕ, ◌<◌, ◌≤◌, length, slice_get, slice_index, Some};
+//! How far labels fell since lines were last scanned, and from where a round scans each line: from the first position
+//! where one may board at a stop whose label fell.
+ghost use Rattle.std.specs.Prelude.{◌≡◌, ℕ, ◌<◌, ◌≤◌, List, length, slice_get, slice_index, Some};
 ghost use Rattle.timetable.specs.FlatLists.{IsIn};
 ghost use Rattle.timetable.specs.declared.limits.TheConstants.{MOST_STOPS};
-ghost use Rattle.trip_lanes.specs.declared.falls.Fall.{Fall as FallValue};
+ghost use Rattle.trip_lanes.specs.Falls.{AreFalls, AreNoted};
+ghost use Rattle.trip_lanes.specs.Lane.{lane, labels_in};
+ghost use Rattle.rounds.specs.Scan.{AreDue};
 
-use timetable::{Lines, StopNo};
-use trip_lanes::Fall;
+use timetable::{Lines, NEVER, StopNo};
+use trip_lanes::{Fall, LaneLabels, UNFALLEN};
 
 /// Notes the lines of a list, each from its position on, unless it is noted from an earlier one on.
 fn note_all(row: &[(u32, u32)], due: &mut [u32])
@@ -29,17 +31,34 @@ fn note(due: &mut [u32], line: usize, position: u32)
     due[line] = due[line].min(position);
 }
 
-/// Notes the lines that one may board at a stop where labels fell, each from the first of such positions on.
-pub(crate) fn note_lines(lines: &Lines, falls: &[Fall], due: &mut [u32])
-    requires stops { length falls.now ≡ length lines.now.boarded }
-    requires few { length falls.now ≤ MOST_STOPS }
+/// Notes how far the labels of each stop in `fallen` fell from those that were kept of it, and from which position on
+/// each line is due that can be boarded there. At the other stops none fell.
+pub(crate) fn note_falls<R: LaneLabels>(
+    lines: &Lines,
+    before: &[R],
+    ready: &[R],
+    fallen: &[bool],
+    falls: &mut [Fall],
+    due: &mut [u32],
+)
+    requires stops { length ready.now ≡ length lines.now.boarded }
+    requires few { length ready.now ≤ MOST_STOPS }
+    requires before { length ready.now ≤ length before.now }
+    requires fallen { length fallen.now ≡ length ready.now }
+    requires falls { length falls.old ≡ length ready.now }
     requires in_range { (p line position : ℕ) → IsIn lines.now.boarded p (line, position) → line < length due.old }
-    ensures { (p line position : ℕ) (f : FallValue) → IsIn lines.now.boarded p (line, position) →
-        slice_get falls.now p ≡ Some f → f.low < f.top → slice_index due.new line ≤ position }
+    ensures falls { (l : ℕ) (was : List ℕ) → l < R.LANES → AreNoted was (lane l (labels_in R.labels ready.now))
+        (lane l (labels_in R.labels before.now)) fallen.now →
+        AreFalls was (lane l (labels_in R.labels ready.now)) falls.new }
+    ensures due { AreDue lines.now.boarded falls.new due.new }
 {
-    for stop in 0..falls.len() {
-        if falls[stop].low < falls[stop].top {
+    due.fill(NEVER);
+    for stop in 0..ready.len() {
+        if fallen[stop] {
+            falls[stop] = ready[stop].fall(before[stop]);
             note_all(lines.boarded_at(StopNo(stop as u32)), due);
+        } else {
+            falls[stop] = UNFALLEN;
         }
     }
 }

@@ -2,13 +2,12 @@
 ghost use Rattle.std.specs.Prelude.{◌≡◌, ℕ, ◌<◌, ◌≤◌, List, length, slice_index, slice_get, Some, replicate, All};
 ghost use Rattle.timetable.specs.RoundSteps.{Lowers, CarriesAny};
 ghost use Rattle.timetable.specs.Lines.{AreLinesOf};
-ghost use Rattle.timetable.specs.declared.limits.TheConstants.{MOST_STOPS, MOST_TRIPS};
+ghost use Rattle.timetable.specs.declared.limits.TheConstants.{MOST_TRIPS};
 ghost use Rattle.trip_lanes.specs.Lane.{lane, labels_in, MarksFallenOf};
 ghost use Rattle.rounds.specs.Cut.{cut_trips};
-ghost use Rattle.rounds.specs.Scan.{CarriesLine, AreSized, AreCarried, AreCarriedOn};
+ghost use Rattle.rounds.specs.Scan.{CarriesLine, AreSized, AreDue, AreCarried, AreCarriedOn};
 
-use crate::due::note_lines;
-use timetable::{Lines, NEVER, NumberedTrips};
+use timetable::{Lines, NumberedTrips};
 use trip_lanes::{LaneLabels, LineView, ReadyLabels, scan_line};
 
 /// Makes all labels NEVER.
@@ -70,26 +69,25 @@ fn scan_trips<R: LaneLabels>(
     scan_line(view, first, round.labels, ride, marked);
 }
 
-/// Carries travellers line by line, along at least the trips that they newly catch.
+/// Carries travellers line by line, from where each line is due, along at least the trips that they newly catch.
 pub(crate) fn scan_lines<R: LaneLabels>(
     round: Round<'_, '_, R>,
-    due: &mut [u32],
+    due: &[u32],
     ride: &mut [R],
     marked: &mut [bool],
 )
     requires lines { AreLinesOf (length ride.old) round.trips.now round.lines.now }
-    requires few_stops { length ride.old ≤ MOST_STOPS }
     requires few_trips { length round.trips.now ≤ MOST_TRIPS }
     requires stops { All (λ t. All (λ e. e.stop.0 < length ride.old) t.events) round.trips.now }
     requires short { All (λ row. length row ≤ R.NEVER) round.lines.now.lines }
     requires labels { AreSized (length ride.old) round.labels }
-    requires due { length due.old ≡ length round.lines.now.lines }
+    requires due { length due.now ≡ length round.lines.now.lines }
+    requires noted { AreDue round.lines.now.boarded round.labels.falls.now due.now }
     requires marked { length marked.old ≡ length ride.old }
     requires fits { (l p : ℕ) → l < R.LANES → slice_index (lane l (labels_in R.labels ride.old)) p ≤ R.NEVER }
     requires before { (l : ℕ) → l < R.LANES → AreCarried (cut_trips round.base R.NEVER round.trips.now)
         (lane l (labels_in R.labels round.labels.ready.now)) round.labels.falls.now
         (lane l (labels_in R.labels ride.old)) }
-    ensures due { length due.new ≡ length due.old }
     ensures lanes { (l : ℕ) → l < R.LANES → Lowers
         (CarriesAny (lane l (labels_in R.labels round.entry.labels.ready.now))
         (cut_trips round.entry.base R.NEVER round.entry.trips.now)) (lane l (labels_in R.labels ride.old))
@@ -97,8 +95,6 @@ pub(crate) fn scan_lines<R: LaneLabels>(
     ensures marks { MarksFallenOf R.LANES (labels_in R.labels ride.old) (labels_in R.labels ride.new) marked.old
         marked.new }
 {
-    due.fill(NEVER);
-    note_lines(round.lines, round.labels.falls, due);
     for i in 0..round.lines.count() {
         let first = due[i] as usize;
         if first < round.lines.calls_of(i as u32).len() {

@@ -30,7 +30,7 @@ mod plain;
 mod ranks;
 mod wide;
 
-pub use falls::{Fall, UNFALLEN, falls_of};
+pub use falls::{Fall, UNFALLEN};
 pub use kernels::lower_row;
 pub use lane_labels::LaneLabels;
 pub use lanes::{LANES, Lanes, lanes_are_sixteen};

@@ -16,6 +16,7 @@ use Rattle.rounds.proofs.CutNetworks.{cut_net_is_net}
 use Rattle.rounds.proofs.LabelTables.{fits_after, fits_of}
 use Rattle.rounds.proofs.LabelStates.{bounded_start}
 use Rattle.rounds.proofs.LaneRounds.{start_walks, start_settled}
+use Rattle.rounds.proofs.UnboundedBatches.{none_bound}
 use Rattle.rounds.proofs.bounded.begin.Goals as goal
 
 -- a lane of rows that were cleared, of which it is known how many there are
@@ -42,6 +43,18 @@ bound_ready-requires-clause-bound g c =
       ap length c.as_mut_slice-ready.ensures.value,
       c.requires.workspace.ready,
     )
+
+pub bound_ready-requires-clause-bounded : goal.bound_ready-requires-clause-bounded
+bound_ready-requires-clause-bounded g c none =
+    let never = g.R.LaneLabels.NEVER in
+    let base = c.args.batch.base in
+    let x = get_or c.args.kept.now 0 c.index-kept-0.result in
+    let bound = c.requires.bounds 0 x (omega arith)
+    (slice_get-get_or c.args.kept.now 0 c.index-kept-0.result (omega (arith, c.requires.many))) in
+    rw c.as_slice.ensures.value ((none_bound c.args.query.network.now c.known.ensures base never
+    c.args.query.origin.0 c.args.batch.later 0 (bounds_in base never x.ride.items)
+    (bounds_in base never x.ready.items) (omega (arith, g.met.R.LaneLabels.room)) c.requires.batch.base
+    none bound).1)
 
 pub bound_ready-requires-clause-fits : goal.bound_ready-requires-clause-fits
 bound_ready-requires-clause-fits g c l p h =

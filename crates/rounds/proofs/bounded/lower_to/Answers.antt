@@ -1,28 +1,17 @@
-use Rattle.std.proofs.Common.{◌≤◌, length, slice_index, refl, arith}
+use Rattle.std.proofs.Common.{slice_index, arith}
 use Rattle.std.proofs.lemmas.List.{length-map}
-use Rattle.timetable.proofs.LowersCompose.{lowers_alike_in}
+use Rattle.trip_lanes.specs.Cut.{cut}
 use Rattle.trip_lanes.specs.Lane.{lane, labels_in}
-use Rattle.rounds.proofs.BoundedStops.{one_more_kept}
-use Rattle.rounds.proofs.LabelTables.{fits_after}
+use Rattle.rounds.specs.Batches.{bounds_in}
+use Rattle.rounds.proofs.UnboundedBatches.{unbounded_stay}
 use Rattle.rounds.proofs.bounded.lower_to.Goals as goal
 
-pub lower_one-requires-clause-fits : goal.lower_one-requires-clause-fits
-lower_one-requires-clause-fits g c l h =
-    let rows = labels_in g.R.LaneLabels.labels in
-    fits_after g.R.LaneLabels.NEVER (lane l (rows c.args.labels.now)) (lane l (rows c.loop-stop.labels))
-    (λ p. c.requires.fits l p h) (c.loop-stop.invariant l h) c.loop-stop.stop
-
-pub loop-stop-preserved : goal.loop-stop-preserved
-loop-stop-preserved g c l h =
-    let kept = c.args.bound.now in
-    let stop = c.loop-stop.stop in
-    one_more_kept c.args.base g.R.LaneLabels.NEVER kept stop (slice_index kept stop) (omega arith) refl
-    (c.loop-stop.invariant l h) (c.lower_one.ensures l h)
-
-pub returns : goal.returns
-returns g c l h =
-    let rows = c.args.labels.now in
-    let long = length-map (labels_in g.R.LaneLabels.labels rows) (λ w. slice_index w l) in
-    let rows_long = length-map rows g.R.LaneLabels.labels in
-    let end : length rows ≤ c.loop-stop.stop = omega arith in
-    lowers_alike_in (λ p x m o. o.1) (λ p x m o. (omega arith, o)) (c.loop-stop.invariant l h)
+pub returns-else-later-ne-NEVER : goal.returns-else-later-ne-NEVER
+returns-else-later-ne-NEVER g c l h =
+    let never = g.R.LaneLabels.NEVER in
+    let rows = labels_in g.R.LaneLabels.labels c.args.labels.now in
+    let long = length-map rows (λ w. slice_index w l) in
+    let rows_long = length-map c.args.labels.now g.R.LaneLabels.labels in
+    let bounds_long = length-map c.args.bound.now (cut c.args.base never) in
+    unbounded_stay never (bounds_in c.args.base never c.args.bound.now) (lane l rows) (omega arith)
+    (λ p. c.requires.fits l p h) (c.requires.bounded (omega arith))

@@ -21,6 +21,8 @@ use Rattle.rounds.proofs.CutNetworks.{cut_net_is_net}
 use Rattle.rounds.proofs.LabelTables.{fits_after}
 use Rattle.rounds.proofs.LabelStates.{bounded_next}
 use Rattle.rounds.proofs.LaneRounds.{round_settled, round_walks}
+use Rattle.rounds.proofs.LinesByRank.{boarded_line}
+use Rattle.rounds.proofs.UnboundedBatches.{none_bound}
 use Rattle.rounds.proofs.bounded.ride_once.Goals as goal
 
 -- what the labels of a lane say, of lists by other names
@@ -63,6 +65,34 @@ lower_to-requires-clause-fits g c l p h =
     (state_of l g.R.LaneLabels.labels c.as_mut_slice-ride.ensures.value c.as_mut_slice-ready.ensures.value
     (c.requires.labels.states l h)).ride_fits p
 
+pub lower_to-requires-clause-bounded : goal.lower_to-requires-clause-bounded
+lower_to-requires-clause-bounded g c none =
+    let never = g.R.LaneLabels.NEVER in
+    let base = c.args.batch.base in
+    let k = c.args.rides in
+    let x = get_or c.args.kept.now (k + 1) c.index-kept-rides.result in
+    let bound = c.requires.kept.bounds (k + 1) x (omega arith) (omega arith)
+    (slice_get-get_or c.args.kept.now (k + 1) c.index-kept-rides.result (omega (arith, c.requires.kept.many))) in
+    rw c.as_slice.ensures.value ((none_bound c.args.query.network.now c.known.ensures base never
+    c.args.query.origin.0 c.args.batch.later (k + 1) (bounds_in base never x.ride.items)
+    (bounds_in base never x.ready.items) (omega (arith, g.met.R.LaneLabels.room)) c.requires.batch.base
+    none bound).0)
+
+pub note_falls-requires-clause-stops : goal.note_falls-requires-clause-stops
+note_falls-requires-clause-stops g c =
+    omega (
+      arith,
+      ap length c.as_mut_slice-ready.ensures.value,
+      c.requires.workspace.ready,
+      c.requires.asked.lines.boarded.size,
+    )
+
+pub note_falls-requires-clause-in_range : goal.note_falls-requires-clause-in_range
+note_falls-requires-clause-in_range g c p line position b =
+    let r = boarded_line c.args.query.network.now.stops c.args.query.network.now.trips c.args.query.lines.now
+    c.requires.asked.lines p line position b in
+    omega (arith, r, ap length c.as_mut_slice-due.ensures.value, c.requires.workspace.due)
+
 pub scan_lines-requires-clause-fits : goal.scan_lines-requires-clause-fits
 scan_lines-requires-clause-fits g c l p h =
     let rows = labels_in g.R.LaneLabels.labels in
@@ -82,7 +112,7 @@ scan_lines-requires-clause-before g c l h =
     (c.requires.labels.settled l h) in
     record {
       before = settled.was;
-      fell = c.falls_of.ensures.falls l settled.was h settled.noted;
+      fell = c.note_falls.ensures.falls l settled.was h settled.noted;
       settled = λ p y within o. settled.settled (bounds_in c.args.batch.base g.R.LaneLabels.NEVER x.ride.items)
           (bounds_in c.args.batch.base g.R.LaneLabels.NEVER x.ready.items) (lane l (rows c.lower_to.new.labels)) o.trip
           o.t bound (rw c.as_slice.ensures.value at (c.lower_to.ensures l h)) (rw c.trips.ensures at o.runs) p y within
@@ -107,6 +137,19 @@ bound_ready-requires-clause-bound g c =
       ap length c.as_slice-2.ensures.value,
       (ap length c.as_mut_slice-ready.ensures.value ∙ c.requires.workspace.ready),
     )
+
+pub bound_ready-requires-clause-bounded : goal.bound_ready-requires-clause-bounded
+bound_ready-requires-clause-bounded g c none =
+    let never = g.R.LaneLabels.NEVER in
+    let base = c.args.batch.base in
+    let k = c.args.rides in
+    let x = get_or c.args.kept.now (k + 1) c.index-kept-rides.result in
+    let bound = c.requires.kept.bounds (k + 1) x (omega arith) (omega arith)
+    (slice_get-get_or c.args.kept.now (k + 1) c.index-kept-rides.result (omega (arith, c.requires.kept.many))) in
+    rw c.as_slice-2.ensures.value ((none_bound c.args.query.network.now c.known.ensures base never
+    c.args.query.origin.0 c.args.batch.later (k + 1) (bounds_in base never x.ride.items)
+    (bounds_in base never x.ready.items) (omega (arith, g.met.R.LaneLabels.room)) c.requires.batch.base
+    none bound).1)
 
 pub bound_ready-requires-clause-fits : goal.bound_ready-requires-clause-fits
 bound_ready-requires-clause-fits g c l p h =
@@ -229,8 +272,8 @@ returns-clause-workspace g c =
     ∙ (ap length c.as_mut_slice-ready.ensures.value ∙ c.requires.workspace.ready)) in
     let before : length c.transfer_marked.new.before ≡ stops + 1 =
     c.transfer_marked.auto.before ∙ (ap length c.as_mut_slice-before.ensures.value ∙ c.requires.workspace.before) in
-    let falls : length c.falls_of.new.falls ≡ stops =
-    c.falls_of.auto.falls ∙ (ap length c.as_mut_slice-falls.ensures.value ∙ c.requires.workspace.falls) in
+    let falls : length c.note_falls.new.falls ≡ stops =
+    c.note_falls.auto.falls ∙ (ap length c.as_mut_slice-falls.ensures.value ∙ c.requires.workspace.falls) in
     let marked : length c.scan_lines.new.marked ≡ stops =
     c.scan_lines.auto.marked ∙ (c.fill.ensures.len
     ∙ (ap length c.as_mut_slice-marked.ensures.value ∙ c.requires.workspace.marked)) in
@@ -238,8 +281,8 @@ returns-clause-workspace g c =
     c.transfer_marked.auto.fallen ∙ (c.bound_ready.auto.fallen
     ∙ (ap length c.as_mut_slice-fallen.ensures.value ∙ c.requires.workspace.fallen)) in
     let lines = length c.args.query.lines.now.lines in
-    let due : length c.scan_lines.new.due ≡ lines =
-    c.scan_lines.ensures.due ∙ (ap length c.as_mut_slice-due.ensures.value ∙ c.requires.workspace.due) in
+    let due : length c.note_falls.new.due ≡ lines =
+    c.note_falls.auto.due ∙ (ap length c.as_mut_slice-due.ensures.value ∙ c.requires.workspace.due) in
     record {
       ride = written_long t.ride c.scan_lines.new.ride c.requires.workspace.ride
           c.as_mut_slice-ride.ensures.value c.as_mut_slice-ride.ensures.len ride;
@@ -247,13 +290,13 @@ returns-clause-workspace g c =
           c.as_mut_slice-ready.ensures.value c.as_mut_slice-ready.ensures.len ready;
       before = written_long t.ready.before c.transfer_marked.new.before c.requires.workspace.before
           c.as_mut_slice-before.ensures.value c.as_mut_slice-before.ensures.len before;
-      falls = written_long t.falls c.falls_of.new.falls c.requires.workspace.falls
+      falls = written_long t.falls c.note_falls.new.falls c.requires.workspace.falls
           c.as_mut_slice-falls.ensures.value c.as_mut_slice-falls.ensures.len falls;
       marked = written_long t.marked c.scan_lines.new.marked c.requires.workspace.marked
           c.as_mut_slice-marked.ensures.value c.as_mut_slice-marked.ensures.len marked;
       fallen = written_long t.ready.fallen c.transfer_marked.new.fallen c.requires.workspace.fallen
           c.as_mut_slice-fallen.ensures.value c.as_mut_slice-fallen.ensures.len fallen;
-      due = written_long t.due c.scan_lines.new.due c.requires.workspace.due
+      due = written_long t.due c.note_falls.new.due c.requires.workspace.due
           c.as_mut_slice-due.ensures.value c.as_mut_slice-due.ensures.len due;
     }
 
@@ -269,8 +312,8 @@ returns-clause-labels g c =
     ∙ (ap length c.as_mut_slice-ready.ensures.value ∙ c.requires.workspace.ready)) in
     let before : length c.transfer_marked.new.before ≡ stops + 1 =
     c.transfer_marked.auto.before ∙ (ap length c.as_mut_slice-before.ensures.value ∙ c.requires.workspace.before) in
-    let falls : length c.falls_of.new.falls ≡ stops =
-    c.falls_of.auto.falls ∙ (ap length c.as_mut_slice-falls.ensures.value ∙ c.requires.workspace.falls) in
+    let falls : length c.note_falls.new.falls ≡ stops =
+    c.note_falls.auto.falls ∙ (ap length c.as_mut_slice-falls.ensures.value ∙ c.requires.workspace.falls) in
     let marked : length c.scan_lines.new.marked ≡ stops =
     c.scan_lines.auto.marked ∙ (c.fill.ensures.len
     ∙ (ap length c.as_mut_slice-marked.ensures.value ∙ c.requires.workspace.marked)) in

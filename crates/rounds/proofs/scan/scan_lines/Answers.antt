@@ -9,14 +9,8 @@ use Rattle.rounds.specs.Cut.{cut_trips}
 use Rattle.rounds.proofs.CutNetworks.{cut_lines, cut_boarded, cut_at_got}
 use Rattle.rounds.proofs.LineByLine.{one_line, line_settled}
 use Rattle.rounds.proofs.LinesSuffice.{lines_carry, none_catches, catches_from}
-use Rattle.rounds.proofs.LinesByRank.{boarded_line}
 use Rattle.rounds.proofs.scan.scan_lines.Goals as goal
 use Rattle.rounds.proofs.scan.scan_lines.Goals.{then-first-calls_of, else-first-calls_of}
-
-pub note_lines-requires-clause-in_range : goal.note_lines-requires-clause-in_range
-note_lines-requires-clause-in_range g c p line position b = let r =
-    boarded_line (length c.args.ride.now) c.args.round.trips.now c.args.round.lines.now c.requires.lines p line position
-    b in omega (arith, c.requires.due)
 
 pub scan_trips-requires-clause-fits : goal.scan_trips-requires-clause-fits
 scan_trips-requires-clause-fits g c l p h =
@@ -45,7 +39,7 @@ scan_trips-requires-clause-before g c row at l h =
           (cut_lines base cap trips lists.lines are.lines) c.loop-i.i row at was.before
           (lane l (labels_in g.R.LaneLabels.labels c.args.round.labels.ready.now))
           stops lists.boarded (cut_boarded base cap stops trips lists.lines lists.boarded are.boarded)
-          c.args.round.labels.falls.now c.note_lines.new.due (omega arith) was.fell c.note_lines.ensures r j caught;
+          c.args.round.labels.falls.now c.args.due.now (omega arith) was.fell c.requires.noted r j caught;
       settled = line_settled was.before (cut_trips base cap trips) row old now lower.same_length
           (lane_falls old now lower) was.settled;
     }
@@ -91,8 +85,8 @@ loop-i-preserved g c =
             let outside : (r j : ℕ) → IsCaught before ready (rows_of_line trips line) r j → ⊥ = λ r j caught.
             let low = catches_from trips lists.lines cut_are x line at_x before ready stops lists.boarded
             (cut_boarded base cap stops c.args.round.trips.now lists.lines lists.boarded are.boarded)
-            c.args.round.labels.falls.now c.note_lines.new.due (omega arith) was.fell
-            c.note_lines.ensures r j caught in
+            c.args.round.labels.falls.now c.args.due.now (omega arith) was.fell
+            c.requires.noted r j caught in
             let own = cut_at_got base cap c.args.round.trips.now line r j caught.on caught.from in
             let inside = slice_get_within own.1.row j own.0 own.1.event in
             let long = view.positions r own.1.row own.1.trip in

@@ -1,13 +1,15 @@
-use Rattle.std.proofs.Common.{rules, true, false, ◌≡◌, ◌<◌, ℕ, inl, inr, List, length, get_or, set, slice_get}
+use Rattle.std.proofs.Common.{true, false, ◌≡◌, ◌<◌, ℕ, inl, inr, List, length, get_or, set, slice_get}
 use Rattle.std.proofs.Common.{slice_index, Some, arith, sym, ◌∙◌, ap, subst}
 use Rattle.std.proofs.lemmas.Bool.{cases_lt, cases_Bool, false≢true}
 use Rattle.std.proofs.lemmas.List.{get_or-set_same, get_or-set_other, length-set}
-use Rattle.std.proofs.lemmas.Option.{slice_get_within, get_or_from_slice_get, slice_get-get_or}
+use Rattle.std.proofs.lemmas.Option.{same_Some, slice_get_within, get_or_from_slice_get, slice_get-get_or}
+use Rattle.timetable.specs.FlatLists.{IsIn}
+use Rattle.timetable.specs.declared.least.TheConstants.{NEVER}
 use Rattle.trip_lanes.proofs.LoweredStop.{row_lane}
 use Rattle.trip_lanes.specs.Falls.{HasFallen}
 use Rattle.trip_lanes.specs.declared.falls.Fall.{Fall}
-use Rattle.trip_lanes.proofs.falls.falls_of.Goals as goal
-use Rattle.trip_lanes.proofs.falls.falls_of.Goals.{then-fallen-stop, else-fallen-stop}
+use Rattle.rounds.proofs.due.note_falls.Goals as goal
+use Rattle.rounds.proofs.due.note_falls.Goals.{then-fallen-stop, else-fallen-stop}
 
 -- what was written of one stop leaves the others
 stays : (falls : List Fall) (s p : ℕ) (g f : Fall) → p < s → slice_get (set falls s g) p ≡ Some f →
@@ -27,7 +29,6 @@ loop-stop-preserved g c =
     let labels = g.R.LaneLabels.labels in
     let within : s < length falls = omega arith in
     record {
-      same = elim c.if-fallen-stop.branch [ then-fallen-stop w ↦ search rules | else-fallen-stop w ↦ search rules ];
       falls = λ l p f h below at on. elim c.if-fallen-stop.branch [
         | then-fallen-stop w ↦
             let at' = rw w.falls-is at at in
@@ -57,6 +58,32 @@ loop-stop-preserved g c =
               ∙ get_or_from_slice_get c.args.fallen.now s true false (rw e at on)))
         ]
       ];
+      due = λ p line position f below b at fell. elim c.if-fallen-stop.branch [
+        | then-fallen-stop w ↦ elim (cases_lt p s) [
+          | inl lt ↦
+              let before = stays falls s p w.fall.result f lt (rw w.falls-is at at) in
+              let already = c.loop-stop.invariant.due p line position f lt b before fell in
+              rw w.due-is (let low = w.note_all.ensures.earlier line in omega (arith, already))
+          | inr ge ↦
+              let e : p ≡ s = omega arith in
+              let b' : IsIn c.args.lines.now.boarded s (line, position) = rw e at b in
+              let row : b'.0 ≡ w.boarded_at.result.now =
+              same_Some b'.0 w.boarded_at.result.now (sym b'.2 ∙ w.boarded_at.ensures) in
+              rw w.due-is (w.note_all.ensures.new b'.1 line position (rw row at b'.3))
+        ]
+        | else-fallen-stop w ↦ elim (cases_lt p s) [
+          | inl lt ↦
+              let before = stays falls s p _ f lt (rw w.falls-is at at) in
+              rw w.due-is (c.loop-stop.invariant.due p line position f lt b before fell)
+          | inr ge ↦
+              let e : p ≡ s = omega arith in
+              let none : Fall = record { low = NEVER; high = 0; top = 0 } in
+              let at' : slice_get (set falls s none) s ≡ Some f = rw (w.falls-is, e) at at in
+              let here : none ≡ f = sym (get_or-set_same falls s none f within)
+              ∙ get_or_from_slice_get (set falls s none) s f f at' in
+              absurd (let top = ap (λ (g : Fall). g.top) here in omega (arith, top))
+        ]
+      ];
     }
 
 pub returns-clause-falls : goal.returns-clause-falls
@@ -80,3 +107,13 @@ returns-clause-falls g c l was h are =
                 }
           ];
     }
+
+pub note_all-requires : goal.note_all-requires
+note_all-requires g c k line position at =
+    let h = c.requires.in_range c.loop-stop.stop line position (c.boarded_at.result.now, k, c.boarded_at.ensures, at) in
+    omega arith
+
+pub returns-clause-due : goal.returns-clause-due
+returns-clause-due g c p line position f b at fell =
+    let w = slice_get_within c.loop-stop.falls p f at in
+    c.loop-stop.invariant.due p line position f (omega arith) b at fell
