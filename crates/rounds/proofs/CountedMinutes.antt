@@ -122,8 +122,8 @@ module _ (q : Query) (ok : IsNet q.network.now) (asked : IsAsked q) (positions w
                 | inr past ↦ absurd (omega (arith, ge, past, l))
               ]
         ] in
-        subst (λ (x : ℕ). IsLeastOrNever (IsDuration q.network.now q.origin.0 (departure q.window x) q.rides p) duration)
-        same (is_told.least duration (record {
+        subst (λ (x : ℕ). IsLeastOrNever (IsDuration q.network.now q.origin.0 (departure q.window x) q.rides p)
+        duration) same (is_told.least duration (record {
           never_so = is.never_so;
           counted = λ live. let e = is.counted live in omega (arith, e, same);
         }))

@@ -121,8 +121,8 @@ impl Search {
         Ok(labels)
     }
 
-    /// The least durations of all minutes of a window by narrow labels; none where these aren't tried, or can't tell all
-    /// arrivals.
+    /// The least durations of all minutes of a window by narrow labels; none where these aren't tried, or can't tell
+    /// all arrivals.
     fn by_narrow(
         &mut self,
         alloc: Global,

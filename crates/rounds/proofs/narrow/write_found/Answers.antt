@@ -20,7 +20,10 @@ other_place w s from lanes p j few within apart = elim (cases_lt p s) [
     | inr le ↦
         let same : p ≡ s = omega (arith, ge, le) in
         let place = ap (λ (x : ℕ). x * w) same in
-        elim (apart same) [ inl before ↦ inl (omega (arith, before, place)) | inr after ↦ inr (omega (arith, after, place)) ]
+        elim (apart same) [
+          | inl before ↦ inl (omega (arith, before, place))
+          | inr after ↦ inr (omega (arith, after, place))
+        ]
   ]
 ]
 

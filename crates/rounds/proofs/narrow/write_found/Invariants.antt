@@ -10,7 +10,8 @@ invariant-loop-stop g v =
       same : length v.found ≡ length v.initial.found;
       written : (l p : ℕ) → l < g.R.LaneLabels.LANES → p < v.stop →
           narrow_at v.width v.found p (v.from + l)
-          ≡ arrival (lane l (labels_in g.R.LaneLabels.labels v.ride)) (lane l (labels_in g.R.LaneLabels.labels v.ready)) p;
+          ≡ arrival (lane l (labels_in g.R.LaneLabels.labels v.ride))
+          (lane l (labels_in g.R.LaneLabels.labels v.ready)) p;
       kept : (p j : ℕ) → j < v.width → (j < v.from) ⊎ (v.from + g.R.LaneLabels.LANES ≤ j) →
           narrow_at v.width v.found p j ≡ narrow_at v.width v.initial.found p j;
     }

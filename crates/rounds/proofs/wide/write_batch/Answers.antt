@@ -13,7 +13,8 @@ use Rattle.rounds.proofs.wide.write_batch.Goals as goal
 
 -- the lower label of a stop, of rows that are lists
 low_of : (ride ready : List (List ℕ)) (s l : ℕ) (low : List ℕ) → s < length ride → s < length ready →
-    ((k : ℕ) → k < 16 → slice_index low k ≡ min (slice_index (get_or ride s []) k) (slice_index (get_or ready s []) k)) →
+    ((k : ℕ) → k < 16 → slice_index low k
+    ≡ min (slice_index (get_or ride s []) k) (slice_index (get_or ready s []) k)) →
     l < 16 → slice_index low l ≡ arrival (lane l (labels_in (λ (row : List ℕ). row) ride))
     (lane l (labels_in (λ (row : List ℕ). row) ready)) s
 low_of ride ready s l low in_ride in_ready is h =
