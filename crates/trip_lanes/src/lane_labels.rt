@@ -1,13 +1,12 @@
 //! Lane labels: those of one stop for departures side by side, in one width of number.
-ghost use Rattle.std.specs.Prelude.{◌≡◌, ◌≢◌, ℕ, ◌+◌, ◌*◌, ◌/◌, ◌<◌, ◌≤◌, List, min, slice_index, IsTrue, ◌↔◌};
+ghost use Rattle.std.specs.Prelude.{◌≡◌, ◌≢◌, ℕ, ◌+◌, ◌*◌, ◌<◌, ◌≤◌, ◌⊎◌, List, length, min, slice_index, IsTrue, ◌↔◌};
 ghost use Rattle.trip_lanes.specs.Lane.{SomeFellOf};
 ghost use Rattle.trip_lanes.specs.Ranks.{IsSpanOf, Rides};
 ghost use Rattle.trip_lanes.specs.Falls.{HasFallen};
-ghost use Rattle.trip_lanes.specs.Since.{IsSinceTo, IsMinutely};
+ghost use Rattle.trip_lanes.specs.Since.{IsMinutely};
 ghost use Rattle.trip_lanes.specs.declared.lanes.TheConstants.{LANES as SIXTEEN};
 
 use crate::falls::Fall;
-use crate::lanes::Lanes;
 use crate::ranks::Span;
 
 /// The labels of one stop, one for each of some departures. A search is written once over this trait, and runs over
@@ -87,24 +86,8 @@ pub trait LaneLabels: Copy + Drop {
         ensures { (l : ℕ) → l < LANES → HasFallen (slice_index (labels before) l) (slice_index (labels self) l)
             result };
 
-    /// Sixteen of the labels, from sixteen times a part on.
-    fn sixteen(self, part: usize) -> Lanes
-        requires { SIXTEEN * part + SIXTEEN ≤ LANES }
-        ensures { (l : ℕ) → l < SIXTEEN → slice_index result l ≡ slice_index (labels self) (SIXTEEN * part + l) };
-
-    /// The same sixteen, each counted from a departure.
-    fn since(self, departs: Lanes, part: usize) -> Lanes
-        requires part { SIXTEEN * part + SIXTEEN ≤ LANES }
-        requires fits { (l : ℕ) → l < LANES → slice_index (labels self) l ≤ NEVER }
-        requires later { (l : ℕ) → l < SIXTEEN → slice_index (labels self) (SIXTEEN * part + l) ≢ NEVER →
-            slice_index departs l ≤ slice_index (labels self) (SIXTEEN * part + l) }
-        ensures { (l : ℕ) → l < SIXTEEN → IsSinceTo NEVER (slice_index departs l)
-            (slice_index (labels self) (SIXTEEN * part + l)) (slice_index result l) };
-
-    /// The lanes are some, in parts of sixteen, and few enough for one word of a bit each.
+    /// The lanes are at least sixteen, and few enough for one word of a bit each.
     ghost some: { SIXTEEN ≤ LANES };
-
-    ghost sixteens: { SIXTEEN * (LANES / SIXTEEN) ≡ LANES };
 
     ghost few: { LANES ≤ 64 };
 
@@ -113,4 +96,19 @@ pub trait LaneLabels: Copy + Drop {
 
     /// Labels are of 32 bits at most.
     ghost never_fits: { NEVER ≤ 4294967295 };
+}
+
+/// Labels of 16 bits.
+pub trait NarrowLabels: LaneLabels {
+    /// Puts the labels among others, from a place on.
+    fn put(self, found: &mut [u16], at: usize)
+        requires { at + Self.LANES ≤ length found.old }
+        ensures same { length found.new ≡ length found.old }
+        ensures put { (l : ℕ) → l < Self.LANES →
+            slice_index found.new (at + l) ≡ slice_index (Self.labels self) l }
+        ensures kept { (i : ℕ) → (i < at) ⊎ (at + Self.LANES ≤ i) →
+            slice_index found.new i ≡ slice_index found.old i };
+
+    /// The greatest label is that of 16 bits.
+    ghost narrow: { Self.NEVER ≡ 65535 };
 }

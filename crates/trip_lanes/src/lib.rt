@@ -32,10 +32,11 @@ mod wide;
 
 pub use falls::{Fall, UNFALLEN};
 pub use kernels::lower_row;
-pub use lane_labels::LaneLabels;
+pub use lane_labels::{LaneLabels, NarrowLabels};
 pub use lanes::{LANES, Lanes, lanes_are_sixteen};
 pub use line_scan::{LineView, ReadyLabels, scan_line};
 pub use marked_walks::{transfer_marked, walk_marked};
 pub use narrow::Narrow;
 pub use plain::{carry_trip, lower_all, transfer, walk};
 pub use ranks::Span;
+pub use wide::since;

@@ -4,12 +4,10 @@ ghost use Rattle.std.proofs.lemmas.Bool.{leb-true};
 ghost use Rattle.trip_lanes.specs.declared.lanes.TheConstants.{LANES as SIXTEEN};
 
 use crate::falls::Fall;
-use crate::lane_labels::LaneLabels;
-use crate::lanes::{LANES, Lanes};
+use crate::lane_labels::{LaneLabels, NarrowLabels};
 use crate::ranks::Span;
 use std::simd::prelude::*;
-use std::simd::{u16x8, u16x16, u16x32, u32x16};
-use timetable::NEVER;
+use std::simd::{u16x8, u16x32};
 
 /// How many narrow labels stand side by side: they take as much room as sixteen wide ones.
 const NARROW_LANES: usize = 32;
@@ -116,30 +114,22 @@ impl LaneLabels for Narrow {
         }
     }
 
-    #[inline(always)]
-    fn sixteen(self, part: usize) -> Lanes {
-        let from = LANES * part;
-        let labels: u32x16 = u16x16::from_slice(&self[from..from + LANES]).cast();
-        labels.to_array()
-    }
-
-    fn since(self, departs: Lanes, part: usize) -> Lanes {
-        let times = u32x16::from_array(self.sixteen(part));
-        times
-            .simd_eq(u32x16::splat(FAR as u32))
-            .select(u32x16::splat(NEVER), times - u32x16::from_array(departs))
-            .to_array()
-    }
-
     ghost some = { leb-true SIXTEEN 32 refl };
-
-    ghost sixteens = { refl };
 
     ghost few = { leb-true 32 64 refl };
 
     ghost room = { leb-true (60 * 32 + 7203) 65535 refl };
 
     ghost never_fits = { leb-true 65535 4294967295 refl };
+}
+
+impl NarrowLabels for Narrow {
+    #[inline(always)]
+    fn put(self, found: &mut [u16], at: usize) {
+        found[at..at + NARROW_LANES].copy_from_slice(&self);
+    }
+
+    ghost narrow = { refl };
 }
 
 /// The ranks of the lanes that ride a trip, and 0 in the others.

@@ -1,6 +1,7 @@
 //! Wide lane labels: sixteen labels of 32 bits, which reach as far as times go.
 ghost use Rattle.std.specs.Prelude.{◌≡◌, ◌≢◌, ℕ, ◌+◌, ◌*◌, ◌<◌, ◌≤◌, ◌⊎◌, refl, slice_index};
 ghost use Rattle.std.proofs.lemmas.Bool.{leb-true};
+ghost use Rattle.trip_lanes.specs.Since.{IsSinceTo};
 ghost use Rattle.trip_lanes.specs.declared.lanes.TheConstants.{LANES as SIXTEEN};
 
 use crate::falls::Fall;
@@ -98,27 +99,29 @@ impl LaneLabels for Lanes {
         }
     }
 
-    fn sixteen(self, _part: usize) -> Lanes {
-        self
-    }
-
-    fn since(self, departs: Lanes, _part: usize) -> Lanes {
-        let times = u32x16::from_array(self);
-        times
-            .simd_eq(u32x16::splat(NEVER))
-            .select(times, times - u32x16::from_array(departs))
-            .to_array()
-    }
-
     ghost some = { leb-true SIXTEEN 16 refl };
-
-    ghost sixteens = { refl };
 
     ghost few = { leb-true 16 64 refl };
 
     ghost room = { leb-true (60 * 16 + 7203) 4294967295 refl };
 
     ghost never_fits = { leb-true 4294967295 4294967295 refl };
+}
+
+/// Wide labels, each counted from a departure.
+#[inline(always)]
+pub fn since(labels: Lanes, departs: Lanes) -> Lanes
+    requires fits { (l : ℕ) → l < SIXTEEN → slice_index labels l ≤ NEVER }
+    requires later { (l : ℕ) → l < SIXTEEN → slice_index labels l ≢ NEVER →
+        slice_index departs l ≤ slice_index labels l }
+    ensures { (l : ℕ) → l < SIXTEEN →
+        IsSinceTo NEVER (slice_index departs l) (slice_index labels l) (slice_index result l) }
+{
+    let times = u32x16::from_array(labels);
+    times
+        .simd_eq(u32x16::splat(NEVER))
+        .select(times, times - u32x16::from_array(departs))
+        .to_array()
 }
 
 /// The ranks of the lanes that ride a trip, and 0 in the others.
