@@ -1,6 +1,6 @@
 use Rattle.std.proofs.Common.{arith}
 use Rattle.trip_lanes.proofs.VectorChoices.{smaller_at}
-use Rattle.trip_lanes.proofs.narrow.lower_eight.Goals as goal
+use Rattle.trip_lanes.proofs.eights.lower_eight.Goals as goal
 use mir.Syntax.{w16}
 
 pub returns : goal.returns

@@ -1,6 +1,6 @@
 use Rattle.std.proofs.Common.{arith}
 use Rattle.trip_lanes.proofs.VectorChoices.{higher_at}
-use Rattle.trip_lanes.proofs.narrow.higher_eight.Goals as goal
+use Rattle.trip_lanes.proofs.eights.higher_eight.Goals as goal
 use mir.Syntax.{w16}
 
 pub returns : goal.returns
