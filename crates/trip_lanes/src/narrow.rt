@@ -124,7 +124,7 @@ impl LaneLabels for Narrow {
 impl NarrowLabels for Narrow {
     #[inline(always)]
     fn put(self, found: &mut [u16], at: usize) {
-        found[at..at + NARROW_LANES].copy_from_slice(&self);
+        u16x32::from_array(self).copy_to_slice(&mut found[at..]);
     }
 
     ghost narrow = { refl };
@@ -132,7 +132,7 @@ impl NarrowLabels for Narrow {
 
 /// The ranks of the lanes that ride a trip, and 0 in the others.
 #[inline(always)]
-fn ridden(run: Narrow) -> Narrow
+pub(crate) fn ridden(run: Narrow) -> Narrow
     ensures ranks { (l : ℕ) → l < 32 → slice_index run l ≢ 65535 → slice_index result l ≡ slice_index run l }
     ensures others { (l : ℕ) → l < 32 → slice_index run l ≡ 65535 → slice_index result l ≡ 0 }
 {
@@ -146,7 +146,7 @@ fn ridden(run: Narrow) -> Narrow
 
 /// The labels of the lanes that fell, and another number in the others.
 #[inline(always)]
-fn of_fallen(before: Narrow, ready: Narrow, labels: Narrow, other: u16) -> Narrow
+pub(crate) fn of_fallen(before: Narrow, ready: Narrow, labels: Narrow, other: u16) -> Narrow
     ensures { (l : ℕ) → l < 32 → slice_index ready l < slice_index before l →
         slice_index result l ≡ slice_index labels l }
 {
@@ -158,7 +158,7 @@ fn of_fallen(before: Narrow, ready: Narrow, labels: Narrow, other: u16) -> Narro
 
 /// The least of the labels that are eight lanes apart.
 #[inline(always)]
-fn least_by_eights(labels: Narrow) -> Eight
+pub(crate) fn least_by_eights(labels: Narrow) -> Eight
     ensures { AreLeast 0 4 labels result }
 {
     let early = lower_eight(eight_of(&labels, 0), eight_of(&labels, 1));
@@ -168,7 +168,7 @@ fn least_by_eights(labels: Narrow) -> Eight
 
 /// The greatest of the labels that are eight lanes apart.
 #[inline(always)]
-fn greatest_by_eights(labels: Narrow) -> Eight
+pub(crate) fn greatest_by_eights(labels: Narrow) -> Eight
     ensures { AreGreatest 0 4 labels result }
 {
     let early = higher_eight(eight_of(&labels, 0), eight_of(&labels, 1));
