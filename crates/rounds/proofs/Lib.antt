@@ -19,7 +19,6 @@ pub mod LaterStarts
 pub mod LineByLine
 pub mod LinesByRank
 pub mod LinesSuffice
-pub mod MinutesInBatches
 pub mod NoneReached
 pub mod PlainForms
 pub mod RoundsReach

@@ -5,10 +5,13 @@ use Rattle.timetable.specs.declared.limits.TheConstants.{END_OF_AXIS, MOST_FOOT_
 use Rattle.timetable.specs.Least.{IsLeastOrNever}
 use Rattle.timetable.specs.Journeys.{IsDuration, IsReached}
 use Rattle.useful_minutes.specs.Counted.{narrow_at}
+use Rattle.trip_lanes.specs.declared.lanes.TheConstants.{LANES}
+use Rattle.rounds.specs.declared.batches.Bounds.{Bounds}
 use Rattle.rounds.specs.declared.bounded.Batch.{Batch}
+use Rattle.rounds.specs.declared.narrow.FoundLabels.{FoundLabels}
 use Rattle.rounds.specs.declared.query.Query.{Query}
 use Rattle.rounds.specs.declared.workspace.Workspace.{Workspace}
-use Rattle.rounds.specs.Batches.{IsSearchedAt, departure_at, start_at}
+use Rattle.rounds.specs.Batches.{AreBounds, IsLaterAt, IsSearchedAt, departure_at, start_at}
 use Rattle.rounds.specs.Searches.{arrival_in}
 
 -- the duration from a departure to the time that a label tells, which counts from a base; NEVER where the label is
@@ -68,3 +71,14 @@ pub record AreAllTold (q : Query) (width : ℕ) (labels bases : List ℕ) : Type
   pub room : HaveRoomFor q.network.now.stops width labels bases
   pub wide : length q.searched.now ≤ width
   pub told : AreToldFrom q width labels bases 0
+
+-- the labels from a position on tell all arrivals, and those of the departure there bound the batch before it; there is
+-- no whole batch past the searched minutes
+pub record AreFoundSoFar (q : Query) (b : Bounds) (f : FoundLabels) : Type 0 where
+  pub room : HaveRoomFor q.network.now.stops f.width f.labels.items f.bases.items
+  pub wide : length q.searched.now ≤ f.width
+  pub few : f.width < length q.searched.now + LANES
+  pub within : f.from ≤ f.width
+  pub later : IsLaterAt q f.from b.later
+  pub bounds : 0 < f.from → AreBounds 65535 q b.later b.kept.items
+  pub told : AreToldFrom q f.width f.labels.items f.bases.items f.from

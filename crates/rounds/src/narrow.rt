@@ -1,18 +1,38 @@
-//! The searched minutes of a window by narrow labels, which may not tell all arrivals.
-ghost use Rattle.std.specs.Prelude.{◌≡◌, ℕ, ◌+◌, ◌*◌, ◌<◌, ◌≤◌, ◌⊎◌, length, slice_index, IsTrue, IfOk, OnOk};
+//! The searched minutes of a window by narrow labels, which may not tell all arrivals. Each batch takes the row that it
+//! needs, of sixteen, thirty-two or forty-eight labels.
+ghost use Rattle.std.specs.Prelude.{◌≡◌, ℕ, ◌+◌, ◌*◌, ◌%◌, ◌<◌, ◌≤◌, ◌⊎◌, length, slice_index, IsTrue, IfOk, OnOk};
 ghost use Rattle.timetable.specs.declared.limits.TheConstants.{MOST_FOOT_SECONDS, MOST_STOPS};
+ghost use Rattle.trip_lanes.specs.declared.lanes.TheConstants.{LANES as LANES_VALUE};
 ghost use Rattle.useful_minutes.specs.Counted.{narrow_at};
-ghost use Rattle.rounds.specs.Arrivals.{AreAllTold, HaveRoomFor};
-ghost use Rattle.rounds.specs.Query.{IsWorkspaceFor};
+ghost use Rattle.rounds.specs.Arrivals.{AreAllTold, AreFoundSoFar, HaveRoomFor};
 ghost use Rattle.rounds.specs.Searches.{IsSearch, arrival_in};
 ghost use Rattle.rounds.specs.declared.window.TheConstants.{MOST_MINUTES};
 
-use crate::batches::{no_bounds, try_batch};
+use crate::batches::{Bounds, no_bounds, try_batch};
 use crate::query::Query;
 use crate::unreached::LastArrivals;
 use crate::workspace::Workspace;
 use std::alloc::{AllocError, Global};
-use trip_lanes::{LaneLabels, NarrowLabels};
+use trip_lanes::{FortyEight, LANES, LaneLabels, Narrow, NarrowLabels, Sixteen};
+
+/// The workspaces of narrow labels, by how many departures stand side by side. Each grows when a batch first takes it.
+#[derive(Drop)]
+pub(crate) struct NarrowWorkspaces {
+    sixteen: Workspace<Sixteen>,
+    thirty_two: Workspace<Narrow>,
+    forty_eight: Workspace<FortyEight>,
+}
+
+impl NarrowWorkspaces {
+    /// Empty workspaces.
+    pub(crate) fn new(alloc: Global) -> Self {
+        NarrowWorkspaces {
+            sixteen: Workspace::new(alloc),
+            thirty_two: Workspace::new(alloc),
+            forty_eight: Workspace::new(alloc),
+        }
+    }
+}
 
 /// The labels of the searched minutes, of each stop side by side. What they hold when a search begins doesn't matter.
 #[derive(Drop)]
@@ -23,6 +43,8 @@ pub(crate) struct FoundLabels {
     pub bases: Vec<u32>,
     /// How many labels of a stop stand side by side.
     pub width: usize,
+    /// From which position on labels are found.
+    pub from: usize,
 }
 
 impl FoundLabels {
@@ -32,15 +54,17 @@ impl FoundLabels {
             labels: Vec::new(alloc),
             bases: Vec::new(alloc),
             width: 0,
+            from: 0,
         }
     }
 
-    /// Makes room for so many labels of each stop, unless there is enough.
+    /// Makes room for so many labels of each stop, unless there is enough. None is found yet.
     fn fit(&mut self, alloc: Global, stops: usize, width: usize) -> Result<(), AllocError>
         requires stops { stops ≤ MOST_STOPS }
         requires width { width ≤ 2 * MOST_MINUTES }
         ensures room { OnOk result (HaveRoomFor stops width self.new.labels.items self.new.bases.items) }
         ensures width { OnOk result (self.new.width ≡ width) }
+        ensures from { OnOk result (self.new.from ≡ width) }
     {
         let count = stops * width + 8;
         if self.labels.len() < count {
@@ -50,6 +74,7 @@ impl FoundLabels {
             self.bases = vec![in alloc; 0; width]?;
         }
         self.width = width;
+        self.from = width;
         Ok(())
     }
 }
@@ -91,39 +116,99 @@ fn write_bases(bases: &mut [u32], from: usize, lanes: usize, base: u32)
     }
 }
 
-/// Finds the labels of each searched minute of a window, batch by batch from the last, each bounded by the one after
-/// it. Where labels can't tell all arrivals it gives up, and says so: what is found is then of no use.
-///
-/// `last` bounds how late somebody may be at each stop. Out of memory is the only error.
-pub(crate) fn run_narrow<R: NarrowLabels>(
+/// Finds the labels of the next batch, which ends where those found begin, of as many minutes as a row has lanes. Where
+/// labels can't tell all arrivals it gives up, and says so.
+fn find_batch<R: NarrowLabels>(
     alloc: Global,
     query: Query<'_>,
+    bounds: &mut Bounds,
     workspace: &mut Workspace<R>,
     last: &mut LastArrivals,
     found: &mut FoundLabels,
 ) -> Result<bool, AllocError>
     requires search { IsSearch 65535 query last.old.times.items }
-    requires workspace { IsWorkspaceFor query.network.now.stops query.lines.now workspace.old }
     requires far { 480 * R.LANES + MOST_FOOT_SECONDS + 1 < R.NEVER }
+    requires some { R.LANES ≤ found.old.from }
+    requires found { AreFoundSoFar query bounds.old found.old }
+    ensures search { OnOk result (IsSearch 65535 query.entry last.new.times.items) }
+    ensures from { OnOk result (found.new.from + R.LANES ≡ found.old.from) }
+    ensures found { IfOk result (λ told. IsTrue told → AreFoundSoFar query.entry bounds.new found.new) }
+{
+    query.network.known();
+    workspace.fit(alloc, query.network.stops(), query.lines)?;
+    found.from -= R::LANES;
+    let Some(base) = try_batch(alloc, query, found.from, bounds, workspace, last)? else {
+        return Ok(false);
+    };
+    let labels = found.labels.as_mut_slice();
+    write_found(labels, workspace, found.from, found.width);
+    let bases = found.bases.as_mut_slice();
+    write_bases(bases, found.from, R::LANES, base);
+    Ok(true)
+}
+
+/// Finds the labels of the next batch, in the row that it needs: sixteen, thirty-two or forty-eight minutes are one batch,
+/// and sixty-four are halved; of more, forty-eight are the next.
+fn find_next(
+    alloc: Global,
+    query: Query<'_>,
+    bounds: &mut Bounds,
+    workspaces: &mut NarrowWorkspaces,
+    last: &mut LastArrivals,
+    found: &mut FoundLabels,
+) -> Result<bool, AllocError>
+    requires search { IsSearch 65535 query last.old.times.items }
+    requires some { 0 < found.old.from }
+    requires whole { found.old.from % LANES_VALUE ≡ 0 }
+    requires found { AreFoundSoFar query bounds.old found.old }
+    ensures search { OnOk result (IsSearch 65535 query.entry last.new.times.items) }
+    ensures from { OnOk result (found.new.from < found.old.from) }
+    ensures whole { OnOk result (found.new.from % LANES_VALUE ≡ 0) }
+    ensures found { IfOk result (λ told. IsTrue told → AreFoundSoFar query.entry bounds.new found.new) }
+{
+    match found.from / LANES {
+        1 => find_batch(alloc, query, bounds, &mut workspaces.sixteen, last, found),
+        2 | 4 => find_batch(
+            alloc,
+            query,
+            bounds,
+            &mut workspaces.thirty_two,
+            last,
+            found,
+        ),
+        _ => find_batch(
+            alloc,
+            query,
+            bounds,
+            &mut workspaces.forty_eight,
+            last,
+            found,
+        ),
+    }
+}
+
+/// Finds the labels of each searched minute of a window, batch by batch from the last, each bounded by the one after
+/// it. Where labels can't tell all arrivals it gives up, and says so: what is found is then of no use.
+///
+/// `last` bounds how late somebody may be at each stop. Out of memory is the only error.
+pub(crate) fn run_narrow(
+    alloc: Global,
+    query: Query<'_>,
+    workspaces: &mut NarrowWorkspaces,
+    last: &mut LastArrivals,
+    found: &mut FoundLabels,
+) -> Result<bool, AllocError>
+    requires search { IsSearch 65535 query last.old.times.items }
     ensures { IfOk result (λ told. IsTrue told →
         AreAllTold query.entry found.new.width found.new.labels.items found.new.bases.items) }
 {
     query.network.known();
-    let lanes = R::LANES;
-    let batches = (query.searched.len() + (lanes - 1)) / lanes;
-    let width = lanes * batches;
+    let width = LANES * ((query.searched.len() + (LANES - 1)) / LANES);
     found.fit(alloc, query.network.stops() as usize, width)?;
-    let labels = found.labels.as_mut_slice();
-    let bases = found.bases.as_mut_slice();
     let mut bounds = no_bounds(alloc, query)?;
-    for i in 0..batches {
-        let from = lanes * (batches - 1 - i);
-        match try_batch(alloc, query, from, &mut bounds, workspace, last)? {
-            Some(base) => {
-                write_found(labels, workspace, from, width);
-                write_bases(bases, from, lanes, base);
-            }
-            None => return Ok(false),
+    while found.from > 0 {
+        if !find_next(alloc, query, &mut bounds, workspaces, last, found)? {
+            return Ok(false);
         }
     }
     Ok(true)

@@ -2,15 +2,14 @@
 ghost use Rattle.std.specs.Prelude.{ℕ, ◌*◌, ◌<◌, ◌≤◌, ◌↔◌, IsTrue, List, IfOk, IfSome};
 ghost use Rattle.trip_lanes.specs.declared.lanes.TheConstants.{LANES as LANES_VALUE};
 ghost use Rattle.useful_minutes.specs.Plan.{IsPlan, SkipsNothing};
-ghost use Rattle.rounds.specs.Arrivals.{AreAllTold};
 ghost use Rattle.rounds.specs.Batches.{AreLabels};
 ghost use Rattle.rounds.specs.Query.{IsAsked};
-ghost use Rattle.rounds.specs.Searches.{AreFound, IsSearch};
+ghost use Rattle.rounds.specs.Searches.{AreFound};
 ghost use Rattle.rounds.specs.Table.{batches_of};
 ghost use Rattle.rounds.specs.Window.{Fits, AreDurations};
 ghost use Rattle.rounds.specs.declared.window.TheConstants.{MOST_RIDES};
 
-use crate::narrow::{FoundLabels, run_narrow};
+use crate::narrow::{FoundLabels, NarrowWorkspaces, run_narrow};
 use crate::query::Query;
 use crate::skipped::{count_all, fill_skipped, plan_of};
 use crate::table::Durations;
@@ -31,8 +30,8 @@ const MOST_AT_ONCE: u32 = 15;
 /// from before doesn't matter. One search serves any network, and makes its workspaces anew where the size is another.
 #[derive(Drop)]
 pub struct Search {
-    /// Of labels that reach some eighteen hours.
-    narrow: Workspace<Narrow>,
+    /// Of labels that reach some eighteen hours, for each row that a batch may take.
+    narrow: NarrowWorkspaces,
     /// The labels that these found.
     found: FoundLabels,
     /// How late somebody may be, with the workspace of labels that reach as far as times go; it grows when the others
@@ -48,7 +47,7 @@ impl Search {
     /// A search with empty workspaces.
     pub fn new(alloc: Global) -> Self {
         Search {
-            narrow: Workspace::new(alloc),
+            narrow: NarrowWorkspaces::new(alloc),
             found: FoundLabels::new(alloc),
             last: LastArrivals {
                 times: Vec::new(alloc),
@@ -143,7 +142,7 @@ impl Search {
             return Ok(None);
         }
         self.last.times = query.network.last_arrivals().to_vec(alloc)?;
-        if !find_narrow(
+        if !run_narrow(
             alloc,
             query,
             &mut self.narrow,
@@ -180,23 +179,6 @@ fn is_narrow_turn(wide_left: &mut u32) -> bool {
 /// the failure before.
 fn more_at_once(count: u32) -> u32 {
     count.saturating_mul(2).saturating_add(1).min(MOST_AT_ONCE)
-}
-
-/// Finds the narrow labels of the searched minutes, unless these can't tell all arrivals.
-fn find_narrow(
-    alloc: Global,
-    query: Query<'_>,
-    workspace: &mut Workspace<Narrow>,
-    last: &mut LastArrivals,
-    found: &mut FoundLabels,
-) -> Result<bool, AllocError>
-    requires search { IsSearch 65535 query last.old.times.items }
-    ensures { IfOk result (λ told. IsTrue told →
-        AreAllTold query.entry found.new.width found.new.labels.items found.new.bases.items) }
-{
-    query.network.known();
-    workspace.fit(alloc, query.network.stops(), query.lines)?;
-    run_narrow(alloc, query, workspace, last, found)
 }
 
 /// The least durations of the searched minutes by wide labels, side by side for each stop, in rows that have room for

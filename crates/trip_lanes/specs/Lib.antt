@@ -7,3 +7,4 @@ pub mod Walks
 pub mod Falls
 pub mod Cut
 pub mod Since
+pub mod Eights

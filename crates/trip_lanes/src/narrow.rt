@@ -1,25 +1,23 @@
 //! Narrow lane labels: thirty-two of 16 bits, which tell 65,534 seconds, some eighteen hours, from where they count.
-ghost use Rattle.std.specs.Prelude.{◌≡◌, ◌≢◌, ℕ, ◌+◌, ◌*◌, ◌<◌, ◌≤◌, ◌⊎◌, min, max, refl, slice_index};
+ghost use Rattle.std.specs.Prelude.{◌≡◌, ◌≢◌, ℕ, ◌+◌, ◌*◌, ◌<◌, ◌≤◌, ◌⊎◌, refl, slice_index};
 ghost use Rattle.std.proofs.lemmas.Bool.{leb-true};
+ghost use Rattle.trip_lanes.specs.Eights.{AreLeast, AreGreatest};
 ghost use Rattle.trip_lanes.specs.declared.lanes.TheConstants.{LANES as SIXTEEN};
 
+use crate::eights::{
+    Eight, FAR, eight_of, greatest_of_eight, higher_eight, least_of_eight, lower_eight,
+};
 use crate::falls::Fall;
 use crate::lane_labels::{LaneLabels, NarrowLabels};
 use crate::ranks::Span;
 use std::simd::prelude::*;
-use std::simd::{u16x8, u16x32};
+use std::simd::u16x32;
 
 /// How many narrow labels stand side by side: they take as much room as sixteen wide ones.
 const NARROW_LANES: usize = 32;
 
-/// The greatest narrow label.
-const FAR: u16 = 65_535;
-
 /// The labels of one stop for thirty-two departures, in seconds from some time on.
 pub type Narrow = [u16; NARROW_LANES];
-
-/// Eight labels: what one register of every x86-64 processor holds.
-type Eight = [u16; 8];
 
 impl LaneLabels for Narrow {
     ghost LANES = { 32 };
@@ -126,7 +124,7 @@ impl LaneLabels for Narrow {
 impl NarrowLabels for Narrow {
     #[inline(always)]
     fn put(self, found: &mut [u16], at: usize) {
-        found[at..at + NARROW_LANES].copy_from_slice(&self);
+        u16x32::from_array(self).copy_to_slice(&mut found[at..]);
     }
 
     ghost narrow = { refl };
@@ -134,7 +132,7 @@ impl NarrowLabels for Narrow {
 
 /// The ranks of the lanes that ride a trip, and 0 in the others.
 #[inline(always)]
-fn ridden(run: Narrow) -> Narrow
+pub(crate) fn ridden(run: Narrow) -> Narrow
     ensures ranks { (l : ℕ) → l < 32 → slice_index run l ≢ 65535 → slice_index result l ≡ slice_index run l }
     ensures others { (l : ℕ) → l < 32 → slice_index run l ≡ 65535 → slice_index result l ≡ 0 }
 {
@@ -148,7 +146,7 @@ fn ridden(run: Narrow) -> Narrow
 
 /// The labels of the lanes that fell, and another number in the others.
 #[inline(always)]
-fn of_fallen(before: Narrow, ready: Narrow, labels: Narrow, other: u16) -> Narrow
+pub(crate) fn of_fallen(before: Narrow, ready: Narrow, labels: Narrow, other: u16) -> Narrow
     ensures { (l : ℕ) → l < 32 → slice_index ready l < slice_index before l →
         slice_index result l ≡ slice_index labels l }
 {
@@ -158,69 +156,40 @@ fn of_fallen(before: Narrow, ready: Narrow, labels: Narrow, other: u16) -> Narro
         .to_array()
 }
 
-/// Eight of the labels, from eight times a part on: one register. Labels are reduced and widened by registers, always
-/// inlined, since a loop over lanes in memory is compiled lane by lane.
+/// The least of the labels that are eight lanes apart.
 #[inline(always)]
-fn eight_of(labels: Narrow, part: usize) -> Eight
-    requires { 8 * part + 8 ≤ 32 }
-    ensures { (l : ℕ) → l < 8 → slice_index result l ≡ slice_index labels (8 * part + l) }
+pub(crate) fn least_by_eights(labels: Narrow) -> Eight
+    ensures { AreLeast 0 4 labels result }
 {
-    let from = 8 * part;
-    u16x8::from_slice(&labels[from..from + 8]).to_array()
+    let early = lower_eight(eight_of(&labels, 0), eight_of(&labels, 1));
+    let late = lower_eight(eight_of(&labels, 2), eight_of(&labels, 3));
+    lower_eight(early, late)
 }
 
-/// The lower of both, in each lane.
+/// The greatest of the labels that are eight lanes apart.
 #[inline(always)]
-fn lower_eight(one: Eight, other: Eight) -> Eight
-    ensures { (l : ℕ) → l < 8 → slice_index result l ≡ min (slice_index one l) (slice_index other l) }
+pub(crate) fn greatest_by_eights(labels: Narrow) -> Eight
+    ensures { AreGreatest 0 4 labels result }
 {
-    u16x8::from_array(one)
-        .simd_min(u16x8::from_array(other))
-        .to_array()
-}
-
-/// The higher of both, in each lane.
-#[inline(always)]
-fn higher_eight(one: Eight, other: Eight) -> Eight
-    ensures { (l : ℕ) → l < 8 → slice_index result l ≡ max (slice_index one l) (slice_index other l) }
-{
-    u16x8::from_array(one)
-        .simd_max(u16x8::from_array(other))
-        .to_array()
+    let early = higher_eight(eight_of(&labels, 0), eight_of(&labels, 1));
+    let late = higher_eight(eight_of(&labels, 2), eight_of(&labels, 3));
+    higher_eight(early, late)
 }
 
 /// The least of some labels.
 #[inline(always)]
 fn least(labels: Narrow) -> u32
     ensures below { (l : ℕ) → l < 32 → result ≤ slice_index labels l }
-    ensures some { (result ≡ 65535) ⊎ ((l : ℕ) × (l < 32) × (slice_index labels l ≡ result)) }
+    ensures some { (l : ℕ) × (l < 32) × (slice_index labels l ≡ result) }
 {
-    let early = lower_eight(eight_of(labels, 0), eight_of(labels, 1));
-    let late = lower_eight(eight_of(labels, 2), eight_of(labels, 3));
-    let row = lower_eight(early, late);
-    let mut low = FAR;
-    for l in 0..8 {
-        if row[l] < low {
-            low = row[l];
-        }
-    }
-    low as u32
+    least_of_eight(least_by_eights(labels))
 }
 
 /// The greatest of some labels.
 #[inline(always)]
 fn greatest(labels: Narrow) -> u32
     ensures above { (l : ℕ) → l < 32 → slice_index labels l ≤ result }
-    ensures some { (result ≡ 0) ⊎ ((l : ℕ) × (l < 32) × (slice_index labels l ≡ result)) }
+    ensures some { (l : ℕ) × (l < 32) × (slice_index labels l ≡ result) }
 {
-    let early = higher_eight(eight_of(labels, 0), eight_of(labels, 1));
-    let late = higher_eight(eight_of(labels, 2), eight_of(labels, 3));
-    let row = higher_eight(early, late);
-    let mut high = 0;
-    for l in 0..8 {
-        if high < row[l] {
-            high = row[l];
-        }
-    }
-    high as u32
+    greatest_of_eight(greatest_by_eights(labels))
 }

@@ -1,55 +1,13 @@
-use Rattle.std.proofs.Common.{◌≡◌, ◌+◌, ◌*◌, ◌≤◌, ◌<◌, inl, inr, min, slice_index, arith}
-use Rattle.trip_lanes.proofs.VectorParts.{of_eights, in_eights, least_of_four}
+use Rattle.std.proofs.Common.{◌≤◌}
+use Rattle.trip_lanes.proofs.RowsByEights.{each_label, some_label, le_trans}
 use Rattle.trip_lanes.proofs.narrow.least.Goals as goal
 
 pub returns-clause-below : goal.returns-clause-below
 returns-clause-below c =
-    of_eights (λ l. c.loop-l.low ≤ slice_index c.args.labels l)
-    (λ k h.
-    let label = c.eight_of.ensures k h in
-    let part = c.lower_eight-early.ensures k h in
-    let row = c.lower_eight-row.ensures k h in
-    let bound = c.loop-l.invariant.below k (omega (arith, h, c.loop-l-test.false)) in
-    omega (arith, label, part, row, bound))
-    (λ k h.
-    let label = c.eight_of-2.ensures k h in
-    let part = c.lower_eight-early.ensures k h in
-    let row = c.lower_eight-row.ensures k h in
-    let bound = c.loop-l.invariant.below k (omega (arith, h, c.loop-l-test.false)) in
-    omega (arith, label, part, row, bound))
-    (λ k h.
-    let label = c.eight_of-3.ensures k h in
-    let part = c.lower_eight-late.ensures k h in
-    let row = c.lower_eight-row.ensures k h in
-    let bound = c.loop-l.invariant.below k (omega (arith, h, c.loop-l-test.false)) in
-    omega (arith, label, part, row, bound))
-    (λ k h.
-    let label = c.eight_of-4.ensures k h in
-    let part = c.lower_eight-late.ensures k h in
-    let row = c.lower_eight-row.ensures k h in
-    let bound = c.loop-l.invariant.below k (omega (arith, h, c.loop-l-test.false)) in
-    omega (arith, label, part, row, bound))
+    each_label (λ a b. a ≤ b) le_trans 4 c.args.labels _ _
+    c.least_by_eights.ensures c.least_of_eight.ensures.below
 
 pub returns-clause-some : goal.returns-clause-some
 returns-clause-some c =
-    elim c.loop-l.invariant.some [
-      | inl none ↦ inl none
-      | inr found ↦
-          let k = found.0 in
-          let h : k < 8 = omega (arith, found.1) in
-          let labels = c.args.labels in
-          let all : c.loop-l.low ≡ min (min (slice_index labels (8 * 0 + k)) (slice_index labels (8 * 1 + k)))
-          (min (slice_index labels (8 * 2 + k)) (slice_index labels (8 * 3 + k))) =
-          omega (
-            arith,
-            found.2,
-            c.lower_eight-row.ensures k h,
-            c.lower_eight-early.ensures k h,
-            c.lower_eight-late.ensures k h,
-            c.eight_of.ensures k h,
-            c.eight_of-2.ensures k h,
-            c.eight_of-3.ensures k h,
-            c.eight_of-4.ensures k h,
-          ) in
-          inr (in_eights labels k c.loop-l.low h (least_of_four _ _ _ _ c.loop-l.low all))
-    ]
+    some_label (λ a b. a ≤ b) 4 c.args.labels _ _
+    c.least_by_eights.ensures c.least_of_eight.ensures.some

@@ -2,8 +2,8 @@ use Rattle.std.proofs.Common.{rules, ◌≡◌, arith}
 use Rattle.rounds.proofs.LastArrivals.{last_from}
 use Rattle.rounds.proofs.search.Search.by_narrow.Goals as goal
 
-pub find_narrow-requires : goal.find_narrow-requires
-find_narrow-requires c =
+pub run_narrow-requires : goal.run_narrow-requires
+run_narrow-requires c =
     let q = c.args.query in
     let all : c.in_ok-self.field-0.items ≡ c.last_arrivals.result.now =
     c.in_ok-self.ensures.items_if_clones_equal (λ y h. search rules) in

@@ -1,7 +1,0 @@
-use Rattle.std.proofs.Common.{arith}
-use Rattle.trip_lanes.proofs.VectorChoices.{smaller_at}
-use Rattle.trip_lanes.proofs.narrow.lower_eight.Goals as goal
-use mir.Syntax.{w16}
-
-pub returns : goal.returns
-returns c l h = smaller_at w16 8 c.args.one c.args.other l h (omega arith) (omega arith)
