@@ -1,47 +1,55 @@
 -- The labels of a batch, as those of its minutes, and what is kept for the batch before it.
-use Rattle.std.proofs.Common.{◌≡◌, ◌≢◌, ℕ, ◌+◌, ◌-◌, ◌<◌, ◌≤◌, ◌⊎◌, inl, inr, List, All, map, replicate, slice_index}
+use Rattle.std.proofs.Common.{◌≡◌, ℕ, ◌+◌, ◌-◌, ◌<◌, ◌≤◌, ◌⊎◌, inl, inr, List, All, map, replicate}
 use Rattle.std.proofs.Common.{sym, ◌∙◌, ap, arith}
 use Rattle.std.proofs.lemmas.List.{length-map, length-replicate, get_or-map, get_or-replicate, ext_get_or}
 use Rattle.timetable.specs.declared.limits.TheConstants.{END_OF_AXIS, MOST_FOOT_SECONDS}
 use Rattle.timetable.specs.declared.least.TheConstants.{NEVER}
 use Rattle.timetable.specs.Networks.{Net, IsNet}
-use Rattle.timetable.specs.Least.{IsLeastOrNever}
-use Rattle.timetable.specs.Journeys.{IsDuration}
 use Rattle.timetable.proofs.KnownParts.{all_at}
 use Rattle.trip_lanes.specs.Cut.{cut}
-use Rattle.trip_lanes.specs.Since.{IsSinceTo}
 use Rattle.rounds.specs.declared.bounded.Kept.{Kept}
-use Rattle.rounds.specs.Batches.{AreKept, bounds_in}
+use Rattle.rounds.specs.declared.query.Query.{Query}
+use Rattle.rounds.specs.Arrivals.{IsTold, NoneLate}
+use Rattle.rounds.specs.Batches.{AreKept, IsBaseTo, bounds_in, start_at}
 use Rattle.rounds.specs.Cut.{cut_net}
 use Rattle.rounds.specs.CappedLabels.{LaneStateTo}
-use Rattle.rounds.specs.Last.{AreLastFrom}
 use Rattle.rounds.specs.State.{arrival}
 use Rattle.rounds.proofs.CutDurations.{arrival_fits_to, cut_since, cut_dead, cut_duration}
 use Rattle.rounds.proofs.CutNetworks.{cut_net_is_net}
 use Rattle.rounds.proofs.LabelStates.{never_state}
-use Rattle.rounds.proofs.LastArrivals.{none_late}
 use Rattle.rounds.proofs.EarlierBase.{rebased}
+use Rattle.rounds.proofs.RoundsReach.{in_bounds}
 
-module _ (n : Net) (ok : IsNet n) (base cap origin time depart : ℕ) (counted : time + base ≡ depart) (live : (0 < time)
-    ⊎ (base ≡ 0)) (rides : ℕ) (ride ready : List ℕ)
-    (state : LaneStateTo cap (cut_net base cap n) (record { stop = origin; time = time }) rides ride ready)
-    (p : ℕ) (there : p < n.stops) where
-  -- no stop is reached before the departure
-  pub lane_since : arrival ride ready p ≢ cap → time ≤ arrival ride ready p
-  lane_since reached =
-      let fits = arrival_fits_to cap (cut_net base cap n) (record { stop = origin; time = time }) rides ride ready
-      state p there in
-      cut_since n ok base cap origin time depart counted live rides ride ready state p there (omega (arith, reached))
+module _ (q : Query) (ok : IsNet q.network.now) (base cap time depart : ℕ) (counted : time + base
+    ≡ depart) (live : (0 < time) ⊎ (base ≡ 0)) (ride ready : List ℕ)
+    (state : LaneStateTo cap (cut_net base cap q.network.now) (start_at q time) q.rides ride ready)
+    (p : ℕ) (there : p < q.network.now.stops) where
+  -- counted from the departure, the label is the least duration, if nobody gets there too late for labels
+  pub lane_told : cap ≤ NEVER → (arrival ride ready p ≡ cap → NoneLate q cap base depart p) →
+      IsTold q cap base depart p (arrival ride ready p)
+  lane_told small late =
+      let n = q.network.now in
+      let fits = arrival_fits_to cap (cut_net base cap n) (start_at q time) q.rides ride ready state p there in
+      record {
+        fits = fits;
+        after = λ reached.
+            let since = cut_since n ok base cap q.origin.0 time depart counted live q.rides ride ready state p there
+            (omega (arith, fits, reached)) in
+            omega (arith, since, counted);
+        least = λ duration is.
+            cut_duration n ok base cap q.origin.0 time depart counted live q.rides ride ready state p there duration
+            small is.never_so
+            (λ reached. let e = is.counted reached in omega (arith, e, counted)) late;
+      }
 
-  -- and counted from it, the label is the least duration, if nobody gets there too late for labels
-  pub lane_minute : (first : ℕ) (last : List ℕ) → AreLastFrom n origin first rides last → first ≤ depart → cap ≤ NEVER →
-      depart + MOST_FOOT_SECONDS < base + cap → (arrival ride ready p ≡ cap → slice_index last p < base + cap) →
-      (new : ℕ) → IsSinceTo cap time (arrival ride ready p) new →
-      IsLeastOrNever (IsDuration n origin depart rides p) new
-  lane_minute first last are le small near told new since =
-      cut_duration n ok base cap origin time depart counted live rides ride ready state p there new small since.never_so
-      since.since
-      (λ never end r. none_late n origin first rides last are depart (base + cap) p le there (told never) near end r)
+-- labels that reach as far as times go tell each arrival
+pub none_late_whole : (q : Query) → IsNet q.network.now → q.origin.0 < q.network.now.stops → (never base depart p : ℕ) →
+    depart < END_OF_AXIS → END_OF_AXIS + MOST_FOOT_SECONDS ≤ base + never → NoneLate q never base depart p
+none_late_whole q ok there never base depart p axis far time r =
+    let b = in_bounds q.network.now ok (start_at q depart) there axis r.legs (record { stop = p; time = time })
+    r.journey in
+    let soon : time < END_OF_AXIS + MOST_FOOT_SECONDS = b.1 in
+    omega (arith, soon, far)
 
 -- who departs at never reaches no stop before it
 pub lane_dead : (n : Net) (ok : IsNet n) (base cap origin time rides : ℕ) (ride ready : List ℕ) → 0 < cap → time ≡ cap →
@@ -50,12 +58,6 @@ pub lane_dead : (n : Net) (ok : IsNet n) (base cap origin time rides : ℕ) (rid
 lane_dead n ok base cap origin time rides ride ready some never state p there =
     cut_dead n ok base cap origin time (time + base) (omega arith) (inl (omega arith)) rides ride ready state p there
     (omega arith)
-
--- a base from which labels can count that are bounded by those of a later departure
-pub record IsBaseTo (cap later base : ℕ) : Type 0 where
-  pub fits : base + cap ≤ NEVER
-  pub live : (base ≡ 0) ⊎ ((base < later) × (cap + END_OF_AXIS < NEVER))
-  pub near : (later ≡ NEVER) ⊎ (later < base + cap)
 
 -- bounds of NEVER are those of a departure at NEVER
 cleared_bounds : (stops base cap : ℕ) (kept : List ℕ) → kept ≡ replicate stops NEVER → base + cap ≤ NEVER →

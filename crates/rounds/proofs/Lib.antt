@@ -1,5 +1,6 @@
 pub mod ArrivalInEachLane
 pub mod BoundedStops
+pub mod CountedMinutes
 pub mod CutDurations
 pub mod CutJourneys
 pub mod CutNetworks

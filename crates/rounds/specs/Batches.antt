@@ -1,6 +1,7 @@
 -- Batches of a window: minutes of it side by side, as many as a row has lanes.
-use Rattle.std.specs.Prelude.{◌≡◌, ℕ, ◌+◌, ◌*◌, ◌<◌, ◌≤◌, List, length, map, slice_get, slice_index, Some}
+use Rattle.std.specs.Prelude.{◌≡◌, ℕ, ◌+◌, ◌*◌, ◌<◌, ◌≤◌, ◌⊎◌, List, length, map, slice_get, slice_index, Some}
 use Rattle.timetable.specs.declared.least.TheConstants.{NEVER}
+use Rattle.timetable.specs.declared.limits.TheConstants.{END_OF_AXIS}
 use Rattle.timetable.specs.Networks.{Net}
 use Rattle.timetable.specs.Least.{IsLeastOrNever}
 use Rattle.timetable.specs.Journeys.{IsDuration, Whereabouts}
@@ -64,3 +65,24 @@ abbrev pub AreKept : ℕ → ℕ → Net → Whereabouts → ℕ → List Kept �
 AreKept never base n start rides kept = (k : ℕ) (x : Kept) → k ≤ rides → slice_get kept k ≡ Some x →
     LaneStateTo never (cut_net base never n) start k (bounds_in base never x.ride.items)
     (bounds_in base never x.ready.items)
+
+-- the departure of the searched minute at a position
+abbrev pub departure_at : Query → ℕ → ℕ
+departure_at q j = departure q.window (slice_index q.searched.now j)
+
+-- the batch before this position is bounded by the departure there, or by none where there is none
+pub record IsLaterAt (q : Query) (after later : ℕ) : Type 0 where
+  pub past : length q.searched.now ≤ after → later ≡ NEVER
+  pub within : after < length q.searched.now → later ≡ departure_at q after
+
+-- a base from which labels can count that are bounded by those of a later departure
+pub record IsBaseTo (never later base : ℕ) : Type 0 where
+  pub fits : base + never ≤ NEVER
+  pub live : (base ≡ 0) ⊎ ((base < later) × (never + END_OF_AXIS < NEVER))
+  pub near : (later ≡ NEVER) ⊎ (later < base + never)
+
+-- what is kept are the labels of a later departure, counted from any base that serves
+pub record AreBounds (never : ℕ) (q : Query) (later : ℕ) (kept : List Kept) : Type 0 where
+  pub many : length kept ≡ q.rides + 1
+  pub each : (base : ℕ) → IsBaseTo never later base →
+      AreKept never base q.network.now (start_at q (cut base never later)) q.rides kept

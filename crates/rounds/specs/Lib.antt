@@ -9,6 +9,7 @@ pub mod Batches
 pub mod Query
 pub mod Rounds
 pub mod Searches
+pub mod Arrivals
 pub mod Cut
 pub mod CappedLabels
 pub mod Last

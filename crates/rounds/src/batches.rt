@@ -1,26 +1,45 @@
-//! The searched minutes of a window, batch by batch and from the last to the first.
-ghost use Rattle.std.specs.Prelude.{◌≡◌, ◌≢◌, ℕ, ◌+◌, ◌-◌, ◌*◌, ◌/◌, ◌<◌, ◌≤◌, ◌⊎◌, ◌↔◌, IsTrue, [], length};
-ghost use Rattle.std.specs.Prelude.{slice_index, slice_index_or, IfOk, OnOk};
+//! A batch: searched minutes of a window side by side, from a position on. Batches run from the last to the first, each
+//! bounded by the departure after it.
+ghost use Rattle.std.specs.Prelude.{◌≡◌, ◌≢◌, ℕ, ◌+◌, ◌-◌, ◌*◌, ◌<◌, ◌≤◌, ◌⊎◌, ◌↔◌, IsTrue, length, slice_index};
+ghost use Rattle.std.specs.Prelude.{All, IfOk, IfSome, OnOk};
 ghost use Rattle.timetable.specs.declared.limits.TheConstants.{END_OF_AXIS, MOST_FOOT_SECONDS};
 ghost use Rattle.timetable.specs.declared.least.TheConstants.{NEVER as NEVER_VALUE};
 ghost use Rattle.trip_lanes.specs.Lane.{lane, labels_in};
-ghost use Rattle.trip_lanes.specs.Since.{IsSinceTo};
-ghost use Rattle.rounds.specs.Batches.{IsSearchedAt};
-ghost use Rattle.rounds.specs.Searches.{AreFound, AreLast, HaveRoom, IsSearch, arrival_in};
+ghost use Rattle.rounds.specs.Arrivals.{AreArrivals, AreTold};
+ghost use Rattle.rounds.specs.Batches.{AreBounds, IsLaterAt, IsSearchedAt};
+ghost use Rattle.rounds.specs.Searches.{AreLast, IsSearch, arrival_in};
 ghost use Rattle.rounds.specs.Window.{departure};
-ghost use Rattle.rounds.specs.declared.window.TheConstants.{MOST_MINUTES};
 ghost use Rattle.rounds.specs.State.{arrival};
 ghost use Rattle.rounds.specs.Query.{IsAsked, IsWorkspaceFor};
-ghost use Rattle.rounds.specs.Table.{batches_of, label_of};
-ghost use Rattle.trip_lanes.specs.declared.lanes.TheConstants.{LANES};
 
-use crate::bounded::{Batch, no_kept, run_bounded};
+use crate::bounded::{Batch, Kept, no_kept, run_bounded};
 use crate::query::Query;
-use crate::unreached::leave_out_unreached;
+use crate::unreached::{LastArrivals, leave_out_unreached};
 use crate::workspace::Workspace;
 use std::alloc::{AllocError, Global};
 use timetable::{END_OF_AXIS, NEVER};
-use trip_lanes::{LANES, LaneLabels, Lanes};
+use trip_lanes::LaneLabels;
+
+/// What bounds a batch: the labels of a later departure.
+#[derive(Drop)]
+pub(crate) struct Bounds {
+    /// In seconds on the axis; `NEVER` where nothing bounds the batch.
+    pub later: u32,
+    /// The labels of that departure, for each number of rides.
+    pub kept: Vec<Kept>,
+}
+
+/// What bounds the last batch of a window: nothing. Out of memory is the only error.
+pub(crate) fn no_bounds(alloc: Global, query: Query<'_>) -> Result<Bounds, AllocError>
+    requires { IsAsked query }
+    ensures later { IfOk result (λ bounds. bounds.later ≡ NEVER_VALUE) }
+    ensures bounds { IfOk result (λ bounds. (never : ℕ) →
+        AreBounds never query.entry bounds.later bounds.kept.items) }
+{
+    query.network.known();
+    let kept = no_kept(alloc, query.network.stops() as usize, query.rides)?;
+    Ok(Bounds { later: NEVER, kept })
+}
 
 /// From when on the labels of a batch count: a second before its first departure, if that isn't at 0, so that no label
 /// is 0, and who is reached at all boards nothing that departed before. Labels that reach as far as times go count
@@ -65,6 +84,41 @@ fn departs_of<R: LaneLabels>(query: Query<'_>, from: usize, base: u32) -> R
     departs
 }
 
+/// Runs the batch that begins at a position, and gives its base and departures: the workspace then has the labels of
+/// each of these, and what bounds the batch before it is kept, if there is one.
+pub(crate) fn run_batch<R: LaneLabels>(
+    query: Query<'_>,
+    from: usize,
+    bounds: &mut Bounds,
+    workspace: &mut Workspace<R>,
+) -> Batch<R>
+    requires asked { IsAsked query }
+    requires short { All (λ row. length row ≤ R.NEVER) query.lines.now.lines }
+    requires far { 480 * R.LANES + MOST_FOOT_SECONDS + 1 < R.NEVER }
+    requires from { from < length query.searched.now }
+    requires later { IsLaterAt query (from + R.LANES) bounds.old.later }
+    requires bounds { AreBounds R.NEVER query bounds.old.later bounds.old.kept.items }
+    requires workspace { IsWorkspaceFor query.network.now.stops query.lines.now workspace.old }
+    ensures workspace { IsWorkspaceFor query.entry.network.now.stops query.entry.lines.now workspace.new }
+    ensures arrivals { AreArrivals R.LANES R.NEVER R.labels query.entry from result workspace.new }
+    ensures later { IsLaterAt query.entry from bounds.new.later }
+    ensures bounds { 0 < from → AreBounds R.NEVER query.entry bounds.new.later bounds.new.kept.items }
+{
+    query.network.known();
+    let first = query.window.first + 60 * query.searched[from];
+    let base = base_of::<R>(first);
+    let departs = departs_of::<R>(query, from, base);
+    let batch = Batch {
+        base,
+        departs,
+        later: bounds.later,
+        keeps: 0 < from,
+    };
+    run_bounded(query, batch, bounds.kept.as_mut_slice(), workspace);
+    bounds.later = first;
+    batch
+}
+
 /// Whether a label can tell a time.
 fn is_near<R: LaneLabels>(time: u32, base: u32) -> bool
     ensures { IsTrue result ↔ (time < base + R.NEVER) }
@@ -92,80 +146,6 @@ fn are_told<R: LaneLabels>(ride: &[R], ready: &[R], departs: R, base: u32, last:
     true
 }
 
-/// Writes for a part of a batch how long after its departure each stop is reached, by a ride or by a walk, among the
-/// durations of all departures, where those of a stop stand side by side.
-fn write_part<R: LaneLabels>(
-    labels: &mut [Lanes],
-    workspace: &Workspace<R>,
-    departs: R,
-    part: usize,
-    at: usize,
-    batches: usize,
-)
-    requires at { at < batches }
-    requires part { LANES * part + LANES ≤ R.LANES }
-    requires same { length workspace.now.ride.items ≡ length workspace.now.ready.labels.items }
-    requires room { length labels.old ≡ length workspace.now.ready.labels.items * batches }
-    requires fits { (l p : ℕ) → l < R.LANES →
-        slice_index (lane l (labels_in R.labels workspace.now.ready.labels.items)) p ≤ R.NEVER }
-    requires since { (l p : ℕ) → l < R.LANES → p < length workspace.now.ready.labels.items →
-        arrival_in R.labels workspace.now l p ≢ R.NEVER →
-        slice_index (R.labels departs) l ≤ arrival_in R.labels workspace.now l p }
-    ensures same { length labels.new ≡ length labels.old }
-    ensures written { (l p : ℕ) → l < LANES → p < length workspace.now.ready.labels.items →
-        IsSinceTo R.NEVER (slice_index (R.labels departs) (LANES * part + l))
-        (arrival_in R.labels workspace.now (LANES * part + l) p)
-        (slice_index (slice_index_or labels.new (p * batches + at) []) l) }
-    ensures kept { (p b : ℕ) → b < batches → b ≢ at →
-        slice_index_or labels.new (p * batches + b) [] ≡ slice_index_or labels.old (p * batches + b) [] }
-{
-    let ride = workspace.ride.as_slice();
-    let ready = workspace.ready.labels.as_slice();
-    let from = departs.sixteen(part);
-    for stop in 0..ready.len() {
-        let arrived = ride[stop].lower_of(ready[stop]);
-        labels[stop * batches + at] = arrived.since(from, part);
-    }
-}
-
-/// Writes for a batch how long after its departure each stop is reached, by a ride or by a walk, among the durations of
-/// all departures.
-fn write_batch<R: LaneLabels>(
-    labels: &mut [Lanes],
-    workspace: &Workspace<R>,
-    departs: R,
-    batch: usize,
-    minutes: usize,
-)
-    requires few { minutes ≤ MOST_MINUTES }
-    requires batch { R.LANES * batch < minutes }
-    requires same { length workspace.now.ride.items ≡ length workspace.now.ready.labels.items }
-    requires room { length labels.old ≡ length workspace.now.ready.labels.items * batches_of minutes }
-    requires fits { (l p : ℕ) → l < R.LANES →
-        slice_index (lane l (labels_in R.labels workspace.now.ready.labels.items)) p ≤ R.NEVER }
-    requires since { (l p : ℕ) → l < R.LANES → p < length workspace.now.ready.labels.items →
-        arrival_in R.labels workspace.now l p ≢ R.NEVER →
-        slice_index (R.labels departs) l ≤ arrival_in R.labels workspace.now l p }
-    ensures same { length labels.new ≡ length labels.old }
-    ensures written { (l p : ℕ) → l < R.LANES → p < length workspace.now.ready.labels.items →
-        R.LANES * batch + l < LANES * batches_of minutes →
-        IsSinceTo R.NEVER (slice_index (R.labels departs) l)
-        (arrival_in R.labels workspace.now l p)
-        (label_of minutes labels.new p (R.LANES * batch + l)) }
-    ensures kept { (p m : ℕ) → m < LANES * batches_of minutes →
-        (m < R.LANES * batch) ⊎ (R.LANES * batch + R.LANES ≤ m) →
-        label_of minutes labels.new p m ≡ label_of minutes labels.old p m }
-{
-    let batches = (minutes + (LANES - 1)) / LANES;
-    let parts = R::LANES / LANES;
-    for part in 0..parts {
-        let at = parts * batch + part;
-        if at < batches {
-            write_part(labels, workspace, departs, part, at, batches);
-        }
-    }
-}
-
 /// Whether labels tell all stops of a batch. Where last arrivals leave it open, stops that no journey reaches are left
 /// out, and the others looked at again.
 fn are_told_of_reached<R: LaneLabels>(
@@ -173,73 +153,56 @@ fn are_told_of_reached<R: LaneLabels>(
     query: Query<'_>,
     batch: Batch<R>,
     workspace: &Workspace<R>,
-    wide: &mut Workspace<Lanes>,
-    last: &mut [u32],
+    last: &mut LastArrivals,
 ) -> Result<bool, AllocError>
-    requires search { IsSearch R.NEVER query last.old }
+    requires search { IsSearch R.NEVER query last.old.times.items }
     requires workspace { IsWorkspaceFor query.network.now.stops query.lines.now workspace.now }
-    ensures last { OnOk result (AreLast query.entry last.new) }
+    ensures last { OnOk result (AreLast query.entry last.new.times.items) }
     ensures told { IfOk result (λ told. IsTrue told → (l p : ℕ) → l < R.LANES →
         p < length workspace.now.ready.labels.items → slice_index (R.labels batch.departs) l ≢ R.NEVER →
         arrival_in R.labels workspace.now l p ≡ R.NEVER →
-        slice_index last.new p < batch.base + R.NEVER) }
-    ensures early { END_OF_AXIS + MOST_FOOT_SECONDS < batch.base + R.NEVER → IfOk result (λ told. IsTrue told) }
+        slice_index last.new.times.items p < batch.base + R.NEVER) }
 {
     let ride = workspace.ride.as_slice();
     let ready = workspace.ready.labels.as_slice();
-    if are_told(ride, ready, batch.departs, batch.base, last) {
+    let times = last.times.as_mut_slice();
+    if are_told(ride, ready, batch.departs, batch.base, times) {
         return Ok(true);
     }
-    leave_out_unreached(alloc, query, wide, last)?;
-    Ok(are_told(ride, ready, batch.departs, batch.base, last))
+    leave_out_unreached(alloc, query, &mut last.wide, times)?;
+    Ok(are_told(ride, ready, batch.departs, batch.base, times))
 }
 
-/// Writes the least durations for each searched minute of a window, batch by batch from the last, each bounded by the
-/// one after it. Where labels can't tell all of them it gives up, and says so: what is written is then of no use.
+/// Runs the batch that begins at a position, and gives its base; none where labels can't tell all arrivals.
 ///
-/// `last` bounds how late somebody may be at each stop. Only where labels need it, a search in the workspace `wide`
-/// leaves out of it the stops that no journey reaches. Out of memory is the only error.
-pub(crate) fn run_window<R: LaneLabels>(
+/// `last` bounds how late somebody may be at each stop. Out of memory is the only error.
+pub(crate) fn try_batch<R: LaneLabels>(
     alloc: Global,
     query: Query<'_>,
+    from: usize,
+    bounds: &mut Bounds,
     workspace: &mut Workspace<R>,
-    wide: &mut Workspace<Lanes>,
-    last: &mut [u32],
-    labels: &mut [Lanes],
-) -> Result<bool, AllocError>
-    requires search { IsSearch R.NEVER query last.old }
-    requires workspace { IsWorkspaceFor query.network.now.stops query.lines.now workspace.old }
-    requires room { HaveRoom query labels.old }
+    last: &mut LastArrivals,
+) -> Result<Option<u32>, AllocError>
+    requires search { IsSearch R.NEVER query last.old.times.items }
     requires far { 480 * R.LANES + MOST_FOOT_SECONDS + 1 < R.NEVER }
-    ensures last { OnOk result (AreLast query.entry last.new) }
-    ensures room { HaveRoom query.entry labels.new }
-    ensures told { IfOk result (λ told. IsTrue told → AreFound query.entry labels.new) }
-    ensures early { END_OF_AXIS + MOST_FOOT_SECONDS < R.NEVER → IfOk result (λ told. IsTrue told) }
+    requires from { from < length query.searched.now }
+    requires later { IsLaterAt query (from + R.LANES) bounds.old.later }
+    requires bounds { AreBounds R.NEVER query bounds.old.later bounds.old.kept.items }
+    requires workspace { IsWorkspaceFor query.network.now.stops query.lines.now workspace.old }
+    ensures last { OnOk result (AreLast query.entry last.new.times.items) }
+    ensures workspace { OnOk result (IsWorkspaceFor query.entry.network.now.stops query.entry.lines.now
+        workspace.new) }
+    ensures later { OnOk result (IsLaterAt query.entry from bounds.new.later) }
+    ensures bounds { OnOk result (0 < from →
+        AreBounds R.NEVER query.entry bounds.new.later bounds.new.kept.items) }
+    ensures told { IfOk result (λ found. IfSome found (λ base.
+        AreTold R.LANES R.NEVER R.labels query.entry from base workspace.new)) }
 {
     query.network.known();
-    let lanes = R::LANES;
-    let batches = (query.searched.len() + (lanes - 1)) / lanes;
-    let mut bounds = no_kept(alloc, query.network.stops() as usize, query.rides)?;
-    let kept = bounds.as_mut_slice();
-    let mut later = NEVER;
-    for i in 0..batches {
-        let at = batches - 1 - i;
-        let first = query.window.first + 60 * query.searched[lanes * at];
-        let base = base_of::<R>(first);
-        let departs = departs_of::<R>(query, lanes * at, base);
-        let batch = Batch {
-            base,
-            departs,
-            later,
-            keeps: 0 < at,
-        };
-        run_bounded(query, batch, kept, workspace);
-        later = first;
-        if !are_told_of_reached(alloc, query, batch, workspace, wide, last)? {
-            return Ok(false);
-        }
-        let minutes = query.window.minutes as usize;
-        write_batch(labels, workspace, departs, at, minutes);
+    let batch = run_batch(query, from, bounds, workspace);
+    if !are_told_of_reached(alloc, query, batch, workspace, last)? {
+        return Ok(None);
     }
-    Ok(true)
+    Ok(Some(batch.base))
 }

@@ -6,7 +6,8 @@
 //! - `search`: [`Search`], which serves one origin after another. `query`: what is asked of it. `workspace`: what it
 //!   works in.
 //! - `skipped`: which minutes of a window are searched, and the durations of the others.
-//! - `batches`: the searched minutes, so many at a time, from the last to the first.
+//! - `batches`: the searched minutes, so many at a time. `narrow`, `wide`: all of them by narrow labels, or by wide
+//!   ones, from the last to the first.
 //! - `bounded`: the rounds of departures side by side, within the labels of a later one.
 //! - `unreached`: which stops no journey reaches, however late, where a network's last arrivals leave it open whether
 //!   narrow labels tell all.
@@ -25,6 +26,7 @@ mod batches;
 mod bounded;
 mod due;
 mod laws;
+mod narrow;
 mod plain;
 mod query;
 mod scan;
@@ -32,6 +34,7 @@ mod search;
 mod skipped;
 mod table;
 mod unreached;
+mod wide;
 mod window;
 mod workspace;
 

@@ -1,19 +1,21 @@
 //! A search: the workspaces that a window's durations are found in, made once and used for one origin after another.
-ghost use Rattle.std.specs.Prelude.{◌+◌, ◌*◌, ◌<◌, ◌≤◌, ◌↔◌, IsTrue, length, All, IfOk, OnOk};
-ghost use Rattle.timetable.specs.declared.least.TheConstants.{NEVER as NEVER_VALUE};
+ghost use Rattle.std.specs.Prelude.{ℕ, ◌*◌, ◌<◌, ◌≤◌, ◌↔◌, IsTrue, List, IfOk, IfSome};
 ghost use Rattle.trip_lanes.specs.declared.lanes.TheConstants.{LANES as LANES_VALUE};
 ghost use Rattle.useful_minutes.specs.Plan.{IsPlan, SkipsNothing};
+ghost use Rattle.rounds.specs.Arrivals.{AreAllTold};
 ghost use Rattle.rounds.specs.Batches.{AreLabels};
 ghost use Rattle.rounds.specs.Query.{IsAsked};
-ghost use Rattle.rounds.specs.Searches.{AreFound, AreLast, HaveRoom, IsSearch};
+ghost use Rattle.rounds.specs.Searches.{AreFound, IsSearch};
 ghost use Rattle.rounds.specs.Table.{batches_of};
 ghost use Rattle.rounds.specs.Window.{Fits, AreDurations};
 ghost use Rattle.rounds.specs.declared.window.TheConstants.{MOST_RIDES};
 
-use crate::batches::run_window;
+use crate::narrow::{FoundLabels, run_narrow};
 use crate::query::Query;
-use crate::skipped::{fill_skipped, plan_of};
+use crate::skipped::{count_all, fill_skipped, plan_of};
 use crate::table::Durations;
+use crate::unreached::LastArrivals;
+use crate::wide::run_window;
 use crate::window::{Window, longest};
 use crate::workspace::Workspace;
 use std::alloc::{AllocError, Global};
@@ -31,8 +33,11 @@ const MOST_AT_ONCE: u32 = 15;
 pub struct Search {
     /// Of labels that reach some eighteen hours.
     narrow: Workspace<Narrow>,
-    /// Of labels that reach as far as times go; they grow when the others don't do.
-    wide: Workspace<Lanes>,
+    /// The labels that these found.
+    found: FoundLabels,
+    /// How late somebody may be, with the workspace of labels that reach as far as times go; it grows when the others
+    /// don't do.
+    last: LastArrivals,
     /// How many searches still use wide labels at once.
     wide_left: u32,
     /// How many will after the next search that narrow labels cannot represent.
@@ -44,7 +49,11 @@ impl Search {
     pub fn new(alloc: Global) -> Self {
         Search {
             narrow: Workspace::new(alloc),
-            wide: Workspace::new(alloc),
+            found: FoundLabels::new(alloc),
+            last: LastArrivals {
+                times: Vec::new(alloc),
+                wide: Workspace::new(alloc),
+            },
             wide_left: 0,
             at_once: 0,
         }
@@ -87,7 +96,8 @@ impl Search {
         Ok(Durations::new(network.stops(), window.minutes, numbers, labels))
     }
 
-    /// The least durations of all minutes of a window, sixteen minutes side by side for each stop.
+    /// The least durations of all minutes of a window, sixteen minutes side by side for each stop: by narrow labels
+    /// where these are tried and tell all, and else by wide ones.
     fn all_labels(
         &mut self,
         alloc: Global,
@@ -103,51 +113,50 @@ impl Search {
         ensures { IfOk result (λ labels. AreLabels query.entry.network.now query.entry.origin.0 query.entry.window
             query.entry.rides labels.items) }
     {
-        let mut labels = self.labels_of(alloc, query)?;
+        if let Some(labels) = self.by_narrow(alloc, query, positions)? {
+            return Ok(labels);
+        }
+        let mut labels = by_wide(alloc, query, &mut self.last.wide)?;
         fill_skipped(alloc, query, positions, waits, &mut labels)?;
         Ok(labels)
     }
 
-    /// The least durations of the searched minutes of a window, side by side for each stop, in rows that have room for
-    /// all minutes: by narrow labels where these are tried and tell all, and else by wide ones.
-    fn labels_of(&mut self, alloc: Global, query: Query<'_>) -> Result<Vec<Lanes>, AllocError>
-        requires { IsAsked query }
-        ensures { IfOk result (λ labels. AreFound query.entry labels.items) }
-    {
-        query.network.known();
-        let stops = query.network.stops() as usize;
-        let batches = (query.window.minutes as usize + (LANES - 1)) / LANES;
-        let mut labels = vec![in alloc; [NEVER; LANES]; stops * batches]?;
-        let mut last = query.network.last_arrivals().to_vec(alloc)?;
-        let most = longest(query.lines);
-        self.write(alloc, query, most, &mut last, &mut labels)?;
-        Ok(labels)
-    }
-
-    /// Writes the least durations of the searched minutes: by narrow labels where these are tried and tell all, and
-    /// else by wide ones.
-    fn write(
+    /// The least durations of all minutes of a window by narrow labels; none where these aren't tried, or can't tell
+    /// all arrivals.
+    fn by_narrow(
         &mut self,
         alloc: Global,
         query: Query<'_>,
-        most: usize,
-        last: &mut [u32],
-        labels: &mut [Lanes],
-    ) -> Result<(), AllocError>
-        requires search { IsSearch NEVER_VALUE query last.old }
-        requires most { All (λ row. length row ≤ most) query.lines.now.lines }
-        requires room { HaveRoom query labels.old }
-        ensures { OnOk result (AreFound query.entry labels.new) }
+        positions: &[u32],
+    ) -> Result<Option<Vec<Lanes>>, AllocError>
+        requires asked { IsAsked query }
+        requires plan { (waits : List ℕ) × IsPlan query.window.minutes (LANES_VALUE * batches_of query.window.minutes)
+            query.searched.now positions.now waits }
+        requires skips { SkipsNothing query.network.now query.origin.0 query.window.first query.window.minutes
+            query.searched.now positions.now }
+        ensures { IfOk result (λ found. IfSome found (λ labels. AreLabels query.entry.network.now query.entry.origin.0
+            query.entry.window query.entry.rides labels.items)) }
     {
-        if are_ranked::<Narrow>(most) && is_narrow_turn(&mut self.wide_left) {
-            if by_narrow(alloc, query, &mut self.narrow, &mut self.wide, last, labels)? {
-                self.at_once = 0;
-                return Ok(());
-            }
+        query.network.known();
+        let most = longest(query.lines);
+        if !are_ranked::<Narrow>(most) || !is_narrow_turn(&mut self.wide_left) {
+            return Ok(None);
+        }
+        self.last.times = query.network.last_arrivals().to_vec(alloc)?;
+        if !find_narrow(
+            alloc,
+            query,
+            &mut self.narrow,
+            &mut self.last,
+            &mut self.found,
+        )? {
             self.wide_left = self.at_once;
             self.at_once = more_at_once(self.at_once);
+            return Ok(None);
         }
-        by_wide(alloc, query, &mut self.wide, last, labels)
+        self.at_once = 0;
+        let labels = count_all(alloc, query, &self.found, positions)?;
+        Ok(Some(labels))
     }
 }
 
@@ -173,41 +182,38 @@ fn more_at_once(count: u32) -> u32 {
     count.saturating_mul(2).saturating_add(1).min(MOST_AT_ONCE)
 }
 
-/// Writes the least durations of the searched minutes by narrow labels, unless these can't tell all of them.
-fn by_narrow(
+/// Finds the narrow labels of the searched minutes, unless these can't tell all arrivals.
+fn find_narrow(
     alloc: Global,
     query: Query<'_>,
     workspace: &mut Workspace<Narrow>,
-    wide: &mut Workspace<Lanes>,
-    last: &mut [u32],
-    labels: &mut [Lanes],
+    last: &mut LastArrivals,
+    found: &mut FoundLabels,
 ) -> Result<bool, AllocError>
-    requires search { IsSearch 65535 query last.old }
-    requires room { HaveRoom query labels.old }
-    ensures last { OnOk result (AreLast query.entry last.new) }
-    ensures room { HaveRoom query.entry labels.new }
-    ensures told { IfOk result (λ told. IsTrue told → AreFound query.entry labels.new) }
+    requires search { IsSearch 65535 query last.old.times.items }
+    ensures { IfOk result (λ told. IsTrue told →
+        AreAllTold query.entry found.new.width found.new.labels.items found.new.bases.items) }
 {
     query.network.known();
     workspace.fit(alloc, query.network.stops(), query.lines)?;
-    run_window(alloc, query, workspace, wide, last, labels)
+    run_narrow(alloc, query, workspace, last, found)
 }
 
-/// Writes the least durations of the searched minutes by wide labels, which tell all of them.
+/// The least durations of the searched minutes by wide labels, side by side for each stop, in rows that have room for
+/// all minutes.
 fn by_wide(
     alloc: Global,
     query: Query<'_>,
     workspace: &mut Workspace<Lanes>,
-    last: &mut [u32],
-    labels: &mut [Lanes],
-) -> Result<(), AllocError>
-    requires search { IsSearch NEVER_VALUE query last.old }
-    requires room { HaveRoom query labels.old }
-    ensures { OnOk result (AreFound query.entry labels.new) }
+) -> Result<Vec<Lanes>, AllocError>
+    requires { IsAsked query }
+    ensures { IfOk result (λ labels. AreFound query.entry labels.items) }
 {
     query.network.known();
     workspace.fit(alloc, query.network.stops(), query.lines)?;
-    let mut none = Workspace::new(alloc);
-    run_window(alloc, query, workspace, &mut none, last, labels)?;
-    Ok(())
+    let stops = query.network.stops() as usize;
+    let rows = (query.window.minutes as usize + (LANES - 1)) / LANES;
+    let mut labels = vec![in alloc; [NEVER; LANES]; stops * rows]?;
+    run_window(alloc, query, workspace, &mut labels)?;
+    Ok(labels)
 }

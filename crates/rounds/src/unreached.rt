@@ -17,6 +17,15 @@ use std::alloc::{AllocError, Global};
 use timetable::NEVER;
 use trip_lanes::{LaneLabels, Lanes};
 
+/// How late somebody may be at each stop.
+#[derive(Drop)]
+pub(crate) struct LastArrivals {
+    /// In seconds on the axis: nobody alights there later, or gets there by a walk after a ride.
+    pub times: Vec<u32>,
+    /// The workspace in which stops are found that no journey reaches.
+    pub wide: Workspace<Lanes>,
+}
+
 /// Fills in by when each stop is reached from the first departure of the window, in the first lane.
 fn run_first(
     alloc: Global,

@@ -3,5 +3,7 @@ pub mod FilledLabels
 pub mod SearchedMinutes
 pub mod LineEvents
 pub mod LabelsInOrder
+pub mod EightsInOrder
+pub mod CountedMinutes
 pub mod MarkedTrips
 pub mod MarkedLines

@@ -1,4 +1,7 @@
 pub mod Boarding
+pub mod Counted
+pub mod CountedRows
+pub mod Eights
 pub mod Marks
 pub mod Orders
 pub mod Plan

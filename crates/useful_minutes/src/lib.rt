@@ -4,16 +4,21 @@
 //!
 //! - `marks`: which minutes are useful.
 //! - `plan`: [`plan_for`], which minutes are searched, and which of them stands in for each minute.
-//! - `waits`: [`fill_in`], the durations of all minutes from those of the searched ones, four at a time by the places
-//!   of `orders`. `walks`: [`walk_alone`], the walks that need no trip.
+//! - `counted`: [`count_durations`], the durations of all minutes from narrow labels of the searched ones, eight at a
+//!   time by the places of `eights`.
+//! - `waits`: [`fill_in`], the same among wide labels, four at a time by the places of `orders`.
+//! - `walks`: [`walk_alone`], the walks that need no trip.
 #![tactic(auto)]
 
+mod counted;
+mod eights;
 mod marks;
 mod orders;
 mod plan;
 mod waits;
 mod walks;
 
+pub use counted::{Found, count_durations};
 pub use plan::{MOST_GAP, Plan, SHORT_WINDOW, plan_for};
 pub use waits::fill_in;
 pub use walks::walk_alone;

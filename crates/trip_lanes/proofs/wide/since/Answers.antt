@@ -17,7 +17,8 @@ returns c l h =
     let less : ℕ → ℕ → ℕ = λ a b. (a + (2 ^ 32 - b)) % 2 ^ 32 in
     let counted_len : length (zip2 less times departs) ≡ 16 =
     length-zip2 less times departs (times_len ∙ sym departs_len) ∙ times_len in
-    since_of NEVER (2 ^ 32) (get_or departs l 0) (get_or times l 0) (get_or times l 0) _ (let fits = c.requires.fits l lt in omega (arith, fits))
+    since_of NEVER (2 ^ 32) (get_or departs l 0) (get_or times l 0) (get_or times l 0) _
+    (let fits = c.requires.fits l lt in omega (arith, fits))
     (λ same. same) (c.requires.later l lt)
     (sel_at w32 16 eqb times (replicate 16 NEVER) times (zip2 less times departs) l lt times_len refl times_len
     counted_len

@@ -1,0 +1,22 @@
+use Rattle.std.proofs.Common.{ℕ, ◌-◌, ◌*◌, ◌<◌, ◌≤◌, length}
+use Rattle.timetable.specs.declared.least.TheConstants.{NEVER}
+use Rattle.timetable.specs.Least.{IsLeastOrNever}
+use Rattle.timetable.specs.Journeys.{IsDuration}
+use Rattle.rounds.specs.Batches.{AreBounds, IsLaterAt, departure_at}
+use Rattle.rounds.specs.Table.{label_of}
+use Rattle.rounds.specs.Query.{IsWorkspaceFor}
+use Rattle.rounds.specs.Searches.{HaveRoom}
+use Rattle.rounds.proofs.wide.run_window.Given as goal
+
+abbrev pub invariant-loop-i : goal.invariant-loop-i
+invariant-loop-i v =
+    record {
+      workspace : IsWorkspaceFor v.query.network.now.stops v.query.lines.now v.workspace;
+      room : HaveRoom v.query v.labels;
+      later : IsLaterAt v.query (16 * (v.batches - v.i)) v.bounds.later;
+      bounds : v.i < v.batches → AreBounds NEVER v.query v.bounds.later v.bounds.kept.items;
+      each : (p j : ℕ) → p < v.query.network.now.stops → 16 * (v.batches - v.i) ≤ j →
+          j < length v.query.searched.now →
+          IsLeastOrNever (IsDuration v.query.network.now v.query.origin.0 (departure_at v.query j) v.query.rides p)
+          (label_of v.query.window.minutes v.labels p j);
+    }

@@ -1,0 +1,130 @@
+//! The searched minutes of a window by narrow labels, which may not tell all arrivals.
+ghost use Rattle.std.specs.Prelude.{◌≡◌, ℕ, ◌+◌, ◌*◌, ◌<◌, ◌≤◌, ◌⊎◌, length, slice_index, IsTrue, IfOk, OnOk};
+ghost use Rattle.timetable.specs.declared.limits.TheConstants.{MOST_FOOT_SECONDS, MOST_STOPS};
+ghost use Rattle.useful_minutes.specs.Counted.{narrow_at};
+ghost use Rattle.rounds.specs.Arrivals.{AreAllTold, HaveRoomFor};
+ghost use Rattle.rounds.specs.Query.{IsWorkspaceFor};
+ghost use Rattle.rounds.specs.Searches.{IsSearch, arrival_in};
+ghost use Rattle.rounds.specs.declared.window.TheConstants.{MOST_MINUTES};
+
+use crate::batches::{no_bounds, try_batch};
+use crate::query::Query;
+use crate::unreached::LastArrivals;
+use crate::workspace::Workspace;
+use std::alloc::{AllocError, Global};
+use trip_lanes::{LaneLabels, NarrowLabels};
+
+/// The labels of the searched minutes, of each stop side by side. What they hold when a search begins doesn't matter.
+#[derive(Drop)]
+pub(crate) struct FoundLabels {
+    /// By when each stop is reached, in seconds from the base of the minute. There are eight more, of no stop.
+    pub labels: Vec<u16>,
+    /// From when on the label at a position counts, in seconds on the axis.
+    pub bases: Vec<u32>,
+    /// How many labels of a stop stand side by side.
+    pub width: usize,
+}
+
+impl FoundLabels {
+    /// Room for nothing yet.
+    pub(crate) fn new(alloc: Global) -> Self {
+        FoundLabels {
+            labels: Vec::new(alloc),
+            bases: Vec::new(alloc),
+            width: 0,
+        }
+    }
+
+    /// Makes room for so many labels of each stop, unless there is enough.
+    fn fit(&mut self, alloc: Global, stops: usize, width: usize) -> Result<(), AllocError>
+        requires stops { stops ≤ MOST_STOPS }
+        requires width { width ≤ 2 * MOST_MINUTES }
+        ensures room { OnOk result (HaveRoomFor stops width self.new.labels.items self.new.bases.items) }
+        ensures width { OnOk result (self.new.width ≡ width) }
+    {
+        let count = stops * width + 8;
+        if self.labels.len() < count {
+            self.labels = vec![in alloc; 0; count]?;
+        }
+        if self.bases.len() < width {
+            self.bases = vec![in alloc; 0; width]?;
+        }
+        self.width = width;
+        Ok(())
+    }
+}
+
+/// Writes the labels of a batch, from its position on, among those of all searched minutes.
+fn write_found<R: NarrowLabels>(
+    found: &mut [u16],
+    workspace: &Workspace<R>,
+    from: usize,
+    width: usize,
+)
+    requires from { from + R.LANES ≤ width }
+    requires same { length workspace.now.ride.items ≡ length workspace.now.ready.labels.items }
+    requires room { length workspace.now.ready.labels.items * width ≤ length found.old }
+    ensures same { length found.new ≡ length found.old }
+    ensures written { (l p : ℕ) → l < R.LANES → p < length workspace.now.ready.labels.items →
+        narrow_at width found.new p (from + l) ≡ arrival_in R.labels workspace.now l p }
+    ensures kept { (p j : ℕ) → p < length workspace.now.ready.labels.items → j < width →
+        (j < from) ⊎ (from + R.LANES ≤ j) → narrow_at width found.new p j ≡ narrow_at width found.old p j }
+{
+    let ride = workspace.ride.as_slice();
+    let ready = workspace.ready.labels.as_slice();
+    for stop in 0..ready.len() {
+        ride[stop]
+            .lower_of(ready[stop])
+            .put(found, stop * width + from);
+    }
+}
+
+/// Writes the base of a batch for so many positions.
+fn write_bases(bases: &mut [u32], from: usize, lanes: usize, base: u32)
+    requires { from + lanes ≤ length bases.old }
+    ensures same { length bases.new ≡ length bases.old }
+    ensures written { (l : ℕ) → l < lanes → slice_index bases.new (from + l) ≡ base }
+    ensures kept { (j : ℕ) → (j < from) ⊎ (from + lanes ≤ j) → slice_index bases.new j ≡ slice_index bases.old j }
+{
+    for l in 0..lanes {
+        bases[from + l] = base;
+    }
+}
+
+/// Finds the labels of each searched minute of a window, batch by batch from the last, each bounded by the one after
+/// it. Where labels can't tell all arrivals it gives up, and says so: what is found is then of no use.
+///
+/// `last` bounds how late somebody may be at each stop. Out of memory is the only error.
+pub(crate) fn run_narrow<R: NarrowLabels>(
+    alloc: Global,
+    query: Query<'_>,
+    workspace: &mut Workspace<R>,
+    last: &mut LastArrivals,
+    found: &mut FoundLabels,
+) -> Result<bool, AllocError>
+    requires search { IsSearch 65535 query last.old.times.items }
+    requires workspace { IsWorkspaceFor query.network.now.stops query.lines.now workspace.old }
+    requires far { 480 * R.LANES + MOST_FOOT_SECONDS + 1 < R.NEVER }
+    ensures { IfOk result (λ told. IsTrue told →
+        AreAllTold query.entry found.new.width found.new.labels.items found.new.bases.items) }
+{
+    query.network.known();
+    let lanes = R::LANES;
+    let batches = (query.searched.len() + (lanes - 1)) / lanes;
+    let width = lanes * batches;
+    found.fit(alloc, query.network.stops() as usize, width)?;
+    let labels = found.labels.as_mut_slice();
+    let bases = found.bases.as_mut_slice();
+    let mut bounds = no_bounds(alloc, query)?;
+    for i in 0..batches {
+        let from = lanes * (batches - 1 - i);
+        match try_batch(alloc, query, from, &mut bounds, workspace, last)? {
+            Some(base) => {
+                write_found(labels, workspace, from, width);
+                write_bases(bases, from, lanes, base);
+            }
+            None => return Ok(false),
+        }
+    }
+    Ok(true)
+}
