@@ -5,6 +5,7 @@
 //!   their shares (over `small_networks`).
 //! - `horizons`: durations that narrow labels can't tell, and windows that are no whole batches.
 //! - `lanes`: trips, lines, walks and changes, sixteen or thirty-two departures at a time.
+//! - `lane_rows`: what narrow labels do in rows of sixteen and of forty-eight.
 //! - `windows`: the durations of a window beside those of each of its minutes, and one search for several networks.
 #![tactic(auto)]
 
@@ -16,6 +17,8 @@ mod changes;
 mod durations;
 #[cfg(test)]
 mod horizons;
+#[cfg(test)]
+mod lane_rows;
 #[cfg(test)]
 mod lanes;
 #[cfg(test)]

@@ -1,9 +1,8 @@
 -- Labels of rows, bounded part by part of eight.
-use Rattle.std.proofs.Common.{◌≡◌, ◌+◌, ◌-◌, ◌*◌, ◌/◌, ◌%◌, ◌<◌, ◌≤◌, ◌⊎◌, ◌++◌, inl, inr, ℕ, List, length, slice_index}
+use Rattle.std.proofs.Common.{◌≡◌, ◌+◌, ◌-◌, ◌*◌, ◌/◌, ◌%◌, ◌<◌, ◌≤◌, ◌⊎◌, inl, inr, ℕ, List, slice_index}
 use Rattle.std.proofs.Common.{min, max, arith, subst, sym, ◌∙◌}
 use Rattle.std.proofs.Math.Nat.{div-add-mod, mod-lt}
 use Rattle.std.proofs.lemmas.Bool.{cases_lt}
-use Rattle.std.proofs.lemmas.List.{get_or_append_left, get_or-append_right}
 use Rattle.trip_lanes.specs.Eights.{AreBounds, AreLeast, AreGreatest}
 
 module _ (R : ℕ → ℕ → Type 0) where
@@ -42,38 +41,40 @@ module _ (R : ℕ → ℕ → Type 0) where
             ];
       }
 
-  -- the parts of a row that another follows
-  pub in_front : (row other eight : List ℕ) (n : ℕ) → length row ≡ 8 * n → AreBounds R 0 n row eight →
-      AreBounds R 0 n (row ++ other) eight
-  in_front row other eight n long b =
-      let same = λ (j k : ℕ) (ends : j < n) (h : k < 8).
-      get_or_append_left row other 0 (8 * j + k) (omega (arith, ends, h, long)) in
+  -- the parts of a row that begins with another
+  pub in_front : (row front eight : List ℕ) (n : ℕ) →
+      ((l : ℕ) → l < 8 * n → slice_index front l ≡ slice_index row l) → AreBounds R 0 n front eight →
+      AreBounds R 0 n row eight
+  in_front row front eight n same b =
+      let at = λ (j k : ℕ) (ends : j < n) (h : k < 8). same (8 * j + k) (omega (arith, ends, h)) in
       record {
         bounds = λ j k begins ends h.
-            subst (λ (x : ℕ). R (slice_index eight k) x) (sym (same j k ends h)) (b.bounds j k begins ends h);
+            subst (λ (x : ℕ). R (slice_index eight k) x) (at j k ends h) (b.bounds j k begins ends h);
         some = λ k h.
-            let found = b.some k h in (found.0, found.1, found.2, same found.0 k found.2 h ∙ found.3);
+            let found = b.some k h in (found.0, found.1, found.2, sym (at found.0 k found.2 h) ∙ found.3);
       }
 
-  -- and of the row that follows
-  pub in_back : (row other eight : List ℕ) (m n : ℕ) → length row ≡ 8 * m → AreBounds R 0 n other eight →
-      AreBounds R m (m + n) (row ++ other) eight
-  in_back row other eight m n long b =
-      let same = λ (j k : ℕ) (begins : m ≤ j).
-      get_or-append_right row other (8 * m) (8 * j + k) 0 long (omega (arith, begins)) in
-      let place = λ (j k : ℕ) (begins : m ≤ j).
-      let e : 8 * j + k - 8 * m ≡ 8 * (j - m) + k = omega (arith, begins) in e in
+  -- and of a row that ends with it
+  pub in_back : (row back eight : List ℕ) (m n : ℕ) →
+      ((l : ℕ) → l < 8 * n → slice_index back l ≡ slice_index row (8 * m + l)) → AreBounds R 0 n back eight →
+      AreBounds R m (m + n) row eight
+  in_back row back eight m n same b =
       record {
         bounds = λ j k begins ends h.
-            let there = b.bounds (j - m) k (omega arith) (omega (arith, begins, ends)) h in
-            let e = same j k begins in
-            let e2 = place j k begins in
-            rw (e, e2) there;
+            let place : 8 * m + (8 * (j - m) + k) ≡ 8 * j + k = omega (arith, begins) in
+            let there = same (8 * (j - m) + k) (omega (arith, begins, ends, h)) in
+            subst (λ (i : ℕ). R (slice_index eight k) (slice_index row i)) place
+            (subst (λ (x : ℕ). R (slice_index eight k) x) there
+            (b.bounds (j - m) k (omega arith) (omega (arith, begins, ends)) h));
         some = λ k h.
             let found = b.some k h in
-            let e = same (m + found.0) k (omega arith) in
-            let e2 : 8 * (m + found.0) + k - 8 * m ≡ 8 * found.0 + k = omega arith in
-            (m + found.0, omega arith, omega (arith, found.2), rw (e, e2) found.3);
+            let place : 8 * m + (8 * found.0 + k) ≡ 8 * (m + found.0) + k = omega arith in
+            let there = same (8 * found.0 + k) (omega (arith, found.2, h)) in (
+              m + found.0,
+              omega arith,
+              omega (arith, found.2),
+              subst (λ (i : ℕ). slice_index row i ≡ slice_index eight k) place (sym there ∙ found.3),
+            );
       }
 
   -- what bounds each lane of eight bounds each label

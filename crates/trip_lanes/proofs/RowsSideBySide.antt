@@ -1,10 +1,11 @@
 -- Two rows of labels side by side.
 use Rattle.std.proofs.Common.{◌≡◌, ◌+◌, ◌-◌, ◌<◌, ◌⊎◌, ◌++◌, inl, inr, ℕ, List, length, slice_index, Bool, true, false}
-use Rattle.std.proofs.Common.{arith, subst, refl}
+use Rattle.std.proofs.Common.{arith, subst, refl, sym}
 use Rattle.std.specs.Prelude.{IsTrue, ◌↔◌, ◌||◌, ◌&&◌}
 use Rattle.std.proofs.lemmas.Bool.{cases_lt}
-use Rattle.std.proofs.lemmas.List.{get_or_append_left, get_or-append_right}
+use Rattle.std.proofs.lemmas.List.{get_or_append_left}
 use Rattle.trip_lanes.specs.Lane.{SomeFellOf}
+use Rattle.trip_lanes.specs.Since.{IsMinutely}
 
 pub or_holds : (a b : Bool) → IsTrue (a || b) → IsTrue a ⊎ IsTrue b
 or_holds true b t = inl refl
@@ -35,48 +36,51 @@ of_each_row P m n front back l h =
       | inr after ↦ subst P (omega (arith, after)) (back (l - m) (omega (arith, after, h)))
     ]
 
--- a label of the first row
+-- what holds of each label of both rows holds of each of the row of both
+pub of_both_rows : (P : ℕ → ℕ → Type 0) (m n : ℕ) (front back row : List ℕ) →
+    ((l : ℕ) → l < m → slice_index row l ≡ slice_index front l) →
+    ((l : ℕ) → l < n → slice_index row (m + l) ≡ slice_index back l) →
+    ((l : ℕ) → l < m → P l (slice_index front l)) → ((l : ℕ) → l < n → P (m + l) (slice_index back l)) →
+    (l : ℕ) → l < m + n → P l (slice_index row l)
+of_both_rows P m n front back row in_front in_back fronts backs =
+    of_each_row (λ l. P l (slice_index row l)) m n
+    (λ l h. subst (λ (x : ℕ). P l x) (sym (in_front l h)) (fronts l h))
+    (λ l h. subst (λ (x : ℕ). P (m + l) x) (sym (in_back l h)) (backs l h))
+
+-- departures of the second row go on where those of the first end
+pub minutes_go_on : (first minutes l time : ℕ) → IsMinutely (first + 1920) (minutes - 32) 65535 l time →
+    IsMinutely first minutes 65535 (32 + l) time
+minutes_go_on first minutes l time m =
+    record {
+      live = λ h. let e = m.live (omega (arith, h)) in omega (arith, e);
+      dead = λ h. m.dead (omega (arith, h));
+    }
+
+-- where the lanes of two rows are those of their parts, some lane fell if one did in either part
+pub fell_in_either : (m n : ℕ) (new new_front new_back old old_front old_back : List ℕ) (one other : Bool) →
+    ((l : ℕ) → l < m → slice_index new_front l ≡ slice_index new l) →
+    ((l : ℕ) → l < n → slice_index new_back l ≡ slice_index new (m + l)) →
+    ((l : ℕ) → l < m → slice_index old_front l ≡ slice_index old l) →
+    ((l : ℕ) → l < n → slice_index old_back l ≡ slice_index old (m + l)) →
+    (IsTrue one ↔ SomeFellOf m new_front old_front) → (IsTrue other ↔ SomeFellOf n new_back old_back) →
+    IsTrue (one || other) ↔ SomeFellOf (m + n) new old
+fell_in_either m n new new_front new_back old old_front old_back one other nf nb of ob ones others = (
+  λ t. elim (or_holds one other t) [
+    | inl here ↦
+        let fell = ones.0 here in
+        let low = fell.2 in
+        (fell.0, omega (arith, fell.1), omega (arith, low, nf fell.0 fell.1, of fell.0 fell.1))
+    | inr here ↦
+        let fell = others.0 here in
+        let low = fell.2 in
+        (m + fell.0, omega (arith, fell.1), omega (arith, low, nb fell.0 fell.1, ob fell.0 fell.1))
+  ],
+  λ fell. of_each_row (λ l. slice_index new l < slice_index old l → IsTrue (one || other)) m n
+      (λ l h low. or_by_one one other (ones.1 (l, h, omega (arith, low, nf l h, of l h))))
+      (λ l h low. or_by_other one other (others.1 (l, h, omega (arith, low, nb l h, ob l h)))) fell.0 fell.1 fell.2,
+)
+
+-- a label of the first of two rows that are joined
 pub front_at : (front back : List ℕ) (m l : ℕ) → length front ≡ m → l < m →
     slice_index (front ++ back) l ≡ slice_index front l
 front_at front back m l long h = get_or_append_left front back 0 l (omega (arith, long, h))
-
--- and of the second
-pub back_at : (front back : List ℕ) (m l : ℕ) → length front ≡ m →
-    slice_index (front ++ back) (m + l) ≡ slice_index back l
-back_at front back m l long =
-    let place : m + l - m ≡ l = omega arith in
-    rw (get_or-append_right front back m (m + l) 0 long (omega arith), place) refl
-
-module _ (m n : ℕ) (new_front new_back old_front old_back : List ℕ) (new_long : length new_front ≡ m)
-    (old_long : length old_front ≡ m) where
-  abbrev IsLower : ℕ → Type 0
-  IsLower l = slice_index (new_front ++ new_back) l < slice_index (old_front ++ old_back) l
-
-  lower_in_front : (l : ℕ) → l < m → (slice_index new_front l < slice_index old_front l) ↔ IsLower l
-  lower_in_front l h =
-      let new = front_at new_front new_back m l new_long h in
-      let old = front_at old_front old_back m l old_long h in
-      (λ low. omega (arith, new, old, low), λ low. omega (arith, new, old, low))
-
-  lower_in_back : (l : ℕ) → (slice_index new_back l < slice_index old_back l) ↔ IsLower (m + l)
-  lower_in_back l =
-      let new = back_at new_front new_back m l new_long in
-      let old = back_at old_front old_back m l old_long in
-      (λ low. omega (arith, new, old, low), λ low. omega (arith, new, old, low))
-
-  -- some lane of one of the rows fell
-  pub fell_in_either : (one other : Bool) → (IsTrue one ↔ SomeFellOf m new_front old_front) →
-      (IsTrue other ↔ SomeFellOf n new_back old_back) →
-      IsTrue (one || other) ↔ SomeFellOf (m + n) (new_front ++ new_back) (old_front ++ old_back)
-  fell_in_either one other ones others = (
-    λ t. elim (or_holds one other t) [
-      | inl here ↦
-          let fell = ones.0 here in
-          (fell.0, omega (arith, fell.1), (lower_in_front fell.0 fell.1).0 fell.2)
-      | inr here ↦
-          let fell = others.0 here in (m + fell.0, omega (arith, fell.1), (lower_in_back fell.0).0 fell.2)
-    ],
-    λ fell. of_each_row (λ l. IsLower l → IsTrue (one || other)) m n
-        (λ l h low. or_by_one one other (ones.1 (l, h, (lower_in_front l h).1 low)))
-        (λ l h low. or_by_other one other (others.1 (l, h, (lower_in_back l).1 low))) fell.0 fell.1 fell.2,
-  )

@@ -1,5 +1,7 @@
-//! Long rows of narrow lane labels: forty-eight of 16 bits, a row of thirty-two and one of sixteen side by side.
-ghost use Rattle.std.specs.Prelude.{◌≡◌, ◌≢◌, ℕ, ◌+◌, ◌*◌, ◌<◌, ◌≤◌, ◌⊎◌, ◌++◌, refl, slice_index};
+//! Long rows of narrow lane labels: forty-eight of 16 bits, a row of thirty-two and one of sixteen side by side. They
+//! stand in one array, of which both parts are read and written as vectors: then a row stays in registers from one trip
+//! to the next. If the parts were fields of a struct, the last sixteen labels would be carried one by one.
+ghost use Rattle.std.specs.Prelude.{◌≡◌, ◌≢◌, ℕ, ◌+◌, ◌*◌, ◌<◌, ◌≤◌, ◌⊎◌, ◌-◌, refl, slice_index};
 ghost use Rattle.std.proofs.lemmas.Bool.{leb-true};
 ghost use Rattle.trip_lanes.specs.Eights.{AreLeast, AreGreatest};
 ghost use Rattle.trip_lanes.specs.declared.lanes.TheConstants.{LANES as SIXTEEN};
@@ -11,90 +13,78 @@ use crate::narrow::Narrow;
 use crate::ranks::Span;
 use crate::sixteen::Sixteen;
 use crate::{narrow, sixteen};
+use std::simd::prelude::*;
+use std::simd::{u16x16, u16x32};
 
-/// How many labels stand in the first part.
+/// How many labels of a long row stand side by side.
+const FORTY_EIGHT_LANES: usize = 48;
+
+/// How many of them are in the first part.
 const FRONT_LANES: usize = 32;
 
 /// The labels of one stop for forty-eight departures, in seconds from some time on.
-#[derive(Clone, Copy)]
-pub struct FortyEight {
-    /// The first thirty-two.
-    pub front: Narrow,
-    /// The last sixteen.
-    pub back: Sixteen,
-}
+pub type FortyEight = [u16; FORTY_EIGHT_LANES];
 
 impl LaneLabels for FortyEight {
     ghost LANES = { 48 };
 
-    const LANES: usize = 48;
+    const LANES: usize = FORTY_EIGHT_LANES;
 
     ghost NEVER = { 65535 };
 
     const NEVER: u32 = 65_535;
 
-    ghost labels = { λ row. row.front ++ row.back };
+    ghost labels = { λ row. row };
 
     fn all(label: u32) -> Self {
-        FortyEight {
-            front: Narrow::all(label),
-            back: Sixteen::all(label),
-        }
+        beside(Narrow::all(label), Sixteen::all(label))
     }
 
     fn minutely(first: u32, minutes: u32) -> Self {
-        let before = FRONT_LANES as u32;
-        let left = if minutes < before {
-            0
-        } else {
-            minutes - before
-        };
-        FortyEight {
-            front: Narrow::minutely(first, minutes),
-            back: Sixteen::minutely(first + 60 * before, left),
-        }
+        let later = first + 60 * FRONT_LANES as u32;
+        beside(
+            Narrow::minutely(first, minutes),
+            Sixteen::minutely(later, left_of(minutes)),
+        )
     }
 
     #[inline(always)]
     fn first(self) -> u32 {
-        self.front[0] as u32
+        self[0] as u32
     }
 
     #[inline(always)]
     fn lower_of(self, other: Self) -> Self {
-        FortyEight {
-            front: self.front.lower_of(other.front),
-            back: self.back.lower_of(other.back),
-        }
+        beside(
+            front_of(self).lower_of(front_of(other)),
+            back_of(self).lower_of(back_of(other)),
+        )
     }
 
     #[inline(always)]
     fn changed(self, old: Self) -> bool {
-        self.front.changed(old.front) | self.back.changed(old.back)
+        front_of(self).changed(front_of(old)) | back_of(self).changed(back_of(old))
     }
 
     #[inline(always)]
     fn later(self, seconds: u32) -> Self {
-        FortyEight {
-            front: self.front.later(seconds),
-            back: self.back.later(seconds),
-        }
+        beside(front_of(self).later(seconds), back_of(self).later(seconds))
     }
 
     #[inline(always)]
     fn catch(self, depart: u32, rank: u32) -> Self {
-        FortyEight {
-            front: self.front.catch(depart, rank),
-            back: self.back.catch(depart, rank),
-        }
+        beside(
+            front_of(self).catch(depart, rank),
+            back_of(self).catch(depart, rank),
+        )
     }
 
     #[inline(always)]
     fn alight(self, run: Self, rank: u32, arrive: u32) -> Self {
-        FortyEight {
-            front: self.front.alight(run.front, rank, arrive),
-            back: self.back.alight(run.back, rank, arrive),
-        }
+        beside(
+            front_of(self).alight(front_of(run), rank, arrive),
+            back_of(self).alight(back_of(run), rank, arrive),
+        )
     }
 
     #[inline(always)]
@@ -111,7 +101,7 @@ impl LaneLabels for FortyEight {
 
     #[inline(always)]
     fn is_reached(self, departs: Self) -> bool {
-        self.front.is_reached(departs.front) & self.back.is_reached(departs.back)
+        front_of(self).is_reached(front_of(departs)) & back_of(self).is_reached(back_of(departs))
     }
 
     #[inline(always)]
@@ -135,59 +125,92 @@ impl LaneLabels for FortyEight {
 impl NarrowLabels for FortyEight {
     #[inline(always)]
     fn put(self, found: &mut [u16], at: usize) {
-        self.front.put(found, at);
-        self.back.put(found, at + FRONT_LANES);
+        front_of(self).put(found, at);
+        back_of(self).put(found, at + FRONT_LANES);
     }
 
     ghost narrow = { refl };
 }
 
+/// The first thirty-two labels.
+#[inline(always)]
+fn front_of(row: FortyEight) -> Narrow
+    ensures { (l : ℕ) → l < 32 → slice_index result l ≡ slice_index row l }
+{
+    u16x32::from_slice(&row[0..FRONT_LANES]).to_array()
+}
+
+/// The last sixteen.
+#[inline(always)]
+fn back_of(row: FortyEight) -> Sixteen
+    ensures { (l : ℕ) → l < 16 → slice_index result l ≡ slice_index row (32 + l) }
+{
+    u16x16::from_slice(&row[FRONT_LANES..FORTY_EIGHT_LANES]).to_array()
+}
+
+/// Both parts in one row.
+#[inline(always)]
+fn beside(front: Narrow, back: Sixteen) -> FortyEight
+    ensures front { (l : ℕ) → l < 32 → slice_index result l ≡ slice_index front l }
+    ensures back { (l : ℕ) → l < 16 → slice_index result (32 + l) ≡ slice_index back l }
+{
+    let mut row = [0; FORTY_EIGHT_LANES];
+    front.put(&mut row, 0);
+    back.put(&mut row, FRONT_LANES);
+    row
+}
+
+/// For how many minutes the last sixteen depart, of those of the row.
+fn left_of(minutes: u32) -> u32
+    ensures { result ≡ minutes - 32 }
+{
+    if minutes < FRONT_LANES as u32 {
+        0
+    } else {
+        minutes - FRONT_LANES as u32
+    }
+}
+
 /// The ranks of the lanes that ride a trip, and 0 in the others.
 #[inline(always)]
 fn ridden(run: FortyEight) -> FortyEight
-    ensures ranks { (l : ℕ) → l < 48 → slice_index (run.front ++ run.back) l ≢ 65535 →
-        slice_index (result.front ++ result.back) l ≡ slice_index (run.front ++ run.back) l }
-    ensures others { (l : ℕ) → l < 48 → slice_index (run.front ++ run.back) l ≡ 65535 →
-        slice_index (result.front ++ result.back) l ≡ 0 }
+    ensures ranks { (l : ℕ) → l < 48 → slice_index run l ≢ 65535 → slice_index result l ≡ slice_index run l }
+    ensures others { (l : ℕ) → l < 48 → slice_index run l ≡ 65535 → slice_index result l ≡ 0 }
 {
-    FortyEight {
-        front: narrow::ridden(run.front),
-        back: sixteen::ridden(run.back),
-    }
+    beside(narrow::ridden(front_of(run)), sixteen::ridden(back_of(run)))
 }
 
 /// The labels of the lanes that fell, and another number in the others.
 #[inline(always)]
 fn of_fallen(before: FortyEight, ready: FortyEight, labels: FortyEight, other: u16) -> FortyEight
-    ensures { (l : ℕ) → l < 48 →
-        slice_index (ready.front ++ ready.back) l < slice_index (before.front ++ before.back) l →
-        slice_index (result.front ++ result.back) l ≡ slice_index (labels.front ++ labels.back) l }
+    ensures { (l : ℕ) → l < 48 → slice_index ready l < slice_index before l →
+        slice_index result l ≡ slice_index labels l }
 {
-    FortyEight {
-        front: narrow::of_fallen(before.front, ready.front, labels.front, other),
-        back: sixteen::of_fallen(before.back, ready.back, labels.back, other),
-    }
+    beside(
+        narrow::of_fallen(front_of(before), front_of(ready), front_of(labels), other),
+        sixteen::of_fallen(back_of(before), back_of(ready), back_of(labels), other),
+    )
 }
 
 /// The least of the labels that are eight lanes apart.
 #[inline(always)]
 fn least_by_eights(labels: FortyEight) -> Eight
-    ensures { AreLeast 0 6 (labels.front ++ labels.back) result }
+    ensures { AreLeast 0 6 labels result }
 {
     lower_eight(
-        narrow::least_by_eights(labels.front),
-        sixteen::least_by_eights(labels.back),
+        narrow::least_by_eights(front_of(labels)),
+        sixteen::least_by_eights(back_of(labels)),
     )
 }
 
 /// The greatest of the labels that are eight lanes apart.
 #[inline(always)]
 fn greatest_by_eights(labels: FortyEight) -> Eight
-    ensures { AreGreatest 0 6 (labels.front ++ labels.back) result }
+    ensures { AreGreatest 0 6 labels result }
 {
     higher_eight(
-        narrow::greatest_by_eights(labels.front),
-        sixteen::greatest_by_eights(labels.back),
+        narrow::greatest_by_eights(front_of(labels)),
+        sixteen::greatest_by_eights(back_of(labels)),
     )
 }
 
@@ -195,8 +218,8 @@ fn greatest_by_eights(labels: FortyEight) -> Eight
 #[inline(always)]
 fn least(labels: FortyEight) -> u32
     ensures fits { result ≤ 65535 }
-    ensures below { (l : ℕ) → l < 48 → result ≤ slice_index (labels.front ++ labels.back) l }
-    ensures some { (l : ℕ) × (l < 48) × (slice_index (labels.front ++ labels.back) l ≡ result) }
+    ensures below { (l : ℕ) → l < 48 → result ≤ slice_index labels l }
+    ensures some { (l : ℕ) × (l < 48) × (slice_index labels l ≡ result) }
 {
     least_of_eight(least_by_eights(labels))
 }
@@ -205,8 +228,8 @@ fn least(labels: FortyEight) -> u32
 #[inline(always)]
 fn greatest(labels: FortyEight) -> u32
     ensures fits { result ≤ 65535 }
-    ensures above { (l : ℕ) → l < 48 → slice_index (labels.front ++ labels.back) l ≤ result }
-    ensures some { (l : ℕ) × (l < 48) × (slice_index (labels.front ++ labels.back) l ≡ result) }
+    ensures above { (l : ℕ) → l < 48 → slice_index labels l ≤ result }
+    ensures some { (l : ℕ) × (l < 48) × (slice_index labels l ≡ result) }
 {
     greatest_of_eight(greatest_by_eights(labels))
 }

@@ -1,5 +1,5 @@
-//! Short rows of narrow lane labels: sixteen of 16 bits, for the few departures that a longer row would leave half
-//! empty.
+//! Short rows of narrow lane labels: sixteen of 16 bits. A batch of few departures fills one, where a longer row would
+//! stay half empty.
 ghost use Rattle.std.specs.Prelude.{◌≡◌, ◌≢◌, ℕ, ◌+◌, ◌*◌, ◌<◌, ◌≤◌, ◌⊎◌, refl, slice_index};
 ghost use Rattle.std.proofs.lemmas.Bool.{leb-true};
 ghost use Rattle.trip_lanes.specs.Eights.{AreLeast, AreGreatest};
@@ -31,7 +31,6 @@ impl LaneLabels for Sixteen {
 
     ghost labels = { λ row. row };
 
-    // By a vector: lanes that are stored one by one are carried through loops one by one.
     #[inline(always)]
     fn all(label: u32) -> Self {
         u16x16::splat(label as u16).to_array()

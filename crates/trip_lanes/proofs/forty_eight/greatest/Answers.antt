@@ -1,13 +1,13 @@
-use Rattle.std.proofs.Common.{◌≤◌, ◌++◌}
+use Rattle.std.proofs.Common.{◌≤◌}
 use Rattle.trip_lanes.proofs.RowsByEights.{each_label, some_label, ge_trans}
 use Rattle.trip_lanes.proofs.forty_eight.greatest.Goals as goal
 
 pub returns-clause-above : goal.returns-clause-above
 returns-clause-above c =
-    each_label (λ a b. b ≤ a) ge_trans 6 (c.args.labels.front ++ c.args.labels.back) _ _
+    each_label (λ a b. b ≤ a) ge_trans 6 c.args.labels _ _
     c.greatest_by_eights.ensures c.greatest_of_eight.ensures.above
 
 pub returns-clause-some : goal.returns-clause-some
 returns-clause-some c =
-    some_label (λ a b. b ≤ a) 6 (c.args.labels.front ++ c.args.labels.back) _ _
+    some_label (λ a b. b ≤ a) 6 c.args.labels _ _
     c.greatest_by_eights.ensures c.greatest_of_eight.ensures.some

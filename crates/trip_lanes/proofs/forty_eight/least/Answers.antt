@@ -1,13 +1,13 @@
-use Rattle.std.proofs.Common.{◌≤◌, ◌++◌}
+use Rattle.std.proofs.Common.{◌≤◌}
 use Rattle.trip_lanes.proofs.RowsByEights.{each_label, some_label, le_trans}
 use Rattle.trip_lanes.proofs.forty_eight.least.Goals as goal
 
 pub returns-clause-below : goal.returns-clause-below
 returns-clause-below c =
-    each_label (λ a b. a ≤ b) le_trans 6 (c.args.labels.front ++ c.args.labels.back) _ _
+    each_label (λ a b. a ≤ b) le_trans 6 c.args.labels _ _
     c.least_by_eights.ensures c.least_of_eight.ensures.below
 
 pub returns-clause-some : goal.returns-clause-some
 returns-clause-some c =
-    some_label (λ a b. a ≤ b) 6 (c.args.labels.front ++ c.args.labels.back) _ _
+    some_label (λ a b. a ≤ b) 6 c.args.labels _ _
     c.least_by_eights.ensures c.least_of_eight.ensures.some
