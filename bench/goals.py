@@ -35,7 +35,7 @@ from typing import Any, Callable, Iterable, Iterator, Sequence
 import ratios
 from growth import in_turns
 from shared import DATE, Study, built, parser_of, parts_among, print_head, print_row, there
-from variants import every_third_trip, with_changes, with_drawn_order
+from variants import every_third_trip, with_changes, with_drawn_order, with_more_stops
 
 FILES = {
     "town": ("origins100.csv", 100),
@@ -54,6 +54,7 @@ OF_PEERS: dict[str, Goals] = {
 OF_SPARSE: Goals = {"b": (1.8, 2.5), "beside": (1.0, None)}
 WHOLE_DAY = 1440  # departures
 CHANGE = 90  # seconds
+MORE_STOPS = range(0, 40, 5)  # that nothing serves, in feeds whose arrays lie otherwise
 FROM_ON = ["07:00:00", "120", "4", "600"]
 DURATIONS, CELLS = "rows' durations, us", "rows' cells and access, us"  # as `measure` calls them
 
@@ -144,11 +145,17 @@ def means_in_turns(options: GoalOptions, size: str, folders: Sequence[str]) -> l
 
 
 def order(options: GoalOptions) -> Iterator[Figure]:
-    """A drawn order of stops, over the order as made."""
+    """A drawn order of stops, over the order as made: means over feeds that differ by stops that nothing serves.
+
+    How arrays lie in the processor's lines of 64 bytes is chance, changes with each size, and weighs more than the order.
+    """
     for size in ("city", "metropolis"):
         folder = options.folders[size]
-        given, drawn = means_in_turns(options, size, [folder, with_drawn_order(folder, options.place)])
-        yield Figure("stops in a drawn order, over the order as made", size, drawn / given, 1.05, False)
+        orders = [folder, with_drawn_order(folder, options.place)]
+        folders = [with_more_stops(feed, options.place, count) for count in MORE_STOPS for feed in orders]
+        means = means_in_turns(options, size, folders)
+        ratio = sum(means[1::2]) / sum(means[::2])
+        yield Figure("stops in a drawn order, over the order as made", size, ratio, 1.05, False)
 
 
 def windows(options: GoalOptions) -> Iterator[Figure]:

@@ -128,6 +128,17 @@ def test_a_drawn_order_has_the_same_stops(tmp_path: Path, feed: Path) -> None:
     assert sorted(stops) == sorted(f"S{number},0" for number in range(20)) and stops[:3] != ["S0,0", "S1,0", "S2,0"]
 
 
+def test_more_stops_stand_behind_the_others(tmp_path: Path, feed: Path) -> None:
+    write_stops(feed, "stops.txt", "A,0", "B,1")
+    assert Path(variants.with_more_stops(str(feed), str(tmp_path), 2), "stops.txt").read_text().splitlines() == [
+        "stop_id,location_type",
+        "A,0",
+        "B,1",
+        "more-0,1",
+        "more-1,1",
+    ]
+
+
 def test_a_region_has_long_headways_and_school_days(tmp_path: Path) -> None:
     printed = feedgen.write_feed("region", 1, str(tmp_path))
     assert printed.startswith("size region seed 1: stops 3006, stations 3, routes 149, trips 9010, stop_times 179005")

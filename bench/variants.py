@@ -1,4 +1,4 @@
-"""Feeds made of another: with every third trip, with stops in a drawn order, with a change time at each stop."""
+"""Feeds made of another: with every third trip, with stops in a drawn order, with more stops, with change times."""
 
 import os
 import random
@@ -42,6 +42,15 @@ def with_drawn_order(folder: str, place: str) -> str:
     header, stops = lines_of(folder, "stops.txt")
     random.Random(SEED).shuffle(stops)
     write_lines(copy, "stops.txt", header, stops)
+    return copy
+
+
+def with_more_stops(folder: str, place: str, count: int) -> str:
+    """The feed with so many stops more, copies of one in any order, that no trip serves and no footpath leads to."""
+    copy = copy_but(folder, place, "stops.txt")
+    header, stops = lines_of(folder, "stops.txt")
+    rest = max(stops).split(",", 1)[1]
+    write_lines(copy, "stops.txt", header, stops + [f"more-{number},{rest}" for number in range(count)])
     return copy
 
 
