@@ -11,7 +11,8 @@ The parts, which are all measured unless --parts names some:
 
     peers     durations beside textbook RAPTOR `a`, range RAPTOR `b` (--peers) and another `measure` (--beside)
     sparse    the same of town and city with every third trip, and of the region
-    order     durations with the stops of city and metropolis in a drawn order, over those of the order as made
+    order     durations with the stops of city and metropolis in a drawn order, over those of the order as made: means
+              over eight feeds, which have up to 35 stops more that nothing serves
     windows   durations of 1, 4, 16 departures in the city, and of a whole day in the region, beside another `measure`
     days      rows of the city with three service days in the network, over one day (text left out)
     changes   durations in the city with a change time at each stop, over none
@@ -147,7 +148,7 @@ def means_in_turns(options: GoalOptions, size: str, folders: Sequence[str]) -> l
 def order(options: GoalOptions) -> Iterator[Figure]:
     """A drawn order of stops, over the order as made: means over feeds that differ by stops that nothing serves.
 
-    How arrays lie in the processor's lines of 64 bytes is chance, changes with each size, and weighs more than the order.
+    Where arrays begin in the processor's lines and pages changes with each size, and weighs more than the order.
     """
     for size in ("city", "metropolis"):
         folder = options.folders[size]
