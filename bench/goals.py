@@ -11,8 +11,8 @@ The parts, which are all measured unless --parts names some:
 
     peers     durations beside textbook RAPTOR `a`, range RAPTOR `b` (--peers) and another `measure` (--beside)
     sparse    the same of town and city with every third trip, and of the region
-    order     durations with the stops of city and metropolis in a drawn order, over those of the order as made: means
-              over eight feeds, which have up to 35 stops more that nothing serves
+    order     durations with the stops of city and metropolis in a drawn order, over those of the order as made:
+              means over eight feeds, with 0 to 35 unserved stops added
     windows   durations of 1, 4, 16 departures in the city, and of a whole day in the region, beside another `measure`
     days      rows of the city with three service days in the network, over one day (text left out)
     changes   durations in the city with a change time at each stop, over none
@@ -55,7 +55,7 @@ OF_PEERS: dict[str, Goals] = {
 OF_SPARSE: Goals = {"b": (1.8, 2.5), "beside": (1.0, None)}
 WHOLE_DAY = 1440  # departures
 CHANGE = 90  # seconds
-MORE_STOPS = range(0, 40, 5)  # that nothing serves, in feeds whose arrays lie otherwise
+MORE_STOPS = range(0, 40, 5)  # unserved stops that are added to a feed
 FROM_ON = ["07:00:00", "120", "4", "600"]
 DURATIONS, CELLS = "rows' durations, us", "rows' cells and access, us"  # as `measure` calls them
 
@@ -146,9 +146,9 @@ def means_in_turns(options: GoalOptions, size: str, folders: Sequence[str]) -> l
 
 
 def order(options: GoalOptions) -> Iterator[Figure]:
-    """A drawn order of stops, over the order as made: means over feeds that differ by stops that nothing serves.
+    """A drawn order of stops, over the order as made: means over feeds with unserved stops added.
 
-    Where arrays begin in the processor's lines and pages changes with each size, and weighs more than the order.
+    The ratio of two single feeds is uneven: it changes when some unserved stops are added to both.
     """
     for size in ("city", "metropolis"):
         folder = options.folders[size]

@@ -46,7 +46,7 @@ def with_drawn_order(folder: str, place: str) -> str:
 
 
 def with_more_stops(folder: str, place: str, count: int) -> str:
-    """The feed with so many stops more, copies of one in any order, that no trip serves and no footpath leads to."""
+    """The feed with `count` stops added, which no trip serves and no footpath leads to: copies of an existing one."""
     copy = copy_but(folder, place, "stops.txt")
     header, stops = lines_of(folder, "stops.txt")
     rest = max(stops).split(",", 1)[1]
