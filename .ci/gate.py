@@ -2,7 +2,7 @@
 """The merge gate: `rt ci` at the top of the repository, whole, and then the scripts on the program that it built.
 
     .ci/run                       the gate
-    .ci/run --quick               a first answer in some five minutes; proves nothing
+    .ci/run --quick               a first answer in minutes; proves nothing
     .ci/run --planted [CRATE ..]  tries the bugs in crates/CRATE/planted, of these crates or of all
 
 `rt ci` proves every crate and its tests, tries every must-fail edit, and runs every test and program. Then the scripts
@@ -97,13 +97,16 @@ def gate(root: Path) -> Count:
 
 
 def quick(root: Path) -> Count:
-    """The tests and the program's main job by `rt try`, the tests of the tools that run no program, and the pages."""
+    """The tests and the program's main job by `rt try`, the tests of the tools that run no program, and the pages.
+
+    The scripts begin, since the first takes longest: it may have to install packages, which leaves processors free.
+    """
     trials = ["ttm", *(name for name in reversed(repository.crates_of(root)) if has_tests(root, name))]
     scripts = [[*WITHOUT_PROGRAM[0], "--no-browser"], *WITHOUT_PROGRAM[1:]]
     with ThreadPoolExecutor(jobs()) as pool:
-        tested = pool.map(lambda name: try_crate(root, name), trials)
         checked = pool.map(lambda script: run_scripts(root, [script]), scripts)
-        return sum([*tested, *checked], Count())
+        tested = pool.map(lambda name: try_crate(root, name), trials)
+        return sum([*checked, *tested], Count())
 
 
 def try_crate(root: Path, name: str) -> Count:
