@@ -7,6 +7,7 @@ from typing import Any
 import pytest
 
 WAIT = 120  # seconds for a page to show what it was asked for, on a machine with other work
+STARTS = 5  # of the driver: the port that it was given may be another's by the time that it asks for it
 LEAFLET = Path("/usr/share/javascript/leaflet/leaflet.min.js")
 
 
@@ -18,21 +19,33 @@ def lacking() -> str | None:
     return None if LEAFLET.is_file() else "without libjs-leaflet"
 
 
+def started() -> Any:
+    """A driver with its browser; where it can't start, another start is tried."""
+    from selenium import webdriver
+    from selenium.common.exceptions import WebDriverException
+    from selenium.webdriver.chrome.service import Service
+
+    options = webdriver.ChromeOptions()
+    options.binary_location = shutil.which("chromium")
+    for word in ("--headless=new", "--no-sandbox", "--disable-gpu", "--disable-dev-shm-usage", "--hide-scrollbars"):
+        options.add_argument(word)
+    for left in reversed(range(STARTS)):
+        try:
+            return webdriver.Chrome(service=Service(shutil.which("chromedriver")), options=options)
+        except WebDriverException:
+            if not left:
+                raise
+
+
 class Browser:
     """A browser that opens pages of `ttm-tools page`."""
 
     def __init__(self) -> None:
-        webdriver = pytest.importorskip("selenium.webdriver")
+        pytest.importorskip("selenium.webdriver")
         pytest.importorskip("jinja2")
         if lacking():
             pytest.skip(str(lacking()))
-        from selenium.webdriver.chrome.service import Service
-
-        options = webdriver.ChromeOptions()
-        options.binary_location = shutil.which("chromium")
-        for word in ("--headless=new", "--no-sandbox", "--disable-gpu", "--disable-dev-shm-usage", "--hide-scrollbars"):
-            options.add_argument(word)
-        self.driver: Any = webdriver.Chrome(service=Service(shutil.which("chromedriver")), options=options)
+        self.driver: Any = started()
         self.driver.set_script_timeout(WAIT)
         self.size(1280, 800)
 
