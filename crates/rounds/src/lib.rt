@@ -6,8 +6,8 @@
 //! - `search`: [`Search`], which serves one origin after another. `query`: what is asked of it. `workspace`: what it
 //!   works in.
 //! - `skipped`: which minutes of a window are searched, and the durations of the others.
-//! - `batches`: the searched minutes, so many at a time. `narrow`, `wide`: all of them by narrow labels, in rows as each
-//!   batch needs them, or by wide ones, from the last to the first.
+//! - `batches`: the searched minutes, so many at a time. `narrow`, `wide`: all of them by narrow labels, in as many
+//!   lanes as each batch needs, or by wide ones, from the last to the first.
 //! - `bounded`: the rounds of departures side by side, within the labels of a later one.
 //! - `unreached`: which stops no journey reaches, however late, where a network's last arrivals leave it open whether
 //!   narrow labels tell all.

@@ -1,5 +1,5 @@
-//! The searched minutes of a window by narrow labels, which may not tell all arrivals. Each batch takes the row that it
-//! needs, of sixteen, thirty-two or forty-eight labels.
+//! The searched minutes of a window by narrow labels, which may not tell all arrivals. Each batch takes as many lanes
+//! as it needs: sixteen, thirty-two or forty-eight.
 ghost use Rattle.std.specs.Prelude.{◌≡◌, ℕ, ◌+◌, ◌*◌, ◌%◌, ◌<◌, ◌≤◌, ◌⊎◌, length, slice_index, IsTrue, IfOk, OnOk};
 ghost use Rattle.timetable.specs.declared.limits.TheConstants.{MOST_FOOT_SECONDS, MOST_STOPS};
 ghost use Rattle.trip_lanes.specs.declared.lanes.TheConstants.{LANES as LANES_VALUE};
@@ -116,7 +116,7 @@ fn write_bases(bases: &mut [u32], from: usize, lanes: usize, base: u32)
     }
 }
 
-/// Finds the labels of the next batch, which ends where those found begin, of as many minutes as a row has lanes. Where
+/// Finds the labels of the next batch, which ends where those found begin, of as many minutes as there are lanes. Where
 /// labels can't tell all arrivals it gives up, and says so.
 fn find_batch<R: NarrowLabels>(
     alloc: Global,
@@ -147,8 +147,8 @@ fn find_batch<R: NarrowLabels>(
     Ok(true)
 }
 
-/// Finds the labels of the next batch, in the row that it needs: sixteen, thirty-two or forty-eight minutes are one batch,
-/// and sixty-four are halved; of more, forty-eight are the next.
+/// Finds the labels of the next batch, in as many lanes as it needs: sixteen, thirty-two or forty-eight minutes are one
+/// batch, and sixty-four are halved; of more, forty-eight are the next.
 fn find_next(
     alloc: Global,
     query: Query<'_>,

@@ -30,7 +30,7 @@ const MOST_AT_ONCE: u32 = 15;
 /// from before doesn't matter. One search serves any network, and makes its workspaces anew where the size is another.
 #[derive(Drop)]
 pub struct Search {
-    /// Of labels that reach some eighteen hours, for each row that a batch may take.
+    /// Of labels that reach some eighteen hours, for each number of lanes that a batch may take.
     narrow: NarrowWorkspaces,
     /// The labels that these found.
     found: FoundLabels,
@@ -181,8 +181,7 @@ fn more_at_once(count: u32) -> u32 {
     count.saturating_mul(2).saturating_add(1).min(MOST_AT_ONCE)
 }
 
-/// The least durations of the searched minutes by wide labels, side by side for each stop, in rows that have room for
-/// all minutes.
+/// The least durations of the searched minutes by wide labels, side by side for each stop, with room for all minutes.
 fn by_wide(
     alloc: Global,
     query: Query<'_>,
@@ -194,8 +193,8 @@ fn by_wide(
     query.network.known();
     workspace.fit(alloc, query.network.stops(), query.lines)?;
     let stops = query.network.stops() as usize;
-    let rows = (query.window.minutes as usize + (LANES - 1)) / LANES;
-    let mut labels = vec![in alloc; [NEVER; LANES]; stops * rows]?;
+    let chunks = (query.window.minutes as usize + (LANES - 1)) / LANES;
+    let mut labels = vec![in alloc; [NEVER; LANES]; stops * chunks]?;
     run_window(alloc, query, workspace, &mut labels)?;
     Ok(labels)
 }

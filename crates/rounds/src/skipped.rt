@@ -103,12 +103,12 @@ pub(crate) fn count_all(
     let first = query.window.first;
     let mut labels = count_durations(alloc, view, positions, first, minutes, stops)?;
     if searched < minutes as usize {
-        let rows = (minutes as usize + (LANES - 1)) / LANES;
+        let chunks = (minutes as usize + (LANES - 1)) / LANES;
         walk_alone(
             &mut labels,
             query.network,
             query.origin,
-            rows,
+            chunks,
             minutes as usize,
         );
     }

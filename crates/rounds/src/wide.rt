@@ -59,12 +59,12 @@ pub(crate) fn run_window(
 {
     query.network.known();
     let batches = (query.searched.len() + (LANES - 1)) / LANES;
-    let rows = (query.window.minutes as usize + (LANES - 1)) / LANES;
+    let chunks = (query.window.minutes as usize + (LANES - 1)) / LANES;
     let mut bounds = no_bounds(alloc, query)?;
     for i in 0..batches {
         let at = batches - 1 - i;
         let batch = run_batch(query, LANES * at, &mut bounds, workspace);
-        write_batch(labels, workspace, batch.departs, at, rows);
+        write_batch(labels, workspace, batch.departs, at, chunks);
     }
     Ok(())
 }

@@ -13,7 +13,7 @@ pub(crate) struct Readiness<R> {
     pub labels: Vec<R>,
     /// Whether a label fell.
     pub fallen: Vec<bool>,
-    /// The labels before the first fall; of the stops in `fallen` alone. The last row is of no stop.
+    /// The labels before the first fall; of the stops in `fallen` alone. The last are of no stop.
     pub before: Vec<R>,
 }
 

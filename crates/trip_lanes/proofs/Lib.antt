@@ -11,7 +11,7 @@ pub mod ChoicesInOneLane
 pub mod LineByPositions
 pub mod WrittenLanes
 pub mod VectorParts
-pub mod RowsByEights
-pub mod RowsSideBySide
+pub mod LabelsByEights
+pub mod LanesSideBySide
 pub mod TurnedEights
 pub mod LabelsBeforeFalls

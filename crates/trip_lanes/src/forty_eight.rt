@@ -1,6 +1,6 @@
-//! Long rows of narrow lane labels: forty-eight of 16 bits, a row of thirty-two and one of sixteen side by side. They
-//! stand in one array, of which both parts are read and written as vectors: then a row stays in registers from one trip
-//! to the next. If the parts were fields of a struct, the last sixteen labels would be carried one by one.
+//! Forty-eight narrow lane labels, of 16 bits: thirty-two and sixteen side by side. They stand in one array, of which
+//! both parts are read and written as vectors: then a stop's labels stay in registers from one trip to the next. If the
+//! parts were fields of a struct, the last sixteen labels would be carried one by one.
 ghost use Rattle.std.specs.Prelude.{◌≡◌, ◌≢◌, ℕ, ◌+◌, ◌*◌, ◌<◌, ◌≤◌, ◌⊎◌, ◌-◌, refl, slice_index};
 ghost use Rattle.std.proofs.lemmas.Bool.{leb-true};
 ghost use Rattle.trip_lanes.specs.Eights.{AreLeast, AreGreatest};
@@ -16,7 +16,7 @@ use crate::{narrow, sixteen};
 use std::simd::prelude::*;
 use std::simd::{u16x16, u16x32};
 
-/// How many labels of a long row stand side by side.
+/// How many narrow labels stand side by side at most.
 const FORTY_EIGHT_LANES: usize = 48;
 
 /// How many of them are in the first part.
@@ -134,33 +134,33 @@ impl NarrowLabels for FortyEight {
 
 /// The first thirty-two labels.
 #[inline(always)]
-fn front_of(row: FortyEight) -> Narrow
-    ensures { (l : ℕ) → l < 32 → slice_index result l ≡ slice_index row l }
+fn front_of(labels: FortyEight) -> Narrow
+    ensures { (l : ℕ) → l < 32 → slice_index result l ≡ slice_index labels l }
 {
-    u16x32::from_slice(&row[0..FRONT_LANES]).to_array()
+    u16x32::from_slice(&labels[0..FRONT_LANES]).to_array()
 }
 
 /// The last sixteen.
 #[inline(always)]
-fn back_of(row: FortyEight) -> Sixteen
-    ensures { (l : ℕ) → l < 16 → slice_index result l ≡ slice_index row (32 + l) }
+fn back_of(labels: FortyEight) -> Sixteen
+    ensures { (l : ℕ) → l < 16 → slice_index result l ≡ slice_index labels (32 + l) }
 {
-    u16x16::from_slice(&row[FRONT_LANES..FORTY_EIGHT_LANES]).to_array()
+    u16x16::from_slice(&labels[FRONT_LANES..FORTY_EIGHT_LANES]).to_array()
 }
 
-/// Both parts in one row.
+/// Both parts in one array.
 #[inline(always)]
 fn beside(front: Narrow, back: Sixteen) -> FortyEight
     ensures front { (l : ℕ) → l < 32 → slice_index result l ≡ slice_index front l }
     ensures back { (l : ℕ) → l < 16 → slice_index result (32 + l) ≡ slice_index back l }
 {
-    let mut row = [0; FORTY_EIGHT_LANES];
-    front.put(&mut row, 0);
-    back.put(&mut row, FRONT_LANES);
-    row
+    let mut labels = [0; FORTY_EIGHT_LANES];
+    front.put(&mut labels, 0);
+    back.put(&mut labels, FRONT_LANES);
+    labels
 }
 
-/// For how many minutes the last sixteen depart, of those of the row.
+/// For how many of these minutes the last sixteen lanes depart.
 fn left_of(minutes: u32) -> u32
     ensures { result ≡ minutes - 32 }
 {

@@ -24,8 +24,8 @@ pub fn lower_row<R: LaneLabels>(labels: &mut [R], marked: &mut [bool], stop: usi
 }
 
 /// Lowers the lanes of a stop to these times. Where one fell the stop is noted, and at its first fall its labels before
-/// are kept. `before` has one row more than there are stops, for what is stored of a stop that is noted already: so
-/// nothing branches.
+/// are kept. `before` has labels of one stop more than there are, where what is stored of a stop that is noted already
+/// goes: so nothing branches.
 #[inline(always)]
 pub(crate) fn lower_noting<R: LaneLabels>(
     ready: &mut [R],
@@ -52,7 +52,7 @@ pub(crate) fn lower_noting<R: LaneLabels>(
     keep_first(before, stop, old, noted);
 }
 
-/// Keeps the labels of a stop, unless its first fall is noted already: then the last row takes them.
+/// Keeps the labels of a stop, unless its first fall is noted already: then those of no stop take them.
 #[inline(always)]
 fn keep_first<R: LaneLabels>(before: &mut [R], stop: usize, old: R, noted: bool)
     requires stop { stop < length before.old }

@@ -7,7 +7,7 @@
 //! (RAPTOR, its marked stops and its routes: Delling, Pajor, Werneck, ALENEX 2012.)
 //!
 //! - `lane_labels`: [`LaneLabels`], over which a search is written once. `lanes`: [`LANES`], why sixteen. `wide`,
-//!   `sixteen`, `narrow`, `forty_eight`: what each row does in each lane. `eights`: eight narrow labels, one register.
+//!   `sixteen`, `narrow`, `forty_eight`: the labels of so many lanes. `eights`: eight narrow labels, one register.
 //! - `kernels`: [`lower_row`], labels of one stop.
 //! - `line_scan`: [`scan_line`], all trips of a line in one pass over its positions.
 //! - `columns`: when the trips of a line arrive at one of its positions, and depart. `ranks`: which of them each lane

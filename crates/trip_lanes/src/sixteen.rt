@@ -1,5 +1,5 @@
-//! Short rows of narrow lane labels: sixteen of 16 bits. A batch of few departures fills one, where a longer row would
-//! stay half empty.
+//! Sixteen narrow lane labels, of 16 bits: as many as a batch of few departures needs, of which most lanes of a longer
+//! array would be dead.
 ghost use Rattle.std.specs.Prelude.{◌≡◌, ◌≢◌, ℕ, ◌+◌, ◌*◌, ◌<◌, ◌≤◌, ◌⊎◌, refl, slice_index};
 ghost use Rattle.std.proofs.lemmas.Bool.{leb-true};
 ghost use Rattle.trip_lanes.specs.Eights.{AreLeast, AreGreatest};
@@ -14,7 +14,7 @@ use crate::ranks::Span;
 use std::simd::prelude::*;
 use std::simd::u16x16;
 
-/// How many labels of a short row stand side by side: half as many as in one of thirty-two.
+/// How many labels stand side by side where few departures are searched.
 const SIXTEEN_LANES: usize = 16;
 
 /// The labels of one stop for sixteen departures, in seconds from some time on.

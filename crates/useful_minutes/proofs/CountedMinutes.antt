@@ -3,10 +3,10 @@ use Rattle.std.proofs.Common.{◌≡◌, ◌≢◌, ℕ, ◌+◌, ◌-◌, ◌*�
 use Rattle.std.proofs.Common.{ap, subst, arith}
 use Rattle.timetable.specs.declared.least.TheConstants.{NEVER}
 use Rattle.useful_minutes.specs.declared.counted.Counting.{Counting}
-use Rattle.useful_minutes.specs.declared.counted.Places.{Places}
+use Rattle.useful_minutes.specs.declared.counted.Source.{Source}
 use Rattle.useful_minutes.specs.Counted.{AreCounted}
-use Rattle.useful_minutes.specs.CountedRows.{AreDurationsTo, ArePlacesOf, HasLabels, IsCounting, IsDurationAt}
-use Rattle.useful_minutes.specs.CountedRows.{IsMore, base_at, found_at}
+use Rattle.useful_minutes.specs.CountedChunks.{AreDurationsTo, IsSourceOf, HasLabels, IsCounting, IsDurationAt}
+use Rattle.useful_minutes.specs.CountedChunks.{IsMore, base_at, found_at}
 use Rattle.useful_minutes.specs.Waits.{label_at}
 use Rattle.useful_minutes.specs.Eights.{TakesBoth, TakesNone}
 use Rattle.useful_minutes.proofs.LabelsInOrder.{some_on}
@@ -17,18 +17,18 @@ pub record IsLabelAt (c : Counting) (p m label : ℕ) : Type 0 where
   pub past : c.minutes ≤ m → label ≡ 0
 
 -- the labels that eight minutes take are theirs
-pub label_taken : (c : Counting) (p group : ℕ) (places : Places) (result : List ℕ) → IsCounting c →
-    ArePlacesOf c group places → 8 * group + 8 ≤ length c.positions.now
-    → ((l k : ℕ) → l < 8 → k < 8 → TakesBoth places.order l k →
-    slice_index result l ≡ slice_index c.found.labels.now (p * c.found.width + places.at + k))
-    → ((l : ℕ) → l < 8 → TakesNone places.order l → slice_index result l ≡ 0)
+pub label_taken : (c : Counting) (p group : ℕ) (source : Source) (result : List ℕ) → IsCounting c →
+    IsSourceOf c group source → 8 * group + 8 ≤ length c.positions.now
+    → ((l k : ℕ) → l < 8 → k < 8 → TakesBoth source.order l k →
+    slice_index result l ≡ slice_index c.found.labels.now (p * c.found.width + source.at + k))
+    → ((l : ℕ) → l < 8 → TakesNone source.order l → slice_index result l ≡ 0)
     → (l m label : ℕ) → l < 8 → m ≡ 8 * group + l → label ≡ slice_index result l → IsLabelAt c p m label
-label_taken c p group places result ok are within takes none l m label lt here is =
+label_taken c p group source result ok are within takes none l m label lt here is =
     let positions = c.positions.now in
     let on = some_on positions ok.steps (8 * group) l (omega (arith, lt, within)) in
     let k : ℕ = slice_index positions (8 * group + l) - slice_index positions (8 * group) in
     let there : k < 8 = omega (arith, on.1, lt) in
-    let same : p * c.found.width + places.at + k ≡ p * c.found.width + slice_index positions (8 * group + l) =
+    let same : p * c.found.width + source.at + k ≡ p * c.found.width + slice_index positions (8 * group + l) =
     omega (arith, on.0, are.at) in
     let minute = ap (λ (i : ℕ). found_at c p i) here in
     record {
@@ -69,19 +69,19 @@ duration_of c p m label more duration ok labels fits is by never sum =
           omega (arith, sum told, zero, never_more);
     }
 
--- the durations of so many rows are those of all minutes
+-- the durations of so many chunks are those of all minutes
 pub all_counted : (c : Counting) (stops : ℕ) (durations : List (List ℕ)) → c.minutes ≤ length c.positions.now →
     AreDurationsTo c stops durations → AreCounted c.found.width c.found.labels.now c.found.bases.now c.positions.now
     c.first c.minutes stops durations
 all_counted c stops durations few are =
-    let rows_are : (rows : ℕ) → length c.positions.now ≡ 16 * rows → length c.positions.now / 16 ≡ rows =
-    λ rows e. omega (arith, e) in
-    let each : (rows p m : ℕ) → length c.positions.now ≡ 16 * rows → p < stops → m < length c.positions.now →
-    IsDurationAt c p m (label_at rows durations p m) =
-    λ rows p m e lt within.
-    subst (λ (w : ℕ). IsDurationAt c p m (label_at w durations p m)) (rows_are rows e) (are.each p m lt within) in
+    let chunks_are : (chunks : ℕ) → length c.positions.now ≡ 16 * chunks → length c.positions.now / 16 ≡ chunks =
+    λ chunks e. omega (arith, e) in
+    let each : (chunks p m : ℕ) → length c.positions.now ≡ 16 * chunks → p < stops → m < length c.positions.now →
+    IsDurationAt c p m (label_at chunks durations p m) =
+    λ chunks p m e lt within.
+    subst (λ (w : ℕ). IsDurationAt c p m (label_at w durations p m)) (chunks_are chunks e) (are.each p m lt within) in
     record {
-      size = λ rows e. are.size ∙ ap (λ (w : ℕ). stops * w) (rows_are rows e);
-      counted = λ rows p m e lt l. (each rows p m e lt (omega (arith, l, few))).live l;
-      past = λ rows p m e lt late within. (each rows p m e lt within).past late;
+      size = λ chunks e. are.size ∙ ap (λ (w : ℕ). stops * w) (chunks_are chunks e);
+      counted = λ chunks p m e lt l. (each chunks p m e lt (omega (arith, l, few))).live l;
+      past = λ chunks p m e lt late within. (each chunks p m e lt within).past late;
     }

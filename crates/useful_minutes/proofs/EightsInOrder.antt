@@ -1,4 +1,4 @@
--- Narrow labels that are taken in another order, by the places of their bytes.
+-- Narrow labels that are taken in another order, by the positions of their bytes.
 use Rattle.std.proofs.Common.{◌≡◌, ℕ, ◌+◌, ◌*◌, ◌/◌, ◌%◌, ◌<◌, ◌⊎◌, inl, inr, List, [], ◌∷◌, length, get_or}
 use Rattle.std.proofs.Common.{sym, ◌∙◌, ap, arith, subst, ltb, w8}
 use Rattle.std.proofs.lemmas.Bool.{or_right, lt-ltb}

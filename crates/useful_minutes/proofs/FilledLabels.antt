@@ -1,9 +1,9 @@
--- Labels that are written one after another, in arrays and in the rows of stops.
+-- Labels that are written one after another, in arrays and in the chunks of stops.
 use Rattle.std.proofs.Common.{◌≡◌, ◌≢◌, ℕ, ◌+◌, ◌*◌, ◌/◌, ◌%◌, ◌<◌, ◌≤◌, ◌⊎◌, inl, inr, arith}
 use Rattle.std.proofs.Math.Nat.{mul-le-mul_right}
 use Rattle.std.proofs.lemmas.Bool.{cases_lt, cases_eq}
 
--- the position of a row lies before those of the next stop
+-- the position of a chunk lies before those of the next stop
 pub position_before : (w p q m : ℕ) → p < q → m < w → p * w + m < q * w
 position_before w p q m l k =
     let next : (p + 1) * w ≤ q * w = mul-le-mul_right w (omega arith) in
@@ -19,16 +19,16 @@ one_stop w p q m k l r e = elim (cases_lt p q) [
   ]
 ]
 
--- the rows of a stop lie within those of all
-pub rows_within : (w p stops : ℕ) → p < stops → p * w + w ≤ stops * w
-rows_within w p stops l =
+-- the chunks of a stop lie within those of all
+pub chunks_within : (w p stops : ℕ) → p < stops → p * w + w ≤ stops * w
+chunks_within w p stops l =
     let next : (p + 1) * w ≤ stops * w = mul-le-mul_right w (omega arith) in
     omega (arith, next)
 
-pub next_rows : (w p : ℕ) → (p + 1) * w ≡ p * w + w
-next_rows w p = grind arith
+pub next_chunks : (w p : ℕ) → (p + 1) * w ≡ p * w + w
+next_chunks w p = grind arith
 
--- two lanes differ in their row or in their place in it
+-- two lanes differ in their chunk or in their place in it
 pub lanes_differ : (w p q m k : ℕ) → m < 16 * w → k < 16 * w → (p ≢ q) ⊎ (k ≢ m) →
     (p * w + k / 16 ≢ q * w + m / 16) ⊎ (k % 16 ≢ m % 16)
 lanes_differ w p q m k l r apart = elim (cases_eq (k % 16) (m % 16)) [

@@ -1,4 +1,4 @@
--- Labels that are taken in another order, by the places of their bytes.
+-- Labels that are taken in another order, by the positions of their bytes.
 use Rattle.std.proofs.Common.{◌≡◌, ℕ, zero, suc, ◌+◌, ◌-◌, ◌*◌, ◌/◌, ◌%◌, ◌<◌, ◌≤◌, List, [], ◌∷◌, length, get_or}
 use Rattle.std.proofs.Common.{slice_index, sym, ◌∙◌, ap, arith, ltb, min, replicate}
 use Rattle.std.proofs.Math.Nat.{mod-eq_of_lt, add-mod_left}

@@ -16,9 +16,9 @@ pub record IsCounted (base depart label duration : ℕ) : Type 0 where
 -- window
 pub record AreCounted (width : ℕ) (found bases positions : List ℕ) (first minutes stops : ℕ)
     (labels : List (List ℕ)) : Type 0 where
-  pub size : (rows : ℕ) → length positions ≡ 16 * rows → length labels ≡ stops * rows
-  pub counted : (rows p m : ℕ) → length positions ≡ 16 * rows → p < stops → m < minutes →
+  pub size : (chunks : ℕ) → length positions ≡ 16 * chunks → length labels ≡ stops * chunks
+  pub counted : (chunks p m : ℕ) → length positions ≡ 16 * chunks → p < stops → m < minutes →
       IsCounted (slice_index bases (slice_index positions m)) (first + 60 * m)
-      (narrow_at width found p (slice_index positions m)) (label_at rows labels p m)
-  pub past : (rows p m : ℕ) → length positions ≡ 16 * rows → p < stops → minutes ≤ m → m < length positions →
-      label_at rows labels p m ≡ NEVER
+      (narrow_at width found p (slice_index positions m)) (label_at chunks labels p m)
+  pub past : (chunks p m : ℕ) → length positions ≡ 16 * chunks → p < stops → minutes ≤ m → m < length positions →
+      label_at chunks labels p m ≡ NEVER

@@ -9,14 +9,14 @@ TakesBoth order l k = (b : ℕ) → b < 2 → slice_index order (2 * l + b) ≡ 
 abbrev pub TakesNone : List ℕ → ℕ → Type 0
 TakesNone order l = (b : ℕ) → b < 2 → slice_index order (2 * l + b) ≡ 128
 
--- each place is that of one of sixteen bytes, or of none
-abbrev pub ArePlaces : List ℕ → Type 0
-ArePlaces order = (i : ℕ) → i < 16 → (slice_index order i < 16) ⊎ (slice_index order i ≡ 128)
+-- each is the position of one of sixteen bytes, or of none
+abbrev pub AreBytes : List ℕ → Type 0
+AreBytes order = (i : ℕ) → i < 16 → (slice_index order i < 16) ⊎ (slice_index order i ≡ 128)
 
 -- of eight minutes each takes the label at its position, among the eight labels that begin with the first minute's; past
 -- the window none does
 pub record IsEightOrder (positions : List ℕ) (minutes group : ℕ) (order : List ℕ) : Type 0 where
-  pub places : ArePlaces order
+  pub bytes : AreBytes order
   pub takes : (l : ℕ) → l < 8 → 8 * group + l < minutes →
       TakesBoth order l (slice_index positions (8 * group + l) - slice_index positions (8 * group))
   pub none : (l : ℕ) → l < 8 → minutes ≤ 8 * group + l → TakesNone order l

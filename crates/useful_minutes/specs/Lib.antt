@@ -1,6 +1,6 @@
 pub mod Boarding
 pub mod Counted
-pub mod CountedRows
+pub mod CountedChunks
 pub mod Eights
 pub mod Marks
 pub mod Orders

@@ -5,9 +5,9 @@ ghost use Rattle.timetable.specs.declared.limits.TheConstants.{END_OF_AXIS};
 ghost use Rattle.timetable.specs.declared.least.TheConstants.{NEVER as NEVER_VALUE};
 ghost use Rattle.trip_lanes.specs.declared.lanes.TheConstants.{LANES};
 ghost use Rattle.useful_minutes.specs.Counted.{AreCounted, narrow_at};
-ghost use Rattle.useful_minutes.specs.CountedRows.{AddsStop, AreDurationsTo, ArePlacesOf, AreRows, HasLabels};
-ghost use Rattle.useful_minutes.specs.CountedRows.{IsCounting, IsDurationAt, IsMore, IsRow};
-ghost use Rattle.useful_minutes.specs.Eights.{ArePlaces, TakesBoth, TakesNone};
+ghost use Rattle.useful_minutes.specs.CountedChunks.{AddsStop, AreDurationsTo, IsSourceOf, AreChunks, HasLabels};
+ghost use Rattle.useful_minutes.specs.CountedChunks.{IsCounting, IsDurationAt, IsMore, IsChunk};
+ghost use Rattle.useful_minutes.specs.Eights.{AreBytes, TakesBoth, TakesNone};
 ghost use Rattle.useful_minutes.specs.Orders.{AreSteps};
 ghost use Rattle.useful_minutes.specs.declared.eights.TheConstants.{EIGHT as EIGHT_VALUE};
 
@@ -44,40 +44,40 @@ struct Counting<'a> {
 
 /// How eight minutes take their labels from those of a stop: in an order, from a position on.
 #[derive(Clone, Copy)]
-struct Places {
+struct Source {
     at: usize,
     order: EightOrder,
 }
 
 /// How the durations of sixteen minutes are counted: from which labels, and how much more than these they are.
 #[derive(Clone, Copy)]
-struct Row {
-    early: Places,
-    late: Places,
+struct Chunk {
+    early: Source,
+    late: Source,
     more: Lanes,
 }
 
 /// How the minutes of a group of eight take their labels.
-fn places_of(counting: Counting<'_>, group: usize) -> Places
+fn source_of(counting: Counting<'_>, group: usize) -> Source
     requires counting { IsCounting counting }
     requires group { EIGHT_VALUE * group + EIGHT_VALUE ≤ length counting.positions.now }
-    ensures { ArePlacesOf counting.entry group result }
+    ensures { IsSourceOf counting.entry group result }
 {
-    Places {
+    Source {
         at: counting.positions[EIGHT * group] as usize,
         order: eight_order(counting.positions, counting.minutes, group),
     }
 }
 
 /// How much more than their labels the durations of sixteen minutes are: their bases less their departures.
-fn more_of(counting: Counting<'_>, row: usize) -> Lanes
+fn more_of(counting: Counting<'_>, chunk: usize) -> Lanes
     requires counting { IsCounting counting }
-    requires row { LANES * row + LANES ≤ length counting.positions.now }
-    ensures { (l : ℕ) → l < LANES → IsMore counting.entry (LANES * row + l) (slice_index result l) }
+    requires chunk { LANES * chunk + LANES ≤ length counting.positions.now }
+    ensures { (l : ℕ) → l < LANES → IsMore counting.entry (LANES * chunk + l) (slice_index result l) }
 {
     let mut more = [NEVER; LANES];
     for l in 0..LANES {
-        let minute = LANES * row + l;
+        let minute = LANES * chunk + l;
         if minute < counting.minutes as usize {
             let base = counting.found.bases[counting.positions[minute] as usize];
             more[l] = base.wrapping_sub(counting.first + 60 * minute as u32);
@@ -87,34 +87,34 @@ fn more_of(counting: Counting<'_>, row: usize) -> Lanes
 }
 
 /// How the durations of all minutes are counted, sixteen by sixteen.
-fn rows_of(alloc: Global, counting: Counting<'_>) -> Result<Vec<Row>, AllocError>
+fn chunks_of(alloc: Global, counting: Counting<'_>) -> Result<Vec<Chunk>, AllocError>
     requires counting { IsCounting counting }
-    ensures { IfOk result (λ rows. AreRows counting.entry rows.items) }
+    ensures { IfOk result (λ chunks. AreChunks counting.entry chunks.items) }
 {
-    let mut rows = Vec::new(alloc);
-    for row in 0..counting.positions.len() / LANES {
-        rows.push(Row {
-            early: places_of(counting, 2 * row),
-            late: places_of(counting, 2 * row + 1),
-            more: more_of(counting, row),
+    let mut chunks = Vec::new(alloc);
+    for chunk in 0..counting.positions.len() / LANES {
+        chunks.push(Chunk {
+            early: source_of(counting, 2 * chunk),
+            late: source_of(counting, 2 * chunk + 1),
+            more: more_of(counting, chunk),
         })?;
     }
-    Ok(rows)
+    Ok(chunks)
 }
 
 /// The labels that eight minutes take from those of a stop, which stand from one on; 0 past the window.
 #[inline(always)]
-fn taken(labels: &[u16], from: usize, places: Places) -> Eight
-    requires at { from + places.at + EIGHT_VALUE ≤ length labels.now }
-    requires order { ArePlaces places.order }
-    ensures takes { (l k : ℕ) → l < EIGHT_VALUE → k < EIGHT_VALUE → TakesBoth places.order l k →
-        slice_index result l ≡ slice_index labels.now (from + places.at + k) }
-    ensures none { (l : ℕ) → l < EIGHT_VALUE → TakesNone places.order l → slice_index result l ≡ 0 }
+fn taken(labels: &[u16], from: usize, source: Source) -> Eight
+    requires at { from + source.at + EIGHT_VALUE ≤ length labels.now }
+    requires order { AreBytes source.order }
+    ensures takes { (l k : ℕ) → l < EIGHT_VALUE → k < EIGHT_VALUE → TakesBoth source.order l k →
+        slice_index result l ≡ slice_index labels.now (from + source.at + k) }
+    ensures none { (l : ℕ) → l < EIGHT_VALUE → TakesNone source.order l → slice_index result l ≡ 0 }
     ensures small { (l : ℕ) → l < EIGHT_VALUE → slice_index result l < 2 ^ 16 }
 {
-    let at = from + places.at;
+    let at = from + source.at;
     let eight = u16x8::from_slice(&labels[at..at + EIGHT]).to_array();
-    eight_in_order(eight, places.order)
+    eight_in_order(eight, source.order)
 }
 
 /// Sixteen narrow labels as wide ones.
@@ -142,18 +142,18 @@ fn with_more(labels: Lanes, more: Lanes) -> Lanes
 
 /// The durations of sixteen minutes to a stop.
 #[inline(always)]
-fn durations_at(counting: Counting<'_>, rows: &[Row], stop: usize, row: usize) -> Lanes
+fn durations_at(counting: Counting<'_>, chunks: &[Chunk], stop: usize, chunk: usize) -> Lanes
     requires counting { IsCounting counting }
     requires labels { HasLabels counting stop }
-    requires rows { AreRows counting rows.now }
-    requires row { row < length rows.now }
-    ensures { (l : ℕ) → l < LANES → IsDurationAt counting.entry stop (LANES * row + l) (slice_index result l) }
+    requires chunks { AreChunks counting chunks.now }
+    requires chunk { chunk < length chunks.now }
+    ensures { (l : ℕ) → l < LANES → IsDurationAt counting.entry stop (LANES * chunk + l) (slice_index result l) }
 {
     let labels = counting.found.labels;
     let from = stop * counting.found.width;
-    let early = taken(labels, from, rows[row].early);
-    let late = taken(labels, from, rows[row].late);
-    with_more(widened(both(early, late)), rows[row].more)
+    let early = taken(labels, from, chunks[chunk].early);
+    let late = taken(labels, from, chunks[chunk].late);
+    with_more(widened(both(early, late)), chunks[chunk].more)
 }
 
 /// Appends the durations of all minutes to a stop.
@@ -161,16 +161,16 @@ fn durations_at(counting: Counting<'_>, rows: &[Row], stop: usize, row: usize) -
 fn count_stop(
     durations: &mut Vec<Lanes>,
     counting: Counting<'_>,
-    rows: &[Row],
+    chunks: &[Chunk],
     stop: usize,
 ) -> Result<(), AllocError>
     requires counting { IsCounting counting }
     requires labels { HasLabels counting stop }
-    requires rows { AreRows counting rows.now }
+    requires chunks { AreChunks counting chunks.now }
     ensures { OnOk result (AddsStop counting.entry stop durations.old.items durations.new.items) }
 {
-    for row in 0..rows.len() {
-        durations.push(durations_at(counting, rows, stop, row))?;
+    for chunk in 0..chunks.len() {
+        durations.push(durations_at(counting, chunks, stop, chunk))?;
     }
     Ok(())
 }
@@ -179,17 +179,17 @@ fn count_stop(
 fn count_stops(
     alloc: Global,
     counting: Counting<'_>,
-    rows: &[Row],
+    chunks: &[Chunk],
     stops: usize,
 ) -> Result<Vec<Lanes>, AllocError>
     requires counting { IsCounting counting }
     requires labels { (p : ℕ) → p < stops → HasLabels counting p }
-    requires rows { AreRows counting rows.now }
+    requires chunks { AreChunks counting chunks.now }
     ensures { IfOk result (λ durations. AreDurationsTo counting.entry stops durations.items) }
 {
-    let mut durations = Vec::with_capacity(alloc, stops.saturating_mul(rows.len()))?;
+    let mut durations = Vec::with_capacity(alloc, stops.saturating_mul(chunks.len()))?;
     for stop in 0..stops {
-        count_stop(&mut durations, counting, rows, stop)?;
+        count_stop(&mut durations, counting, chunks, stop)?;
     }
     Ok(durations)
 }
@@ -204,13 +204,13 @@ pub fn count_durations(
     minutes: u32,
     stops: usize,
 ) -> Result<Vec<Lanes>, AllocError>
-    requires rows { (rows : ℕ) × (length positions.now ≡ LANES * rows) }
+    requires chunks { (chunks : ℕ) × (length positions.now ≡ LANES * chunks) }
     requires minutes { minutes ≤ length positions.now }
     requires few { minutes ≤ 1440 }
     requires first { first < END_OF_AXIS }
     requires steps { AreSteps positions.now }
     requires within { (m : ℕ) → m < minutes → slice_index positions.now m < length found.bases.now }
-    requires places { All (λ position. position ≤ found.width) positions.now }
+    requires positions { All (λ position. position ≤ found.width) positions.now }
     requires room { stops * found.width + 8 ≤ length found.labels.now }
     requires bases { All (λ base. base < END_OF_AXIS) found.bases.now }
     requires since { (p m : ℕ) → p < stops → m < minutes →
@@ -226,7 +226,7 @@ pub fn count_durations(
         first,
         minutes,
     };
-    let rows = rows_of(alloc, counting)?;
-    let durations = count_stops(alloc, counting, &rows, stops)?;
+    let chunks = chunks_of(alloc, counting)?;
+    let durations = count_stops(alloc, counting, &chunks, stops)?;
     Ok(durations)
 }

@@ -1,6 +1,6 @@
-//! The narrow labels that stand in for others, eight minutes at a time: by the places of their bytes.
+//! The narrow labels that stand in for others, eight minutes at a time: by the positions of their bytes.
 ghost use Rattle.std.specs.Prelude.{◌≡◌, ℕ, ◌+◌, ◌*◌, ◌/◌, ◌%◌, ◌^◌, ◌<◌, ◌≤◌, length, slice_index};
-ghost use Rattle.useful_minutes.specs.Eights.{ArePlaces, IsEightOrder, TakesBoth, TakesNone};
+ghost use Rattle.useful_minutes.specs.Eights.{AreBytes, IsEightOrder, TakesBoth, TakesNone};
 ghost use Rattle.useful_minutes.specs.Orders.{AreSteps};
 
 use std::simd::prelude::*;
@@ -16,7 +16,7 @@ pub(crate) type Eight = [u16; EIGHT];
 /// For each byte of eight labels, which byte of eight others it is, or `NO_BYTE`.
 pub(crate) type EightOrder = [u8; 16];
 
-/// The place of no byte: what takes it is 0.
+/// The position of no byte: what takes it is 0.
 const NO_BYTE: u8 = 128;
 
 /// In which order eight minutes take their labels from the eight labels that begin with the first minute's. Those past
@@ -31,8 +31,8 @@ pub(crate) fn eight_order(positions: &[u32], minutes: u32, group: usize) -> Eigh
     for byte in 0..16 {
         let minute = EIGHT * group + byte / 2;
         if minute < minutes as usize {
-            let place = positions[minute] - from;
-            order[byte] = 2 * place as u8 + (byte % 2) as u8;
+            let label = positions[minute] - from;
+            order[byte] = 2 * label as u8 + (byte % 2) as u8;
         }
     }
     order
@@ -51,7 +51,7 @@ fn bytes_of_eight(labels: Eight) -> u8x16
 /// Bytes in an order, which one instruction makes. Where the order has no byte it is 0.
 #[inline(always)]
 fn moved_or_none(bytes: u8x16, order: EightOrder) -> u8x16
-    requires { ArePlaces order }
+    requires { AreBytes order }
     ensures moved { (i : ℕ) → i < 16 → slice_index order i < 16 →
         slice_index result i ≡ slice_index bytes (slice_index order i) }
     ensures none { (i : ℕ) → i < 16 → slice_index order i ≡ 128 → slice_index result i ≡ 0 }
@@ -74,7 +74,7 @@ fn eight_of_bytes(bytes: u8x16) -> Eight
 #[inline(always)]
 pub(crate) fn eight_in_order(labels: Eight, order: EightOrder) -> Eight
     requires labels { (k : ℕ) → k < EIGHT → slice_index labels k < 2 ^ 16 }
-    requires order { ArePlaces order }
+    requires order { AreBytes order }
     ensures takes { (l k : ℕ) → l < EIGHT → k < EIGHT → TakesBoth order l k →
         slice_index result l ≡ slice_index labels k }
     ensures none { (l : ℕ) → l < EIGHT → TakesNone order l → slice_index result l ≡ 0 }

@@ -5,8 +5,8 @@
 //! - `marks`: which minutes are useful.
 //! - `plan`: [`plan_for`], which minutes are searched, and which of them stands in for each minute.
 //! - `counted`: [`count_durations`], the durations of all minutes from narrow labels of the searched ones, eight at a
-//!   time by the places of `eights`.
-//! - `waits`: [`fill_in`], the same among wide labels, four at a time by the places of `orders`.
+//!   time in the orders of `eights`.
+//! - `waits`: [`fill_in`], the same among wide labels, four at a time in the orders of `orders`.
 //! - `walks`: [`walk_alone`], the walks that need no trip.
 #![tactic(auto)]
 

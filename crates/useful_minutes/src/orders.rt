@@ -1,4 +1,4 @@
-//! The labels that stand in for others, four minutes at a time: by the places of their bytes.
+//! The labels that stand in for others, four minutes at a time: by the positions of their bytes.
 ghost use Rattle.std.specs.Prelude.{◌≡◌, ℕ, ◌+◌, ◌*◌, ◌/◌, ◌%◌, ◌^◌, ◌<◌, ◌≤◌, length, slice_index, IfOk};
 ghost use Rattle.useful_minutes.specs.Orders.{AreSteps, AreOrders, IsOrder, Takes};
 
@@ -24,8 +24,8 @@ fn order_of(positions: &[u32], group: usize) -> Order
     let from = positions[AT_ONCE * group];
     let mut order = [0; 16];
     for byte in 0..16 {
-        let place = positions[AT_ONCE * group + byte / 4] - from;
-        order[byte] = 4 * place as u8 + (byte % 4) as u8;
+        let label = positions[AT_ONCE * group + byte / 4] - from;
+        order[byte] = 4 * label as u8 + (byte % 4) as u8;
     }
     order
 }

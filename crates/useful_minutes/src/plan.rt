@@ -15,8 +15,8 @@ pub const MOST_GAP: u32 = 8;
 /// How many minutes a window has at most that is short: it spans no more than sixteen such gaps.
 pub const SHORT_WINDOW: u32 = 128;
 
-/// How many minutes the shortest row of labels has. A window is searched whole unless its useful minutes take fewer of
-/// these rows.
+/// How many minutes are searched side by side at least, a chunk of them. A window is searched whole unless its useful
+/// minutes are fewer chunks.
 const SIDE_BY_SIDE: usize = 16;
 
 /// How many minutes may lie between one searched minute and the next.
@@ -175,13 +175,13 @@ fn plan_of_useful(
     Ok(plan)
 }
 
-/// Whether fewer of the shortest rows are searched where so many minutes are searched alone.
-fn saves_a_row(searched: usize, minutes: usize) -> bool {
+/// Whether fewer chunks of minutes are searched where so many minutes are searched alone.
+fn saves_a_chunk(searched: usize, minutes: usize) -> bool {
     searched.div_ceil(SIDE_BY_SIDE) < minutes.div_ceil(SIDE_BY_SIDE)
 }
 
 /// Which minutes of a window are searched from an origin, where the window begins at a second: all of them, unless the
-/// useful ones take fewer rows. There are positions for so many lanes. Out of memory is the only error.
+/// useful ones are fewer chunks. There are positions for so many lanes. Out of memory is the only error.
 pub fn plan_for(
     alloc: Global,
     network: &Renumbered<'_>,
@@ -200,9 +200,9 @@ pub fn plan_for(
     ensures skips { IfOk result (λ plan. SkipsNothing network.now origin.0 first minutes plan.minutes.items
         plan.positions.items) }
 {
-    if saves_a_row(1, minutes as usize) {
+    if saves_a_chunk(1, minutes as usize) {
         let plan = plan_of_useful(alloc, network, origin, first, minutes, lanes)?;
-        if saves_a_row(plan.minutes.len(), minutes as usize) {
+        if saves_a_chunk(plan.minutes.len(), minutes as usize) {
             return Ok(plan);
         }
     }

@@ -13,28 +13,28 @@ use std::simd::{u32x4, u32x16};
 use timetable::NEVER;
 use trip_lanes::{LANES, Lanes};
 
-/// Copies sixteen labels to their places among those of a stop.
-fn copy_row(near: &mut [u32], lanes: Lanes, row: usize)
-    requires { LANES * row + LANES ≤ length near.old }
+/// Copies sixteen labels to their positions among those of a stop.
+fn copy_chunk(near: &mut [u32], lanes: Lanes, chunk: usize)
+    requires { LANES * chunk + LANES ≤ length near.old }
     ensures same { length near.new ≡ length near.old }
-    ensures copied { (l : ℕ) → l < LANES → slice_index near.new (LANES * row + l) ≡ slice_index lanes l }
-    ensures kept { (m : ℕ) → (m < LANES * row) ⊎ (LANES * row + LANES ≤ m) →
+    ensures copied { (l : ℕ) → l < LANES → slice_index near.new (LANES * chunk + l) ≡ slice_index lanes l }
+    ensures kept { (m : ℕ) → (m < LANES * chunk) ⊎ (LANES * chunk + LANES ≤ m) →
         slice_index near.new m ≡ slice_index near.old m }
 {
     for l in 0..LANES {
-        near[LANES * row + l] = lanes[l];
+        near[LANES * chunk + l] = lanes[l];
     }
 }
 
-/// Copies the labels of a stop, of which so many rows stand side by side from one on.
-fn copy_stop(near: &mut [u32], labels: &[Lanes], from: usize, rows: usize)
-    requires near { LANES * rows ≤ length near.old }
-    requires labels { from + rows ≤ length labels.now }
+/// Copies the labels of a stop, so many chunks that stand side by side from one on.
+fn copy_stop(near: &mut [u32], labels: &[Lanes], from: usize, chunks: usize)
+    requires near { LANES * chunks ≤ length near.old }
+    requires labels { from + chunks ≤ length labels.now }
     ensures same { length near.new ≡ length near.old }
-    ensures copied { (m : ℕ) → m < LANES * rows → slice_index near.new m ≡ label_from from labels.now m }
+    ensures copied { (m : ℕ) → m < LANES * chunks → slice_index near.new m ≡ label_from from labels.now m }
 {
-    for row in 0..rows {
-        copy_row(near, labels[from + row], row);
+    for chunk in 0..chunks {
+        copy_chunk(near, labels[from + chunk], chunk);
     }
 }
 
@@ -53,7 +53,7 @@ fn four_of(near: &[u32], positions: &[u32], orders: &[Order], group: usize) -> F
     in_order(labels, orders[group])
 }
 
-/// Puts four labels at a place among sixteen.
+/// Puts four labels at a position among sixteen.
 #[inline(always)]
 fn put_four(labels: &mut [u32], at: usize, four: Four)
     requires { at + AT_ONCE_VALUE ≤ length labels.old }
@@ -69,17 +69,17 @@ fn put_four(labels: &mut [u32], at: usize, four: Four)
 
 /// The labels of the minutes that stand in for sixteen minutes.
 #[inline(always)]
-fn stand_ins_of(near: &[u32], positions: &[u32], orders: &[Order], row: usize) -> Lanes
-    requires row { LANES * row + LANES ≤ length positions.now }
+fn stand_ins_of(near: &[u32], positions: &[u32], orders: &[Order], chunk: usize) -> Lanes
+    requires chunk { LANES * chunk + LANES ≤ length positions.now }
     requires near { All (λ position. position + AT_ONCE_VALUE ≤ length near.now) positions.now }
     requires steps { AreSteps positions.now }
     requires orders { AreOrders positions.now orders.now }
     ensures { (l : ℕ) → l < LANES →
-        slice_index result l ≡ slice_index near.now (slice_index positions.now (LANES * row + l)) }
+        slice_index result l ≡ slice_index near.now (slice_index positions.now (LANES * chunk + l)) }
 {
     let mut taken = [0; LANES];
     for part in 0..LANES / AT_ONCE {
-        let group = LANES / AT_ONCE * row + part;
+        let group = LANES / AT_ONCE * chunk + part;
         put_four(
             &mut taken,
             AT_ONCE * part,
@@ -91,19 +91,19 @@ fn stand_ins_of(near: &[u32], positions: &[u32], orders: &[Order], row: usize) -
 
 /// Sixteen labels with their waits. A sum that stops at the greatest number keeps `NEVER` as it is.
 #[inline(always)]
-fn with_waits(labels: Lanes, waits: &[u32], row: usize) -> Lanes
-    requires { LANES * row + LANES ≤ length waits.now }
+fn with_waits(labels: Lanes, waits: &[u32], chunk: usize) -> Lanes
+    requires { LANES * chunk + LANES ≤ length waits.now }
     ensures { (l : ℕ) → l < LANES →
-        slice_index result l ≡ waited (slice_index labels l) (slice_index waits.now (LANES * row + l)) }
+        slice_index result l ≡ waited (slice_index labels l) (slice_index waits.now (LANES * chunk + l)) }
 {
-    let from = LANES * row;
+    let from = LANES * chunk;
     let more = u32x16::from_slice(&waits[from..from + LANES]);
     let early = u32x16::from_array(labels).simd_min(u32x16::splat(NEVER) - more);
     (early + more).to_array()
 }
 
-/// Fills in the labels of a stop, whose rows stand side by side from one on. `near` has room for those of the searched
-/// minutes, and for one row more.
+/// Fills in the labels of a stop, whose chunks stand side by side from one on. `near` has room for those of the
+/// searched minutes, and for one chunk more.
 fn fill_stop(
     labels: &mut [Lanes],
     near: &mut [u32],
@@ -112,7 +112,7 @@ fn fill_stop(
     waits: &[u32],
     from: usize,
 )
-    requires rows { (rows : ℕ) × (length positions.now ≡ LANES * rows) × (from + rows ≤ length labels.old) }
+    requires chunks { (chunks : ℕ) × (length positions.now ≡ LANES * chunks) × (from + chunks ≤ length labels.old) }
     requires near { HasRoom positions.now (length near.old) }
     requires waits { length waits.now ≡ length positions.now }
     requires steps { AreSteps positions.now }
@@ -125,9 +125,9 @@ fn fill_stop(
         slice_index_or labels.new i [] ≡ slice_index_or labels.old i [] }
 {
     copy_stop(near, labels, from, near.len() / LANES - 1);
-    for row in 0..positions.len() / LANES {
-        let taken = stand_ins_of(near, positions, orders, row);
-        labels[from + row] = with_waits(taken, waits, row);
+    for chunk in 0..positions.len() / LANES {
+        let taken = stand_ins_of(near, positions, orders, chunk);
+        labels[from + chunk] = with_waits(taken, waits, chunk);
     }
 }
 
@@ -140,16 +140,16 @@ fn fill_stops(
     waits: &[u32],
     stops: usize,
 )
-    requires rows { (rows : ℕ) × (length positions.now ≡ LANES * rows) × (length labels.old ≡ stops * rows) }
+    requires chunks { (chunks : ℕ) × (length positions.now ≡ LANES * chunks) × (length labels.old ≡ stops * chunks) }
     requires near { HasRoom positions.now (length near.old) }
     requires waits { length waits.now ≡ length positions.now }
     requires steps { AreSteps positions.now }
     requires orders { AreOrders positions.now orders.now }
     ensures { AreFilled positions.now waits.now stops labels.old labels.new }
 {
-    let rows = positions.len() / LANES;
+    let chunks = positions.len() / LANES;
     for stop in 0..stops {
-        fill_stop(labels, near, positions, orders, waits, stop * rows);
+        fill_stop(labels, near, positions, orders, waits, stop * chunks);
     }
 }
 
@@ -164,7 +164,7 @@ pub fn fill_in(
     searched: usize,
     stops: usize,
 ) -> Result<(), AllocError>
-    requires rows { (rows : ℕ) × (length positions.now ≡ LANES * rows) × (length labels.old ≡ stops * rows) }
+    requires chunks { (chunks : ℕ) × (length positions.now ≡ LANES * chunks) × (length labels.old ≡ stops * chunks) }
     requires waits { length waits.now ≡ length positions.now }
     requires steps { AreSteps positions.now }
     requires within { All (λ position. position ≤ searched) positions.now }

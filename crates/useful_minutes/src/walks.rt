@@ -7,7 +7,7 @@ ghost use Rattle.useful_minutes.specs.Waits.{label_at, IsWalked};
 use timetable::{Renumbered, StopNo};
 use trip_lanes::{LANES, Lanes};
 
-/// Lowers one label of a row to some seconds.
+/// Lowers one label of a chunk to some seconds.
 fn lower_lane(labels: &mut [Lanes], at: usize, l: usize, seconds: u32)
     requires at { at < length labels.old }
     requires l { l < LANES }
@@ -17,23 +17,23 @@ fn lower_lane(labels: &mut [Lanes], at: usize, l: usize, seconds: u32)
     ensures kept { (i k : ℕ) → (i ≢ at) ⊎ (k ≢ l) →
         slice_index (slice_index_or labels.new i []) k ≡ slice_index (slice_index_or labels.old i []) k }
 {
-    let mut row = labels[at];
-    row[l] = row[l].min(seconds);
-    labels[at] = row;
+    let mut chunk = labels[at];
+    chunk[l] = chunk[l].min(seconds);
+    labels[at] = chunk;
 }
 
 /// Lowers the labels of a stop to some seconds, for each of so many minutes.
-fn lower_stop(labels: &mut [Lanes], stop: usize, rows: usize, minutes: usize, seconds: u32)
-    requires rows { minutes ≤ LANES * rows }
-    requires labels { stop * rows + rows ≤ length labels.old }
+fn lower_stop(labels: &mut [Lanes], stop: usize, chunks: usize, minutes: usize, seconds: u32)
+    requires chunks { minutes ≤ LANES * chunks }
+    requires labels { stop * chunks + chunks ≤ length labels.old }
     ensures same { length labels.new ≡ length labels.old }
     ensures lowered { (m : ℕ) → m < minutes →
-        label_at rows labels.new stop m ≡ min (label_at rows labels.old stop m) seconds }
-    ensures kept { (p m : ℕ) → m < LANES * rows → (p ≢ stop) ⊎ (minutes ≤ m) →
-        label_at rows labels.new p m ≡ label_at rows labels.old p m }
+        label_at chunks labels.new stop m ≡ min (label_at chunks labels.old stop m) seconds }
+    ensures kept { (p m : ℕ) → m < LANES * chunks → (p ≢ stop) ⊎ (minutes ≤ m) →
+        label_at chunks labels.new p m ≡ label_at chunks labels.old p m }
 {
     for m in 0..minutes {
-        lower_lane(labels, stop * rows + m / LANES, m % LANES, seconds);
+        lower_lane(labels, stop * chunks + m / LANES, m % LANES, seconds);
     }
 }
 
@@ -42,21 +42,21 @@ pub fn walk_alone(
     labels: &mut [Lanes],
     network: &Renumbered<'_>,
     origin: StopNo,
-    rows: usize,
+    chunks: usize,
     minutes: usize,
 )
     requires origin { origin.0 < network.now.stops }
-    requires rows { minutes ≤ LANES * rows }
-    requires labels { length labels.old ≡ network.now.stops * rows }
+    requires chunks { minutes ≤ LANES * chunks }
+    requires labels { length labels.old ≡ network.now.stops * chunks }
     ensures same { length labels.new ≡ length labels.old }
     ensures walked { (p m : ℕ) → p < network.now.stops → m < minutes →
-        IsWalked network.now origin.0 p (label_at rows labels.old p m) (label_at rows labels.new p m) }
-    ensures kept { (p m : ℕ) → p < network.now.stops → minutes ≤ m → m < LANES * rows →
-        label_at rows labels.new p m ≡ label_at rows labels.old p m }
+        IsWalked network.now origin.0 p (label_at chunks labels.old p m) (label_at chunks labels.new p m) }
+    ensures kept { (p m : ℕ) → p < network.now.stops → minutes ≤ m → m < LANES * chunks →
+        label_at chunks labels.new p m ≡ label_at chunks labels.old p m }
 {
     network.known();
-    lower_stop(labels, origin.0 as usize, rows, minutes, 0);
+    lower_stop(labels, origin.0 as usize, chunks, minutes, 0);
     for (stop, seconds) in network.feet().leaving(origin) {
-        lower_stop(labels, stop.0 as usize, rows, minutes, *seconds);
+        lower_stop(labels, stop.0 as usize, chunks, minutes, *seconds);
     }
 }

@@ -9,13 +9,13 @@ pub run_window-requires-clause-room : goal.run_window-requires-clause-room
 run_window-requires-clause-room c =
     let q = c.args.query in
     let n = q.network.now in
-    let rows = batches_of q.window.minutes in
-    let none : c.in_ok-labels.labels.items ≡ replicate (c.stops-stops.result * rows) (replicate 16 NEVER) =
+    let chunks = batches_of q.window.minutes in
+    let none : c.in_ok-labels.labels.items ≡ replicate (c.stops-stops.result * chunks) (replicate 16 NEVER) =
     c.in_ok-labels.ensures.items_if_clones_equal (λ y h. search rules) in
-    let all : c.deref_mut.result.now ≡ replicate (n.stops * rows) (replicate 16 NEVER) =
+    let all : c.deref_mut.result.now ≡ replicate (n.stops * chunks) (replicate 16 NEVER) =
     c.deref_mut.ensures.value
-    ∙ (none ∙ ap (λ (x : ℕ). replicate (x * rows) (replicate 16 NEVER)) c.stops-stops.ensures) in
+    ∙ (none ∙ ap (λ (x : ℕ). replicate (x * chunks) (replicate 16 NEVER)) c.stops-stops.ensures) in
     record {
-      size = ap length all ∙ length-replicate (n.stops * rows) (replicate 16 NEVER);
+      size = ap length all ∙ length-replicate (n.stops * chunks) (replicate 16 NEVER);
       dead = all_dead n.stops (length q.searched.now) q.window.minutes c.deref_mut.result.now all;
     }

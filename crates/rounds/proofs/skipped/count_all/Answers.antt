@@ -12,14 +12,14 @@ use Rattle.rounds.proofs.CountedMinutes.{counted_since, counted_in, counted_whol
 use Rattle.rounds.proofs.skipped.count_all.Goals as goal
 use Rattle.rounds.proofs.skipped.count_all.Goals.{then-searched-minutes, else-searched-minutes}
 
-pub count_durations-requires-clause-rows : goal.count_durations-requires-clause-rows
-count_durations-requires-clause-rows c = (batches_of c.args.query.window.minutes, c.requires.plan.1.long)
+pub count_durations-requires-clause-chunks : goal.count_durations-requires-clause-chunks
+count_durations-requires-clause-chunks c = (batches_of c.args.query.window.minutes, c.requires.plan.1.long)
 
 pub count_durations-requires-clause-steps : goal.count_durations-requires-clause-steps
 count_durations-requires-clause-steps c = plan_steps _ _ _ _ _ c.requires.plan.1
 
-pub count_durations-requires-clause-places : goal.count_durations-requires-clause-places
-count_durations-requires-clause-places c k d l =
+pub count_durations-requires-clause-positions : goal.count_durations-requires-clause-positions
+count_durations-requires-clause-positions c k d l =
     let q = c.args.query in
     let plan = c.requires.plan.1 in
     let wide = c.requires.told.wide in
@@ -70,24 +70,25 @@ returns c =
     let w = q.window in
     let n = q.network.now in
     let plan = c.requires.plan.1 in
-    let rows = batches_of w.minutes in
+    let chunks = batches_of w.minutes in
     let counted = c.in_ok-labels.ensures in
     let bases = take (length q.searched.now) c.as_slice-bases.result.now in
     let stops = c.stops-stops.ensures in
     let told = handed q c.args.found.now.width c.as_slice.result.now c.as_slice-bases.result.now
     c.args.found.now.labels.items c.args.found.now.bases.items c.as_slice.ensures.value
     c.as_slice-bases.ensures.value c.requires.told in
-    let size : length c.in_ok-labels.labels.items ≡ n.stops * rows =
-    counted.size rows plan.long ∙ ap (λ (x : ℕ). x * rows) stops in
-    let past : (p m : ℕ) → p < n.stops → w.minutes ≤ m → m < 16 * rows →
+    let size : length c.in_ok-labels.labels.items ≡ n.stops * chunks =
+    counted.size chunks plan.long ∙ ap (λ (x : ℕ). x * chunks) stops in
+    let past : (p m : ℕ) → p < n.stops → w.minutes ≤ m → m < 16 * chunks →
     label_of w.minutes c.in_ok-labels.labels.items p m ≡ NEVER =
-    λ p m there past l. counted.past rows p m plan.long (omega (arith, there, stops)) past (omega (arith, l, plan.long))
+    λ p m there past l. counted.past chunks p m plan.long (omega (arith, there, stops)) past
+    (omega (arith, l, plan.long))
     in
     elim c.if-searched-minutes.branch [
       | then-searched-minutes v ↦
           let walked = v.walk_alone.ensures in
           let same = v.deref_mut.ensures.value in
-          let long : length v.walk_alone.new.labels ≡ n.stops * rows = walked.same ∙ (ap length same ∙ size) in
+          let long : length v.walk_alone.new.labels ≡ n.stops * chunks = walked.same ∙ (ap length same ∙ size) in
           let is_new = written c.in_ok-labels.labels v.walk_alone.new.labels size same v.deref_mut.ensures.len long in
           rw (v.labels-is, is_new) (record {
             size = long;
@@ -95,7 +96,7 @@ returns c =
                 counted_in q c.known.ensures c.requires.asked c.args.positions.now c.requires.plan.0 plan
                 c.requires.skips c.args.found.now.width c.as_slice.result.now bases told p m there l
                 (label_of w.minutes c.in_ok-labels.labels.items p m)
-                (counted.counted rows p m plan.long (omega (arith, there, stops)) l)
+                (counted.counted chunks p m plan.long (omega (arith, there, stops)) l)
                 (label_of w.minutes v.walk_alone.new.labels p m) (rw same at (walked.walked p m there l));
             dead = λ p m there late l. rw same at (walked.kept p m there late l) ∙ past p m there late l;
           })
@@ -105,7 +106,7 @@ returns c =
             counted_whole q c.known.ensures c.requires.asked c.args.positions.now c.requires.plan.0 plan
             c.requires.skips c.args.found.now.width c.as_slice.result.now bases told p m there l
             (label_of w.minutes c.in_ok-labels.labels.items p m)
-            (counted.counted rows p m plan.long (omega (arith, there, stops)) l) v.if-searched-minutes.false;
+            (counted.counted chunks p m plan.long (omega (arith, there, stops)) l) v.if-searched-minutes.false;
         dead = past;
       })
     ]

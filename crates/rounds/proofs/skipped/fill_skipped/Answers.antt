@@ -9,8 +9,8 @@ use Rattle.rounds.specs.Window.{departure}
 use Rattle.rounds.proofs.SkippedDepartures.{filled_in}
 use Rattle.rounds.proofs.skipped.fill_skipped.Goals as goal
 
-pub fill_in-requires-clause-rows : goal.fill_in-requires-clause-rows
-fill_in-requires-clause-rows c = (
+pub fill_in-requires-clause-chunks : goal.fill_in-requires-clause-chunks
+fill_in-requires-clause-chunks c = (
   batches_of c.args.query.window.minutes,
   c.requires.plan.long,
   c.requires.packed.size ∙ ap (λ (x : ℕ). x * batches_of c.args.query.window.minutes) (sym c.stops-stops.ensures),
@@ -47,7 +47,7 @@ returns c =
     let packed = c.requires.packed in
     let positions = c.args.positions.now in
     let searched = q.searched.now in
-    let rows = batches_of w.minutes in
+    let chunks = batches_of w.minutes in
     let room = plan.long in
     let filled = c.in_ok-fill_in.ensures in
     let walked = c.walk_alone.ensures in
@@ -58,7 +58,7 @@ returns c =
       each = λ p m there l.
           let s = plan.each m l in
           let j = slice_index positions m in
-          let label = filled.filled rows p m room (omega (arith, there, stops)) (omega (arith, l, room)) in
+          let label = filled.filled chunks p m room (omega (arith, there, stops)) (omega (arith, l, room)) in
           let wait : slice_index c.args.waits.now m ≡ departure w (slice_index searched j) - departure w m =
           let waits = s.waits in let up = s.no_earlier in omega (arith, waits, up) in
           let up = s.no_earlier in
@@ -70,7 +70,7 @@ returns c =
           (packed.each p j there s.within) wait label (walked.walked p m there l);
       dead = λ p m there past l.
           let kept = walked.kept p m there past l in
-          let label = filled.filled rows p m room (omega (arith, there, stops)) (omega (arith, l, room)) in
+          let label = filled.filled chunks p m room (omega (arith, there, stops)) (omega (arith, l, room)) in
           let after = plan.past m past l in
           let none = packed.dead p (length searched) there (omega arith) (omega (arith, few, past, l)) in
           let same = ap (λ (x : ℕ). label_of w.minutes c.args.labels.now p x) after in

@@ -101,7 +101,7 @@ loop-i-preserved c =
     let turn = c.loop-i-test.true in
     let old = c.loop-i.invariant in
     let are = c.run_batch-batch.ensures in
-    let rows = batches_of q.window.minutes in
+    let chunks = batches_of q.window.minutes in
     let new = c.write_batch.new.labels in
     let write = c.write_batch.ensures in
     let few = few_searched q.window.minutes q.searched.now c.requires.asked.searched in
@@ -113,9 +113,9 @@ loop-i-preserved c =
     (label_of q.window.minutes new p j) = λ p j there here.
     subst (λ (x : ℕ). IsSinceTo NEVER (slice_index c.run_batch-batch.result.departs (j % 16))
     (arrival_in (λ (row : List ℕ). row) c.run_batch-batch.new.workspace (j % 16) p)
-    (slice_index (slice_index_or new (p * rows + x) []) (j % 16))) here
+    (slice_index (slice_index_or new (p * chunks + x) []) (j % 16))) here
     (write.written (j % 16) p (omega arith) (within p there)) in
-    let kept : (p j : ℕ) → j < 16 * rows → at ≢ j / 16 →
+    let kept : (p j : ℕ) → j < 16 * chunks → at ≢ j / 16 →
     label_of q.window.minutes new p j ≡ label_of q.window.minutes c.loop-i.labels p j =
     λ p j l other. ap (λ (row : List ℕ). slice_index row (j % 16))
     (write.kept p (j / 16) (omega (arith, l)) (λ e. other (sym e))) in

@@ -1,5 +1,5 @@
 use Rattle.std.proofs.Common.{◌≤◌}
-use Rattle.trip_lanes.proofs.RowsByEights.{each_label, some_label, le_trans}
+use Rattle.trip_lanes.proofs.LabelsByEights.{each_label, some_label, le_trans}
 use Rattle.trip_lanes.proofs.narrow.least.Goals as goal
 
 pub returns-clause-below : goal.returns-clause-below

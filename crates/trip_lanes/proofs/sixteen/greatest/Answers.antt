@@ -1,5 +1,5 @@
 use Rattle.std.proofs.Common.{◌≤◌}
-use Rattle.trip_lanes.proofs.RowsByEights.{each_label, some_label, ge_trans}
+use Rattle.trip_lanes.proofs.LabelsByEights.{each_label, some_label, ge_trans}
 use Rattle.trip_lanes.proofs.sixteen.greatest.Goals as goal
 
 pub returns-clause-above : goal.returns-clause-above

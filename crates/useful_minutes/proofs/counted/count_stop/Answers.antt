@@ -2,14 +2,14 @@ use Rattle.std.proofs.Common.{◌≡◌, ◌+◌, ◌*◌, ◌++◌, ◌∷◌, 
 use Rattle.std.proofs.Common.{slice_index, slice_index_or}
 use Rattle.std.proofs.lemmas.Bool.{cases_lt}
 use Rattle.std.proofs.lemmas.List.{length_push, get_or_append_left, get_or-append-add}
-use Rattle.useful_minutes.specs.CountedRows.{IsDurationAt}
+use Rattle.useful_minutes.specs.CountedChunks.{IsDurationAt}
 use Rattle.useful_minutes.proofs.counted.count_stop.Goals as goal
 
-pub loop-row-preserved : goal.loop-row-preserved
-loop-row-preserved c =
-    let was = c.loop-row.invariant in
-    let old = c.loop-row.durations.items in
-    let row = c.loop-row.row in
+pub loop-chunk-preserved : goal.loop-chunk-preserved
+loop-chunk-preserved c =
+    let was = c.loop-chunk.invariant in
+    let old = c.loop-chunk.durations.items in
+    let chunk = c.loop-chunk.chunk in
     let added = c.durations_at.result in
     let start : ℕ = length c.args.durations.now.items in
     let counting = c.args.counting in
@@ -17,13 +17,13 @@ loop-row-preserved c =
     rw c.in_ok-push.ensures.items (record {
       size = omega (arith, length_push old added, was.size);
       kept = λ i l. get_or_append_left old (added ∷ []) [] i (omega (arith, l, was.size)) ∙ was.kept i l;
-      added = λ n l h lt. elim (cases_lt n row) [
+      added = λ n l h lt. elim (cases_lt n chunk) [
         | inl below ↦
             subst (λ (xs : List ℕ). IsDurationAt counting stop (16 * n + l) (slice_index xs l))
             (sym (get_or_append_left old (added ∷ []) [] (start + n) (omega (arith, below, was.size))))
             (was.added n l below lt)
         | inr ge ↦
-            let same : row ≡ n = omega (arith, ge, h) in
+            let same : chunk ≡ n = omega (arith, ge, h) in
             let e : length old + 0 ≡ start + n = omega (arith, same, was.size) in
             let here : slice_index_or (old ++ added ∷ []) (start + n) [] ≡ added =
             ap (λ (i : ℕ). slice_index_or (old ++ added ∷ []) i []) (sym e)

@@ -1,5 +1,5 @@
 use Rattle.std.proofs.Common.{◌≡◌, ℕ, ◌*◌, ◌/◌, ◌<◌, length}
-use Rattle.useful_minutes.specs.CountedRows.{IsDurationAt}
+use Rattle.useful_minutes.specs.CountedChunks.{IsDurationAt}
 use Rattle.useful_minutes.specs.Waits.{label_at}
 use Rattle.useful_minutes.proofs.counted.count_stops.Given as goal
 

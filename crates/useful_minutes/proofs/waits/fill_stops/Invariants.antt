@@ -7,7 +7,7 @@ invariant-loop-stop v =
     record {
       same : length v.labels ≡ length v.initial.labels;
       near : length v.near ≡ length v.initial.near;
-      filled : (p m : ℕ) → p < v.stop → m < length v.positions → label_at v.rows v.labels p m
-          ≡ waited (label_at v.rows v.initial.labels p (slice_index v.positions m)) (slice_index v.waits m);
-      kept : (i : ℕ) → v.stop * v.rows ≤ i → slice_index_or v.labels i [] ≡ slice_index_or v.initial.labels i [];
+      filled : (p m : ℕ) → p < v.stop → m < length v.positions → label_at v.chunks v.labels p m
+          ≡ waited (label_at v.chunks v.initial.labels p (slice_index v.positions m)) (slice_index v.waits m);
+      kept : (i : ℕ) → v.stop * v.chunks ≤ i → slice_index_or v.labels i [] ≡ slice_index_or v.initial.labels i [];
     }

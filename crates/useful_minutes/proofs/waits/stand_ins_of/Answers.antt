@@ -17,7 +17,7 @@ loop-part-preserved c =
             let j : ℕ = k - 4 * part in
             let lane : j < 4 = omega (arith, ge, l) in
             let here : 4 * part + j ≡ k = omega (arith, ge) in
-            let there : 4 * (4 * c.args.row + part) + j ≡ 16 * c.args.row + k = omega (arith, ge) in
+            let there : 4 * (4 * c.args.chunk + part) + j ≡ 16 * c.args.chunk + k = omega (arith, ge) in
             ap (λ (i : ℕ). slice_index c.put_four.new.labels i) (sym here)
             ∙ (put.put j lane ∙ (c.four_of.ensures j lane
             ∙ ap (λ (i : ℕ). slice_index near (slice_index positions i)) there))

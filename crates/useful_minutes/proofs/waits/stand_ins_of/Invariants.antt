@@ -6,5 +6,5 @@ invariant-loop-part v =
     record {
       size : length v.taken ≡ 16;
       done : (k : ℕ) → k < 4 * v.part →
-          slice_index v.taken k ≡ slice_index v.near (slice_index v.positions (16 * v.row + k));
+          slice_index v.taken k ≡ slice_index v.near (slice_index v.positions (16 * v.chunk + k));
     }

@@ -8,7 +8,7 @@ use lib.Lanes.{chunk}
 
 pub returns : goal.returns
 returns c l h =
-    let from : ℕ = 16 * c.args.row in
+    let from : ℕ = 16 * c.args.chunk in
     let all = c.args.waits.now in
     let part = take (from + 16 - from) (drop from all) in
     let part_len : 0 + 16 ≤ length part =

@@ -7,7 +7,7 @@ invariant-loop-m v =
     record {
       same : length v.labels ≡ length v.initial.labels;
       lowered : (k : ℕ) → k < v.m →
-          label_at v.rows v.labels v.stop k ≡ min (label_at v.rows v.initial.labels v.stop k) v.seconds;
-      kept : (p k : ℕ) → k < 16 * v.rows → (p ≢ v.stop) ⊎ (v.m ≤ k) →
-          label_at v.rows v.labels p k ≡ label_at v.rows v.initial.labels p k;
+          label_at v.chunks v.labels v.stop k ≡ min (label_at v.chunks v.initial.labels v.stop k) v.seconds;
+      kept : (p k : ℕ) → k < 16 * v.chunks → (p ≢ v.stop) ⊎ (v.m ≤ k) →
+          label_at v.chunks v.labels p k ≡ label_at v.chunks v.initial.labels p k;
     }

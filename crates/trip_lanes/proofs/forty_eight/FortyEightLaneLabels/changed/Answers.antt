@@ -1,5 +1,5 @@
 use Rattle.std.proofs.Common.{◌+◌, arith}
-use Rattle.trip_lanes.proofs.RowsSideBySide.{fell_in_either}
+use Rattle.trip_lanes.proofs.LanesSideBySide.{fell_in_either}
 use Rattle.trip_lanes.proofs.forty_eight.FortyEightLaneLabels.changed.Goals as goal
 
 pub changed-requires : goal.changed-requires

@@ -4,8 +4,8 @@ use Rattle.std.specs.Prelude.{slice_index_or, All}
 use Rattle.timetable.specs.declared.least.TheConstants.{NEVER}
 use Rattle.timetable.specs.declared.limits.TheConstants.{END_OF_AXIS}
 use Rattle.useful_minutes.specs.declared.counted.Counting.{Counting}
-use Rattle.useful_minutes.specs.declared.counted.Row.{Row}
-use Rattle.useful_minutes.specs.declared.counted.Places.{Places}
+use Rattle.useful_minutes.specs.declared.counted.Chunk.{Chunk}
+use Rattle.useful_minutes.specs.declared.counted.Source.{Source}
 use Rattle.useful_minutes.specs.Counted.{IsCounted, narrow_at}
 use Rattle.useful_minutes.specs.Eights.{IsEightOrder}
 use Rattle.useful_minutes.specs.Orders.{AreSteps}
@@ -19,15 +19,15 @@ base_at c m = slice_index c.found.bases.now (slice_index c.positions.now m)
 abbrev pub found_at : Counting → ℕ → ℕ → ℕ
 found_at c p m = narrow_at c.found.width c.found.labels.now p (slice_index c.positions.now m)
 
--- the minutes of a window, in rows of sixteen, with a base for each minute
+-- the minutes of a window, in chunks of sixteen, with a base for each minute
 pub record IsCounting (c : Counting) : Type 0 where
-  pub rows : (n : ℕ) × (length c.positions.now ≡ 16 * n)
+  pub chunks : (n : ℕ) × (length c.positions.now ≡ 16 * n)
   pub minutes : c.minutes ≤ length c.positions.now
   pub few : c.minutes ≤ 1440
   pub first : c.first < END_OF_AXIS
   pub steps : AreSteps c.positions.now
   pub within : (m : ℕ) → m < c.minutes → slice_index c.positions.now m < length c.found.bases.now
-  pub places : All (λ position. position ≤ c.found.width) c.positions.now
+  pub positions : All (λ position. position ≤ c.found.width) c.positions.now
   pub bases : All (λ base. base < END_OF_AXIS) c.found.bases.now
 
 -- a stop has labels, after which eight more may be read, and none is of a time before the departure
@@ -36,9 +36,9 @@ pub record HasLabels (c : Counting) (p : ℕ) : Type 0 where
   pub since : (m : ℕ) → m < c.minutes → found_at c p m ≢ 65535 → c.first + 60 * m ≤ base_at c m + found_at c p m
 
 -- eight minutes take their labels in an order, from the first minute's position on
-pub record ArePlacesOf (c : Counting) (group : ℕ) (places : Places) : Type 0 where
-  pub at : places.at ≡ slice_index c.positions.now (8 * group)
-  pub order : IsEightOrder c.positions.now c.minutes group places.order
+pub record IsSourceOf (c : Counting) (group : ℕ) (source : Source) : Type 0 where
+  pub at : source.at ≡ slice_index c.positions.now (8 * group)
+  pub order : IsEightOrder c.positions.now c.minutes group source.order
 
 -- how much more than its label the duration of minute m is, where sums wrap; past the window, where the label is 0, NEVER
 pub record IsMore (c : Counting) (m more : ℕ) : Type 0 where
@@ -46,15 +46,15 @@ pub record IsMore (c : Counting) (m more : ℕ) : Type 0 where
   pub past : c.minutes ≤ m → more ≡ NEVER
 
 -- so for sixteen minutes
-pub record IsRow (c : Counting) (n : ℕ) (row : Row) : Type 0 where
-  pub early : ArePlacesOf c (2 * n) row.early
-  pub late : ArePlacesOf c (2 * n + 1) row.late
-  pub more : (l : ℕ) → l < 16 → IsMore c (16 * n + l) (slice_index row.more l)
+pub record IsChunk (c : Counting) (n : ℕ) (chunk : Chunk) : Type 0 where
+  pub early : IsSourceOf c (2 * n) chunk.early
+  pub late : IsSourceOf c (2 * n + 1) chunk.late
+  pub more : (l : ℕ) → l < 16 → IsMore c (16 * n + l) (slice_index chunk.more l)
 
 -- and for all
-pub record AreRows (c : Counting) (rows : List Row) : Type 0 where
-  pub count : length rows ≡ length c.positions.now / 16
-  pub each : (n : ℕ) (none : Row) → n < length rows → IsRow c n (slice_index_or rows n none)
+pub record AreChunks (c : Counting) (chunks : List Chunk) : Type 0 where
+  pub count : length chunks ≡ length c.positions.now / 16
+  pub each : (n : ℕ) (none : Chunk) → n < length chunks → IsChunk c n (slice_index_or chunks n none)
 
 -- the duration of minute m to stop p; NEVER past the window
 pub record IsDurationAt (c : Counting) (p m duration : ℕ) : Type 0 where

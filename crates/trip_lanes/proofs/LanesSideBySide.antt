@@ -1,4 +1,4 @@
--- Two rows of labels side by side.
+-- Two parts of labels side by side.
 use Rattle.std.proofs.Common.{◌≡◌, ◌+◌, ◌-◌, ◌<◌, ◌⊎◌, ◌++◌, inl, inr, ℕ, List, length, slice_index, Bool, true, false}
 use Rattle.std.proofs.Common.{arith, subst, refl, sym}
 use Rattle.std.specs.Prelude.{IsTrue, ◌↔◌, ◌||◌, ◌&&◌}
@@ -27,27 +27,27 @@ pub and_by_both : (a b : Bool) → IsTrue a → IsTrue b → IsTrue (a && b)
 and_by_both true b s t = t
 and_by_both false b s t = absurd (cc)
 
--- what holds of each lane of both rows
-pub of_each_row : (P : ℕ → Type 0) (m n : ℕ) → ((l : ℕ) → l < m → P l) → ((l : ℕ) → l < n → P (m + l)) →
+-- what holds of each lane of both parts
+pub of_each_part : (P : ℕ → Type 0) (m n : ℕ) → ((l : ℕ) → l < m → P l) → ((l : ℕ) → l < n → P (m + l)) →
     (l : ℕ) → l < m + n → P l
-of_each_row P m n front back l h =
+of_each_part P m n front back l h =
     elim (cases_lt l m) [
       | inl here ↦ front l here
       | inr after ↦ subst P (omega (arith, after)) (back (l - m) (omega (arith, after, h)))
     ]
 
--- what holds of each label of both rows holds of each of the row of both
-pub of_both_rows : (P : ℕ → ℕ → Type 0) (m n : ℕ) (front back row : List ℕ) →
-    ((l : ℕ) → l < m → slice_index row l ≡ slice_index front l) →
-    ((l : ℕ) → l < n → slice_index row (m + l) ≡ slice_index back l) →
+-- what holds of each label of both parts holds of each of the labels of both
+pub of_both_parts : (P : ℕ → ℕ → Type 0) (m n : ℕ) (front back labels : List ℕ) →
+    ((l : ℕ) → l < m → slice_index labels l ≡ slice_index front l) →
+    ((l : ℕ) → l < n → slice_index labels (m + l) ≡ slice_index back l) →
     ((l : ℕ) → l < m → P l (slice_index front l)) → ((l : ℕ) → l < n → P (m + l) (slice_index back l)) →
-    (l : ℕ) → l < m + n → P l (slice_index row l)
-of_both_rows P m n front back row in_front in_back fronts backs =
-    of_each_row (λ l. P l (slice_index row l)) m n
+    (l : ℕ) → l < m + n → P l (slice_index labels l)
+of_both_parts P m n front back labels in_front in_back fronts backs =
+    of_each_part (λ l. P l (slice_index labels l)) m n
     (λ l h. subst (λ (x : ℕ). P l x) (sym (in_front l h)) (fronts l h))
     (λ l h. subst (λ (x : ℕ). P (m + l) x) (sym (in_back l h)) (backs l h))
 
--- departures of the second row go on where those of the first end
+-- departures of the second labels go on where those of the first end
 pub minutes_go_on : (first minutes l time : ℕ) → IsMinutely (first + 1920) (minutes - 32) 65535 l time →
     IsMinutely first minutes 65535 (32 + l) time
 minutes_go_on first minutes l time m =
@@ -56,7 +56,7 @@ minutes_go_on first minutes l time m =
       dead = λ h. m.dead (omega (arith, h));
     }
 
--- where the lanes of two rows are those of their parts, some lane fell if one did in either part
+-- where the lanes of two parts are those of their parts, some lane fell if one did in either part
 pub fell_in_either : (m n : ℕ) (new new_front new_back old old_front old_back : List ℕ) (one other : Bool) →
     ((l : ℕ) → l < m → slice_index new_front l ≡ slice_index new l) →
     ((l : ℕ) → l < n → slice_index new_back l ≡ slice_index new (m + l)) →
@@ -75,12 +75,12 @@ fell_in_either m n new new_front new_back old old_front old_back one other nf nb
         let low = fell.2 in
         (m + fell.0, omega (arith, fell.1), omega (arith, low, nb fell.0 fell.1, ob fell.0 fell.1))
   ],
-  λ fell. of_each_row (λ l. slice_index new l < slice_index old l → IsTrue (one || other)) m n
+  λ fell. of_each_part (λ l. slice_index new l < slice_index old l → IsTrue (one || other)) m n
       (λ l h low. or_by_one one other (ones.1 (l, h, omega (arith, low, nf l h, of l h))))
       (λ l h low. or_by_other one other (others.1 (l, h, omega (arith, low, nb l h, ob l h)))) fell.0 fell.1 fell.2,
 )
 
--- a label of the first of two rows that are joined
+-- a label of the first of two parts that are joined
 pub front_at : (front back : List ℕ) (m l : ℕ) → length front ≡ m → l < m →
     slice_index (front ++ back) l ≡ slice_index front l
 front_at front back m l long h = get_or_append_left front back 0 l (omega (arith, long, h))
