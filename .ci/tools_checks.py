@@ -25,8 +25,8 @@ from repository import PIPED, Count
 ROOT = Path(__file__).resolve().parent.parent
 CHECKED = ["tools", "bench", ".ci", "packaging", "tests"]  # folders that pass all linters
 OF_PROGRAM = "tests/program"
-MOST_AGAIN = 3  # failed tests of a folder that are run again
-FAILED = re.compile(r"^FAILED ([^\s\[]+(?:\[.*?\])?)(?: - .*)?$", re.MULTILINE)
+MOST_AGAIN = 12  # failed tests of a folder that are run again: one browser that does not start fails several
+FAILED = re.compile(r"^(?:FAILED|ERROR) ([^\s\[]+(?:\[.*?\])?)(?: - .*)?$", re.MULTILINE)
 COMMANDS = ("black", "flake8", "mypy")
 MODULES = "numpy pandas matplotlib h5py geopandas scipy pytest xdist tqdm tables shapely osmium networkx jinja2 flask"
 RENAMED = {"xdist": "pytest-xdist", "osmium": "pyosmium"}  # where Debian has another name
@@ -107,7 +107,7 @@ def test(program: str | None, without_browser: bool) -> Count:
         print("the tests of the tools are skipped: without python3-pytest and python3-numpy")
         return Count(skipped=1)
     there("matplotlib.font_manager")  # lists the fonts, once for all processes: where that is slow, it is reported
-    common = [PYTHON, "-m", "pytest", "-rfs", "-p", "no:cacheprovider"]
+    common = [PYTHON, "-m", "pytest", "-rfEs", "-p", "no:cacheprovider"]
     at_once = ["-n", str(len(os.sched_getaffinity(0))), "--dist", "loadgroup"] if there("xdist") else []
     chosen = ["-m", "program", f"--program={Path(program).resolve()}"] if program else ["-m", "not program"]
     count = tested([*common, *chosen], at_once, "tools")
@@ -119,7 +119,7 @@ def test(program: str | None, without_browser: bool) -> Count:
 
 
 def tested(command: list[str], at_once: list[str], folder: str) -> Count:
-    """Runs the tests of a folder, and counts what they say. Where few fail, these are run again by themselves."""
+    """Runs the tests of a folder, and counts what they say. Where few fail, or are not set up, these are run again."""
     status, said = run([*command, *at_once], ROOT / folder)
     count = counted(status, said)
     tests = FAILED.findall(said)
