@@ -8,7 +8,7 @@ use Rattle.timetable.specs.Journeys.{IsRide, Whereabouts, Rides}
 use Rattle.trip_lanes.specs.Cut.{cut}
 use Rattle.rounds.specs.Cut.{cut_event, cut_trip}
 use Rattle.timetable.proofs.MappedLists.{map_got, map_put}
-use Rattle.rounds.proofs.EveryJourney.{rises}
+use Rattle.useful_minutes.proofs.LineEvents.{rises}
 
 -- a ride on a trip, of which the times are told cut
 pub record IsCutRide (base cap : ℕ) (trips : List Trip) (trip j i : ℕ) (a : Whereabouts) (ready : ℕ)

@@ -1,12 +1,10 @@
 -- What is true of each journey, whenever it begins.
-use Rattle.std.proofs.Common.{◌≡◌, ℕ, zero, suc, ◌+◌, ◌-◌, ◌<◌, ◌≤◌, List, [], ◌∷◌, length, get_or, slice_index}
-use Rattle.std.proofs.Common.{slice_get, Some, refl, sym, ◌∙◌, arith}
-use Rattle.std.proofs.lemmas.Option.{slice_get_within, slice_get-get_or}
-use Rattle.timetable.proofs.KnownParts.{event_stop, event_stays, event_moves, foot_in_range}
-use Rattle.timetable.specs.declared.trips.Event.{Event}
-use Rattle.timetable.specs.declared.trips.Trip.{Trip}
+use Rattle.std.proofs.Common.{◌≡◌, ℕ, ◌+◌, ◌-◌, ◌<◌, ◌≤◌, List, [], ◌∷◌, slice_index}
+use Rattle.std.proofs.Common.{refl, sym, ◌∙◌, arith}
+use Rattle.timetable.proofs.KnownParts.{event_stop, foot_in_range}
 use Rattle.timetable.specs.Networks.{Net, IsNet, IsEvent}
 use Rattle.timetable.specs.Journeys.{Whereabouts, Leg, Ride, Walk, Journey, EndsInNoWalk, ready_at, rides, IsReached}
+use Rattle.useful_minutes.proofs.LineEvents.{rises}
 use Rattle.rounds.specs.Minutes.{IsRidden, IsReady}
 
 module _ (n : Net) (o : Whereabouts) where
@@ -53,23 +51,6 @@ module _ (n : Net) (o : Whereabouts) where
     omega arith,
   )
   ready_by_change k (Walk ∷ before) p end j few no_walk = absurd no_walk
-
--- a later event of a trip is no earlier
-pub rises : (n : Net) → IsNet n → (trip : ℕ) (t : Trip) → slice_get n.trips trip ≡ Some t →
-    (d j i : ℕ) (on off : Event) → i ≡ j + 1 + d → slice_get t.events j ≡ Some on → slice_get t.events i ≡ Some off →
-    on.depart ≤ off.arrive
-rises n ok trip t runs zero j i on off e from to =
-    let next : i ≡ j + 1 = omega arith in
-    event_moves n ok trip t j on off runs from (rw next at to)
-rises n ok trip t runs (suc d) j i on off e from to =
-    let within = slice_get_within t.events i off to in
-    let lt : j + 1 < length t.events = omega arith in
-    let mid = get_or t.events (j + 1) off in
-    let at_mid : slice_get t.events (j + 1) ≡ Some mid = slice_get-get_or t.events (j + 1) off lt in
-    let first = event_moves n ok trip t j on mid runs from at_mid in
-    let stay = event_stays n ok trip (j + 1) mid (t, runs, at_mid) in
-    let rest = rises n ok trip t runs d (j + 1) i mid off (omega arith) at_mid to in
-    omega arith
 
 module _ (n : Net) (ok : IsNet n) (o : Whereabouts) where
   -- each journey ends at a stop of the network

@@ -18,7 +18,8 @@ use Rattle.rounds.specs.Minutes.{IsRidden, IsReady}
 use Rattle.rounds.specs.CappedLabels.{IsTableTo, LaneStateTo}
 use Rattle.rounds.specs.State.{NoneEarlier, Bounds}
 use Rattle.rounds.proofs.SettledByBoth.{settled_by_both}
-use Rattle.rounds.proofs.EveryJourney.{rises, not_before, not_early, ridden_more, ready_more, reached_first}
+use Rattle.useful_minutes.proofs.LineEvents.{rises}
+use Rattle.rounds.proofs.EveryJourney.{not_before, not_early, ridden_more, ready_more, reached_first}
 use Rattle.rounds.proofs.EveryJourney.{ready_by_change}
 use Rattle.rounds.proofs.LabelTables.{AreMetTo, fits_after, fits_of, never_of, none_met, met_both, ready_met}
 use Rattle.rounds.proofs.LabelTables.{ridden_met, ready_first, ridden_on, at_start, bounded_ride, bounded_walk}

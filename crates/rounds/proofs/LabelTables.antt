@@ -13,7 +13,8 @@ use Rattle.timetable.proofs.KnownParts.{event_stop}
 use Rattle.rounds.specs.Minutes.{IsRidden, IsReady}
 use Rattle.rounds.specs.CappedLabels.{IsTableTo}
 use Rattle.rounds.specs.State.{NoneEarlier}
-use Rattle.rounds.proofs.EveryJourney.{rises, on_network, at_once, ready_by_change}
+use Rattle.useful_minutes.proofs.LineEvents.{rises}
+use Rattle.rounds.proofs.EveryJourney.{on_network, at_once, ready_by_change}
 use Rattle.rounds.proofs.LaterStarts.{sooner_ready, sooner_ridden}
 
 -- by the time of each label below never, its stop is reached

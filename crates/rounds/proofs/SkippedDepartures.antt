@@ -1,4 +1,4 @@
--- A departure finds what a later one does that can board first each trip that it can, there or earlier on its way.
+-- A departure finds what a later one does that misses nothing of it, or a walk alone.
 use Rattle.std.proofs.Common.{◌≡◌, ◌≢◌, ℕ, ◌+◌, ◌-◌, ◌<◌, ◌≤◌, ◌⊎◌, ◌↔◌, inl, inr, List, [], ◌∷◌, min, refl, sym}
 use Rattle.std.proofs.Common.{◌∙◌, ap, subst, slice_get, arith}
 use Rattle.std.proofs.lemmas.Bool.{cases_eq, cases_lt}
@@ -6,57 +6,18 @@ use Rattle.std.proofs.lemmas.Option.{same_Some, slice_get_within}
 use Rattle.timetable.specs.declared.trips.Trip.{Trip}
 use Rattle.timetable.specs.declared.limits.TheConstants.{END_OF_AXIS, MOST_FOOT_SECONDS}
 use Rattle.timetable.specs.declared.least.TheConstants.{NEVER}
+use Rattle.timetable.specs.Footpaths.{IsFoot}
 use Rattle.timetable.specs.Least.{IsLeastOrNever}
 use Rattle.timetable.specs.Networks.{Net, IsNet}
 use Rattle.timetable.specs.Journeys.{Whereabouts, Leg, Ride, Walk, Rides, Journey, EndsInNoWalk, ready_at, rides}
 use Rattle.timetable.specs.Journeys.{IsReached, IsDuration}
-use Rattle.useful_minutes.specs.Boarding.{Catches, CatchesBy, IsNear, MissesNothing}
+use Rattle.useful_minutes.specs.Boarding.{FirstRide, IsNear, MissesNothing}
 use Rattle.useful_minutes.specs.Waits.{IsWalked}
 use Rattle.useful_minutes.proofs.SearchedMinutes.{catches_sooner}
-use Rattle.rounds.specs.Useful.{IsReachedByRide, IsLaterBy, SkippedDeparturesEndAlike, SkippedDurationsFollow}
-use Rattle.rounds.proofs.EveryJourney.{at_once, not_before}
+use Rattle.rounds.specs.Useful.{IsReachedBy, IsReachedByRide, IsRiddenBy, IsWalkedBy, IsLaterBy}
+use Rattle.rounds.specs.Useful.{SkippedDeparturesEndAlike, SkippedDurationsFollow}
+use Rattle.rounds.proofs.EveryJourney.{at_once, not_before, not_early}
 use Rattle.rounds.proofs.RoundsReach.{in_bounds}
-
--- a journey without a ride is a walk alone, which another start can make as well
-pub record Unridden (n : Net) (o other : Whereabouts) (legs : List Leg) (a : Whereabouts) : Type 0 where
-  pub seconds : ℕ
-  pub near : IsNear n o.stop a.stop seconds
-  pub time : a.time ≡ o.time + seconds
-  pub too : Journey n other legs (record { stop = a.stop; time = other.time + seconds })
-
-module _ (n : Net) (o other : Whereabouts) (here : o.stop ≡ other.stop) where
-  stayed : (a : Whereabouts) → a ≡ o → (a.time ≡ o.time) × (a.stop ≡ o.stop)
-      × (record { stop = a.stop; time = other.time } ≡ other)
-  stayed a j =
-      let stop : a.stop ≡ o.stop = ap (λ (v : Whereabouts). v.stop) j in
-      (ap (λ (v : Whereabouts). v.time) j, stop, ap (λ (s : ℕ). record { stop = s; time = other.time }) (stop ∙ here))
-
-  pub unridden : (legs : List Leg) (a : Whereabouts) → rides legs ≡ 0 → Journey n o legs a → Unridden n o other legs a
-  unridden [] a none j =
-      let s = stayed a j in
-      record {
-        seconds = 0;
-        near = inl (s.1, refl);
-        time = omega (arith, s.0);
-        too = let zero : other.time + 0 ≡ other.time = omega arith in
-            ap (λ (x : ℕ). record { stop = a.stop; time = x }) zero ∙ s.2;
-      }
-  unridden (Ride trip j i ∷ before) a none h = absurd (omega (arith, none))
-  unridden (Walk ∷ []) a none (b, j, no_walk, w) =
-      let s = stayed b j in
-      record {
-        seconds = w.seconds;
-        near = inr (rw s.1 at w.foot);
-        time = omega (arith, w.there, s.0);
-        too = (
-          record { stop = b.stop; time = other.time },
-          s.2,
-          tt,
-          record { seconds = w.seconds; foot = w.foot; there = refl },
-        );
-      }
-  unridden (Walk ∷ (Ride trip j i ∷ before)) a none h = absurd (omega (arith, none))
-  unridden (Walk ∷ (Walk ∷ before)) a none (b, j, no_walk, w) = absurd no_walk
 
 -- who walks alone from a start gets there
 pub on_foot : (n : Net) (o : Whereabouts) (p seconds : ℕ) → IsNear n o.stop p seconds →
@@ -78,83 +39,115 @@ on_foot n o p seconds near = elim near [
       }
 ]
 
--- each trip that the one can board first, the other can, there or earlier on the trip's way
-abbrev CatchesAll : Net → Whereabouts → Whereabouts → Type 0
-CatchesAll n o other = (trip j : ℕ) → Catches n o.stop o.time trip j → CatchesBy n other.stop other.time trip j
-
--- a journey from another start that ends in the same place at the same time, by as many rides, and in a like leg
+-- a journey from another start that ends in the same place at the same time, by no more rides, and in a like leg
 pub record SameEnd (n : Net) (other : Whereabouts) (legs : List Leg) (b : Whereabouts) : Type 0 where
   pub others : List Leg
   pub journey : Journey n other others b
-  pub same : rides others ≡ rides legs
+  pub few : rides others ≤ rides legs
+  pub some : 0 < rides others
   pub ready : (a : Whereabouts) → ready_at n others a ≡ ready_at n legs a
   pub no_walk : EndsInNoWalk legs → EndsInNoWalk others
 
-module _ (n : Net) (o other : Whereabouts) (here : o.stop ≡ other.stop) (all : CatchesAll n o other) where
-  -- the first ride, which the other may begin earlier on the trip's way
-  first_ride : (trip j i : ℕ) (before : List Leg) (a b : Whereabouts) → rides before ≡ 0 → Journey n o before a →
-      Rides n.trips trip j i a (ready_at n before a) b → SameEnd n other (Ride trip j i ∷ before) b
-  first_ride trip j i before a b none h r =
-      let u = unridden n o other here before a none h in
-      let to = slice_get_within r.t.events i r.off r.ride.to in
-      let at = at_once n o before a (omega (arith, none)) in
-      let c : Catches n o.stop o.time trip j =
-      record {
-        t = r.t;
-        on = r.on;
-        seconds = u.seconds;
-        runs = r.runs;
-        here = r.ride.from;
-        rides_on = omega (arith, to, r.ride.later);
-        may_board = r.ride.may_board;
-        near = subst (λ (p : ℕ). IsNear n o.stop p u.seconds) r.here u.near;
-        in_time = omega (arith, at, u.time, r.in_time);
-      } in
-      let by = all trip j c in
-      let d = by.2 in
-      let same : r.t ≡ d.t = same_Some r.t d.t (sym r.runs ∙ d.runs) in
-      let start : Whereabouts = record { stop = d.on.stop.0; time = other.time + d.seconds } in
-      let foot = on_foot n other d.on.stop.0 d.seconds d.near in
-      let few = foot.few in
-      let then = at_once n other foot.legs start (omega (arith, few)) in
-      let in_time = d.in_time in
-      record {
-        others = Ride trip by.0 i ∷ foot.legs;
-        journey = (
-          start,
-          foot.journey,
-          record {
-            t = d.t;
-            on = d.on;
-            off = r.off;
-            runs = d.runs;
-            ride = record {
-              from = d.here;
-              to = ap (λ (t : Trip). slice_get t.events i) (sym same) ∙ r.ride.to;
-              later = omega (arith, by.1, r.ride.later);
-              may_board = d.may_board;
-              may_alight = r.ride.may_alight;
-            };
-            here = refl;
-            in_time = omega (arith, then, in_time);
-            there = r.there;
-          },
-        );
-        same = omega (arith, few, none);
-        ready = λ x. refl;
-        no_walk = λ e. e;
-      }
+-- on foot alone one is there as soon, and wherever one walks on from there
+pub record SoonOnFoot (n : Net) (o : Whereabouts) (legs : List Leg) (b : Whereabouts) : Type 0 where
+  pub seconds : ℕ
+  pub near : IsNear n o.stop b.stop seconds
+  pub in_time : o.time + seconds ≤ b.time
+  pub onward : EndsInNoWalk legs → (q walk : ℕ) → IsFoot n.feet.walks b.stop q walk →
+      (s : ℕ) × IsNear n o.stop q s × (o.time + s ≤ b.time + walk)
 
-  -- so each journey with a ride has one from there that ends alike
-  pub same_ends : (legs : List Leg) (b : Whereabouts) → Journey n o legs b → 0 < rides legs → SameEnd n other legs b
-  same_ends [] b j some = absurd (omega (arith, some))
-  same_ends (Ride trip j i ∷ before) b (a, h, r) some = elim (cases_eq (rides before) 0) [
-    | inl none ↦ first_ride trip j i before a b none h r
-    | inr more ↦
-        let e = same_ends before a h (omega (arith, more)) in
+module _ (n : Net) (origin one two : ℕ) (all : MissesNothing n origin one two) where
+  abbrev o : Whereabouts
+  o = record { stop = origin; time = one }
+
+  abbrev other : Whereabouts
+  other = record { stop = origin; time = two }
+
+  -- a first ride, whose trip the other boards before it ends; or where it ends one is as soon on foot
+  first_ride : (trip j i : ℕ) (before : List Leg) (a b : Whereabouts) → SoonOnFoot n o before a →
+      Rides n.trips trip j i a (ready_at n before a) b →
+      SoonOnFoot n o (Ride trip j i ∷ before) b ⊎ SameEnd n other (Ride trip j i ∷ before) b
+  first_ride trip j i before a b foot r =
+      let to = slice_get_within r.t.events i r.off r.ride.to in
+      let late = not_early n o before a in
+      let walked = foot.in_time in
+      let c : FirstRide n origin one trip j i =
+      record {
+        on = record {
+          t = r.t;
+          on = r.on;
+          seconds = foot.seconds;
+          runs = r.runs;
+          here = r.ride.from;
+          rides_on = omega (arith, to, r.ride.later);
+          may_board = r.ride.may_board;
+          near = subst (λ (p : ℕ). IsNear n origin p foot.seconds) r.here foot.near;
+          in_time = omega (arith, walked, late, r.in_time);
+        };
+        off = r.off;
+        later = r.ride.later;
+        to = r.ride.to;
+        may_alight = r.ride.may_alight;
+      } in
+      elim (all trip j i c) [
+        | inr soon ↦ inl (rw r.there (record {
+          seconds = soon.seconds;
+          near = soon.near;
+          in_time = soon.in_time;
+          onward = λ e. soon.onward;
+        }))
+        | inl by ↦
+            let d = by.2 in
+            let same : r.t ≡ d.t = same_Some r.t d.t (sym r.runs ∙ d.runs) in
+            let start : Whereabouts = record { stop = d.on.stop.0; time = two + d.seconds } in
+            let walk = on_foot n other d.on.stop.0 d.seconds d.near in
+            let few = walk.few in
+            let then = at_once n other walk.legs start (omega (arith, few)) in
+            let in_time = d.in_time in
+            inr (record {
+              others = Ride trip by.0 i ∷ walk.legs;
+              journey = (
+                start,
+                walk.journey,
+                record {
+                  t = d.t;
+                  on = d.on;
+                  off = r.off;
+                  runs = d.runs;
+                  ride = record {
+                    from = d.here;
+                    to = ap (λ (t : Trip). slice_get t.events i) (sym same) ∙ r.ride.to;
+                    later = by.1;
+                    may_board = d.may_board;
+                    may_alight = r.ride.may_alight;
+                  };
+                  here = refl;
+                  in_time = omega (arith, then, in_time);
+                  there = r.there;
+                },
+              );
+              few = omega (arith, few);
+              some = omega arith;
+              ready = λ x. refl;
+              no_walk = λ e. e;
+            })
+      ]
+
+  -- so each journey has one from there that ends alike, or on foot alone one is there as soon
+  pub same_ends : (legs : List Leg) (b : Whereabouts) → Journey n o legs b →
+      SoonOnFoot n o legs b ⊎ SameEnd n other legs b
+  same_ends [] b j = inl (rw j (record {
+    seconds = 0;
+    near = inl (refl, refl);
+    in_time = omega arith;
+    onward = λ e q walk foot. (walk, inr foot, omega arith);
+  }))
+  same_ends (Ride trip j i ∷ before) b (a, h, r) = elim (same_ends before a h) [
+    | inl foot ↦ first_ride trip j i before a b foot r
+    | inr e ↦
         let ready = e.ready a in
-        let count = e.same in
-        record {
+        let few = e.few in
+        inr (record {
           others = Ride trip j i ∷ e.others;
           journey = (
             a,
@@ -170,20 +163,30 @@ module _ (n : Net) (o other : Whereabouts) (here : o.stop ≡ other.stop) (all :
               there = r.there;
             },
           );
-          same = omega (arith, count);
+          few = omega (arith, few);
+          some = omega arith;
           ready = λ x. refl;
           no_walk = λ w. w;
-        }
+        })
   ]
-  same_ends (Walk ∷ before) b (a, h, no_walk, w) some =
-      let e = same_ends before a h some in
-      record {
-        others = Walk ∷ e.others;
-        journey = (a, e.journey, e.no_walk no_walk, w);
-        same = e.same;
-        ready = λ x. refl;
-        no_walk = λ v. v;
-      }
+  same_ends (Walk ∷ before) b (a, h, no_walk, w) = elim (same_ends before a h) [
+    | inl foot ↦
+        let on = foot.onward no_walk b.stop w.seconds w.foot in
+        inl (record {
+          seconds = on.0;
+          near = on.1;
+          in_time = omega (arith, on.2, w.there);
+          onward = λ e. absurd e;
+        })
+    | inr e ↦ inr (record {
+      others = Walk ∷ e.others;
+      journey = (a, e.journey, e.no_walk no_walk, w);
+      few = e.few;
+      some = e.some;
+      ready = λ x. refl;
+      no_walk = λ v. v;
+    })
+  ]
 
 module _ (n : Net) (origin sooner later : ℕ) (le : sooner ≤ later) (none : MissesNothing n origin sooner later) where
   abbrev first : Whereabouts
@@ -192,8 +195,8 @@ module _ (n : Net) (origin sooner later : ℕ) (le : sooner ≤ later) (none : M
   abbrev last : Whereabouts
   last = record { stop = origin; time = later }
 
-  sooner_catches : CatchesAll n last first
-  sooner_catches trip j c = (j, omega arith, catches_sooner n origin sooner later trip j le c)
+  sooner_misses_nothing : MissesNothing n origin later sooner
+  sooner_misses_nothing trip j i r = inl (j, r.later, catches_sooner n origin sooner later trip j le r.on)
 
   -- who walks alone gets there
   pub walked_alone : (k p seconds : ℕ) → IsNear n origin p seconds → IsReached n first k p (sooner + seconds)
@@ -202,50 +205,49 @@ module _ (n : Net) (origin sooner later : ℕ) (le : sooner ≤ later) (none : M
       let few = r.few in
       record { legs = r.legs; journey = r.journey; few = omega (arith, few) }
 
-  pub ends_alike : (k p time : ℕ) → IsReached n first k p time ↔ (((seconds : ℕ) × IsNear n origin p seconds
-      × (time ≡ sooner + seconds)) ⊎ IsReachedByRide n last k p time)
-  ends_alike k p time = (
-    λ r. elim (cases_eq (rides r.legs) 0) [
-      | inl alone ↦
-          let u = unridden n first last refl r.legs (record { stop = p; time = time }) alone r.journey in
-          inl (u.seconds, u.near, u.time)
-      | inr more ↦
-          let e = same_ends n first last refl none r.legs (record { stop = p; time = time }) r.journey
-          (omega (arith, more)) in
-          let count = e.same in
-          let few = r.few in
-          inr (record {
-            legs = e.others;
-            journey = e.journey;
-            few = omega (arith, count, few);
-            some = omega (arith, count, more);
-          })
+  -- a journey from the sooner departure: one is there as soon by a walk alone, or by a ride from the later one
+  pub from_sooner : (k p time : ℕ) → IsReached n first k p time →
+      IsWalkedBy n first p time ⊎ IsReachedByRide n last k p time
+  from_sooner k p time r = elim (same_ends n origin sooner later none r.legs (record { stop = p; time = time })
+      r.journey) [
+        | inl foot ↦ inl (foot.seconds, foot.near, foot.in_time)
+        | inr e ↦
+            let less = e.few in
+            let few = r.few in
+            inr (record { legs = e.others; journey = e.journey; few = omega (arith, less, few); some = e.some })
+      ]
+
+  -- a journey from the later departure: one is there as soon by a walk alone, or by a journey from the sooner one
+  from_later : (k p time : ℕ) → IsReached n last k p time → IsWalkedBy n last p time ⊎ IsReached n first k p time
+  from_later k p time r = elim (same_ends n origin later sooner sooner_misses_nothing r.legs
+      (record { stop = p; time = time }) r.journey) [
+        | inl foot ↦ inl (foot.seconds, foot.near, foot.in_time)
+        | inr e ↦
+            let less = e.few in
+            let few = r.few in
+            inr (record { legs = e.others; journey = e.journey; few = omega (arith, less, few) })
+      ]
+
+  pub end_alike : (k p time : ℕ) → IsReachedBy n first k p time ↔ (IsWalkedBy n first p time
+      ⊎ IsRiddenBy n last k p time)
+  end_alike k p time = (
+    λ r. elim (from_sooner k p r.0 r.2) [
+      | inl w ↦ let early = r.1 in inl (w.0, w.1, omega (arith, w.2, early))
+      | inr ride ↦ inr (r.0, r.1, ride)
     ],
     λ e. elim e [
-      | inl w ↦ subst (IsReached n first k p) (sym w.2) (walked_alone k p w.0 w.1)
+      | inl w ↦ (sooner + w.0, w.2, walked_alone k p w.0 w.1)
       | inr r ↦
-          let e = same_ends n last first refl sooner_catches r.legs (record { stop = p; time = time }) r.journey r.some
-          in
-          let count = e.same in
-          let few = r.few in
-          record { legs = e.others; journey = e.journey; few = omega (arith, count, few) }
+          let ride = r.2 in
+          let legs : IsReached n last k p r.0 =
+          record { legs = ride.legs; journey = ride.journey; few = ride.few } in
+          let early = r.1 in
+          elim (from_later k p r.0 legs) [
+            | inl w ↦ (sooner + w.0, omega (arith, w.2, early, le), walked_alone k p w.0 w.1)
+            | inr j ↦ (r.0, early, j)
+          ]
     ],
   )
-
-  -- a journey from the later departure, seen from the sooner one: no later than a walk alone, or with a ride
-  from_later : (k p time : ℕ) → IsReached n last k p time → ((seconds : ℕ) × IsNear n origin p seconds
-      × (time ≡ later + seconds)) ⊎ IsReached n first k p time
-  from_later k p time r = elim (cases_eq (rides r.legs) 0) [
-    | inl alone ↦
-        let u = unridden n last first refl r.legs (record { stop = p; time = time }) alone r.journey in
-        inl (u.seconds, u.near, u.time)
-    | inr more ↦ inr ((ends_alike k p time).1 (inr (record {
-      legs = r.legs;
-      journey = r.journey;
-      few = r.few;
-      some = omega (arith, more);
-    })))
-  ]
 
   module _ (ok : IsNet n) (there : origin < n.stops) (axis : later < END_OF_AXIS) (k p next waited : ℕ)
       (least : IsLeastOrNever (IsDuration n origin later k p) next) (late : IsLaterBy (later - sooner) next waited)
@@ -280,7 +282,7 @@ module _ (n : Net) (origin sooner later : ℕ) (le : sooner ≤ later) (none : M
       (least : IsLeastOrNever (IsDuration n origin later k p) next) (late : IsLaterBy (later - sooner) next waited)
       (walk : IsLeastOrNever (IsNear n origin p) alone) where
     no_less : (d : ℕ) → IsDuration n origin sooner k p d → min alone waited ≤ d
-    no_less d r = elim ((ends_alike k p (sooner + d)).0 r) [
+    no_less d r = elim (from_sooner k p (sooner + d) r) [
       | inl w ↦ let low = walk.least w.0 w.1 in omega (arith, low, w.2)
       | inr ride ↦ let low = by_ride ok there axis k p next waited least late d ride in omega (arith, low)
     ]
@@ -323,7 +325,7 @@ module _ (n : Net) (origin sooner later : ℕ) (le : sooner ≤ later) (none : M
     late = record { never_so = λ never. omega (arith, never, label_is); later = soon }
 
     lower : (d : ℕ) → IsDuration n origin sooner k p d → x ≤ d
-    lower d r = elim ((ends_alike k p (sooner + d)).0 r) [
+    lower d r = elim (from_sooner k p (sooner + d) r) [
       | inl w ↦ let low = walked.walks w.0 w.1 in omega (arith, low, w.2)
       | inr ride ↦
           let low = by_ride ok there axis k p next label least late d ride in
@@ -356,7 +358,7 @@ module _ (n : Net) (origin sooner later : ℕ) (le : sooner ≤ later) (none : M
         }
 
 pub all_end_alike : SkippedDeparturesEndAlike
-all_end_alike n origin sooner later k p time le none = ends_alike n origin sooner later le none k p time
+all_end_alike n origin sooner later k p time le none = end_alike n origin sooner later le none k p time
 
 pub all_follow : SkippedDurationsFollow
 all_follow n origin sooner later k p next waited alone ok there axis le none least late walk =

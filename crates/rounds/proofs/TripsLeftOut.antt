@@ -9,7 +9,7 @@ use Rattle.trip_lanes.specs.Cut.{cut}
 use Rattle.rounds.specs.Cut.{cut_event}
 use Rattle.rounds.specs.Laws.{FallenStopsSuffice, FallenRoundsAreFull, EarlierTripsServe, DeadLanesRideNothing}
 use Rattle.timetable.proofs.MappedLists.{map_got}
-use Rattle.rounds.proofs.EveryJourney.{rises}
+use Rattle.useful_minutes.proofs.LineEvents.{rises}
 
 pub fallen_suffice : FallenStopsSuffice
 fallen_suffice t before ready ride none still p x l c =

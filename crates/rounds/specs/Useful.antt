@@ -1,4 +1,4 @@
--- What a departure finds whose first boardings a later one has as well.
+-- What a departure finds where a later one misses nothing of it.
 use Rattle.std.specs.Prelude.{◌≡◌, ◌≢◌, ℕ, ◌+◌, ◌-◌, ◌<◌, ◌≤◌, ◌⊎◌, ◌↔◌, List, min}
 use Rattle.timetable.specs.declared.limits.TheConstants.{END_OF_AXIS}
 use Rattle.timetable.specs.declared.least.TheConstants.{NEVER}
@@ -14,14 +14,26 @@ pub record IsReachedByRide (n : Net) (origin : Whereabouts) (k p time : ℕ) : T
   pub few : rides legs ≤ k
   pub some : 0 < rides legs
 
--- a law: where the later departure misses nothing, journeys from the sooner one end as those with a ride from the later
--- one do, or as a walk alone does
+-- at stop p by this time: by some journey of at most k rides
+abbrev pub IsReachedBy : Net → Whereabouts → ℕ → ℕ → ℕ → Type 0
+IsReachedBy n origin k p time = (end : ℕ) × (end ≤ time) × IsReached n origin k p end
+
+-- by one with a ride
+abbrev pub IsRiddenBy : Net → Whereabouts → ℕ → ℕ → ℕ → Type 0
+IsRiddenBy n origin k p time = (end : ℕ) × (end ≤ time) × IsReachedByRide n origin k p end
+
+-- by a walk alone
+abbrev pub IsWalkedBy : Net → Whereabouts → ℕ → ℕ → Type 0
+IsWalkedBy n origin p time = (seconds : ℕ) × IsNear n origin.stop p seconds × (origin.time + seconds ≤ time)
+
+-- a law: where the later departure misses nothing, who sets out at the sooner one is at a stop by some time if and only
+-- if a walk alone leads there by then, or a journey with a ride from the later one
 abbrev pub SkippedDeparturesEndAlike : Type 0
 SkippedDeparturesEndAlike =
     (n : Net) (origin sooner later k p time : ℕ) → sooner ≤ later → MissesNothing n origin sooner later →
-    IsReached n (record { stop = origin; time = sooner }) k p time
-    ↔ (((seconds : ℕ) × IsNear n origin p seconds × (time ≡ sooner + seconds))
-    ⊎ IsReachedByRide n (record { stop = origin; time = later }) k p time)
+    IsReachedBy n (record { stop = origin; time = sooner }) k p time
+    ↔ (IsWalkedBy n (record { stop = origin; time = sooner }) p time
+    ⊎ IsRiddenBy n (record { stop = origin; time = later }) k p time)
 
 -- the new label is the old one and these seconds, or NEVER where the old one is
 pub record IsLaterBy (seconds old new : ℕ) : Type 0 where

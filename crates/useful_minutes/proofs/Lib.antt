@@ -2,6 +2,7 @@ pub mod WalksAlone
 pub mod FilledLabels
 pub mod SearchedMinutes
 pub mod LineEvents
+pub mod InnerStops
 pub mod LabelsInOrder
 pub mod EightsInOrder
 pub mod CountedMinutes

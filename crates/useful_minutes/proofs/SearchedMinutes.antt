@@ -277,34 +277,38 @@ catches_sooner n origin sooner later trip j le c =
       in_time = let l = c.in_time in omega (arith, l, le);
     }
 
--- waiting for the minute that stands in misses nothing: the minute that covers a trip is no sooner, or it is searched
+-- waiting for the minute that stands in misses nothing: the minute that covers a ride is no sooner, or it is searched
 pub skips_nothing : (n : Net) (origin first minutes : ℕ) (marks : List Bool) (searched positions waits : List ℕ)
     (lanes : ℕ) → length marks ≡ minutes → CoversAll n origin first marks → HasMarked marks searched →
     IsPlan minutes lanes searched positions waits → SkipsNothing n origin first minutes searched positions
-skips_nothing n origin first minutes marks searched positions waits lanes long covers has plan m l trip i c =
-    let s = plan.each m l in
-    let j = slice_index positions m in
-    let to = slice_index searched j in
-    let u = covers trip i m c in
-    let later = u.no_sooner in
-    elim (cases_lt u.minute to) [
-      | inl soon ↦
-          let below = plan.are.within j s.within in
-          let within : u.minute < length marks = omega (arith, soon, below, long) in
-          let found = has u.minute within (u.noted within) in
-          elim (cases_lt found.0 j) [
-            | inl lt ↦ let before = s.first found.0 lt in absurd (omega (arith, before, found.2, later))
-            | inr ge ↦
-                let e : j + (found.0 - j) ≡ found.0 = omega (arith, ge) in
-                let after = no_sooner minutes searched plan.are j (found.0 - j) (omega (arith, e, found.1)) in
-                let same = ap (λ (k : ℕ). slice_index searched k) e in
-                absurd (omega (arith, after.0, same, found.2, soon))
+skips_nothing n origin first minutes marks searched positions waits lanes long covers has plan m l trip i k ride =
+    elim (covers trip i k m ride) [
+      | inr soon ↦ inr soon
+      | inl u ↦
+          let s = plan.each m l in
+          let j = slice_index positions m in
+          let to = slice_index searched j in
+          let time = first + 60 * to in
+          let later = u.no_sooner in
+          elim (cases_lt u.minute to) [
+            | inl soon ↦
+                let below = plan.are.within j s.within in
+                let within : u.minute < length marks = omega (arith, soon, below, long) in
+                let found = has u.minute within (u.noted within) in
+                elim (cases_lt found.0 j) [
+                  | inl lt ↦ let before = s.first found.0 lt in absurd (omega (arith, before, found.2, later))
+                  | inr ge ↦
+                      let e : j + (found.0 - j) ≡ found.0 = omega (arith, ge) in
+                      let after = no_sooner minutes searched plan.are j (found.0 - j) (omega (arith, e, found.1)) in
+                      let same = ap (λ (k : ℕ). slice_index searched k) e in
+                      absurd (omega (arith, after.0, same, found.2, soon))
+                ]
+            | inr late ↦ inl (
+              u.j,
+              u.before,
+              catches_sooner n origin time (first + 60 * u.minute) trip u.j (omega (arith, late)) u.catches,
+            )
           ]
-      | inr late ↦ (
-        u.i,
-        u.no_later,
-        catches_sooner n origin (first + 60 * to) (first + 60 * u.minute) trip u.i (omega (arith, late)) u.catches,
-      )
     ]
 
 -- where each minute is searched, it stands in for itself
@@ -327,12 +331,13 @@ searches_all minutes lanes marks searched positions waits long all has plan m l 
 
 pub all_skip_nothing : (n : Net) (origin first minutes : ℕ) (searched positions : List ℕ) →
     SearchesAll minutes searched positions → SkipsNothing n origin first minutes searched positions
-all_skip_nothing n origin first minutes searched positions all m l trip j c =
-    let same = all m l in (
+all_skip_nothing n origin first minutes searched positions all m l trip j i ride =
+    let same = all m l in
+    inl (
       j,
-      omega arith,
+      ride.later,
       catches_sooner n origin (first + 60 * slice_index searched (slice_index positions m))
-          (first + 60 * m) trip j (omega (arith, same)) c,
+          (first + 60 * m) trip j (omega (arith, same)) ride.on,
     )
 
 -- as many searched minutes as the window has are all of them

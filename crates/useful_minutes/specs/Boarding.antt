@@ -1,4 +1,4 @@
--- Which trips a departure can board first, and when a later one misses none of them.
+-- Which trips a departure can board first, and when a later one misses none of their rides.
 use Rattle.std.specs.Prelude.{◌≡◌, ℕ, ◌+◌, ◌<◌, ◌≤◌, ◌⊎◌, length, slice_get, Some, IsTrue}
 use Rattle.timetable.specs.declared.trips.Event.{Event}
 use Rattle.timetable.specs.declared.trips.Trip.{Trip}
@@ -21,10 +21,29 @@ pub record Catches (n : Net) (origin time trip j : ℕ) : Type 0 where
   pub near : IsNear n origin on.stop.0 seconds
   pub in_time : time + seconds ≤ on.depart
 
--- who departs at this time can board the trip first at event j, or earlier on its way
-abbrev pub CatchesBy : Net → ℕ → ℕ → ℕ → ℕ → Type 0
-CatchesBy n origin time trip j = (i : ℕ) × (i ≤ j) × Catches n origin time trip i
+-- who departs at this time can board the trip first at an event before event i
+abbrev pub CatchesBefore : Net → ℕ → ℕ → ℕ → ℕ → Type 0
+CatchesBefore n origin time trip i = (j : ℕ) × (j < i) × Catches n origin time trip j
 
--- each trip that the sooner departure can board first, the later one can, there or earlier on the trip's way
+-- who departs at this time can ride first from event j of the trip to event i
+pub record FirstRide (n : Net) (origin time trip j i : ℕ) : Type 0 where
+  pub on : Catches n origin time trip j
+  pub off : Event
+  pub later : j < i
+  pub to : slice_get on.t.events i ≡ Some off
+  pub may_alight : IsTrue off.alight
+
+-- by a walk alone who departs at this time is at stop p by a second time, and at each stop that one walks to from p by
+-- when who sets out from p at the second time is there
+pub record IsAsSoonOnFoot (n : Net) (origin time p at : ℕ) : Type 0 where
+  pub seconds : ℕ
+  pub near : IsNear n origin p seconds
+  pub in_time : time + seconds ≤ at
+  pub onward : (q walk : ℕ) → IsFoot n.feet.walks p q walk → (s : ℕ) × IsNear n origin q s × (time + s ≤ at + walk)
+
+-- of each ride that the sooner departure can make first, the later one can board the trip before the ride ends; or
+-- where it ends one is as soon by a walk alone
 abbrev pub MissesNothing : Net → ℕ → ℕ → ℕ → Type 0
-MissesNothing n origin sooner later = (trip j : ℕ) → Catches n origin sooner trip j → CatchesBy n origin later trip j
+MissesNothing n origin sooner later =
+    (trip j i : ℕ) (r : FirstRide n origin sooner trip j i) →
+    CatchesBefore n origin later trip i ⊎ IsAsSoonOnFoot n origin sooner r.off.stop.0 r.off.arrive

@@ -1,6 +1,6 @@
-//! Useful minutes: from an origin, the minutes of a window whose trips a later minute can't board as well. The others
-//! need no search of their own: who departs then and waits for the next useful minute can board first each trip that
-//! could be boarded before, there or earlier on the trip's way, and so ends the same journeys.
+//! Useful minutes: from an origin, the minutes of a window with first rides that a later minute misses. The others need
+//! no search of their own: who departs then and waits for the next useful minute boards the trip of each first ride
+//! before it ends, or is as soon there by a walk alone, so that no journey ends later for it.
 //!
 //! - `marks`: which minutes are useful.
 //! - `plan`: [`plan_for`], which minutes are searched, and which of them stands in for each minute.

@@ -1,11 +1,12 @@
 //! Which minutes of a window are useful, by one look at each trip that can be boarded near the origin.
 ghost use Rattle.std.specs.Prelude.{◌≡◌, ℕ, ◌+◌, ◌*◌, ◌<◌, ◌≤◌, ◌⊎◌, length, slice_get, slice_index, Some, All, IfOk};
-ghost use Rattle.std.specs.Prelude.{OnOk};
+ghost use Rattle.std.specs.Prelude.{OnOk, IsTrue, false};
+ghost use Rattle.timetable.specs.declared.least.TheConstants.{NEVER as NEVER_VALUE};
 ghost use Rattle.timetable.specs.declared.limits.TheConstants.{END_OF_AXIS, MOST_FOOT_SECONDS};
 ghost use Rattle.timetable.specs.LineViews.{departures_in};
 ghost use Rattle.timetable.specs.Networks.{Net};
 ghost use Rattle.useful_minutes.specs.Marks.{AreBoardings, AreWalks, CoversAll, CoversLine, CoversTrip, Grows};
-ghost use Rattle.useful_minutes.specs.Marks.{HasWalks, IsLastBefore};
+ghost use Rattle.useful_minutes.specs.Marks.{HasWalks, IsLastBefore, IsInner, AreInner, StaysNear};
 
 use std::alloc::{AllocError, Global};
 use timetable::{Call, CallTimes, Lines, NEVER, Renumbered, StopNo};
@@ -28,20 +29,108 @@ fn walks_from(
     Ok(walks)
 }
 
-/// The positions from which the trips of a line can be boarded first, each with the seconds of the walk there. At the
-/// last position nobody boards.
+/// Whether a stop is inner: each stop that one walks to from it is reached no later by a walk from the origin. Stops
+/// that are a long walk away seldom are, since a footpath is limited and two don't follow one another.
+fn is_inner(network: &Renumbered<'_>, walks: &[u32], stop: StopNo) -> bool
+    requires stop { stop.0 < network.now.stops }
+    requires walks { length walks.now ≡ network.now.stops }
+    ensures { IsTrue result → IsInner network.now walks.now stop.0 }
+{
+    network.known();
+    let walk = walks[stop.0 as usize];
+    for (next, seconds) in network.feet().leaving(stop) {
+        let there = walks[next.0 as usize];
+        if walk < there && *seconds < there - walk {
+            return false;
+        }
+    }
+    true
+}
+
+/// Notes the walk to a stop, if it is inner.
+fn note_inner(network: &Renumbered<'_>, walks: &[u32], stop: StopNo, inner: &mut [u32])
+    requires stop { stop.0 < network.now.stops }
+    requires walks { length walks.now ≡ network.now.stops }
+    requires inner { AreInner network.now walks.now inner.old }
+    ensures { AreInner network.now walks.now inner.new }
+{
+    if is_inner(network, walks, stop) {
+        inner[stop.0 as usize] = walks[stop.0 as usize];
+    }
+}
+
+/// How long the walk from the origin to each inner stop takes; `NEVER` at other stops. Out of memory is the only error.
+fn inner_from(
+    alloc: Global,
+    network: &Renumbered<'_>,
+    origin: StopNo,
+    walks: &[u32],
+) -> Result<Vec<u32>, AllocError>
+    requires origin { origin.0 < network.now.stops }
+    requires walks { length walks.now ≡ network.now.stops }
+    ensures { IfOk result (λ inner. AreInner network.now walks.now inner.items) }
+{
+    network.known();
+    let mut inner = vec![in alloc; NEVER; walks.len()]?;
+    note_inner(network, walks, origin, &mut inner);
+    for (stop, _) in network.feet().leaving(origin) {
+        note_inner(network, walks, *stop, &mut inner);
+    }
+    Ok(inner)
+}
+
+/// How many seconds the walks from the origin take; `NEVER` where none leads.
+#[derive(Clone, Copy)]
+struct Nearby<'a> {
+    /// To each stop.
+    walks: &'a [u32],
+    /// To each inner stop.
+    inner: &'a [u32],
+}
+
+/// Whether a trip leads away from the origin that is boarded at a position after a walk of so many seconds. It doesn't
+/// if whoever gets off is at an inner stop that takes no longer a walk, or could have boarded in between after a walk
+/// that is no longer.
+fn leads_away(calls: &[Call], nearby: Nearby<'_>, position: usize, seconds: u32) -> bool
+    requires position { position < length calls.now }
+    requires seconds { seconds < NEVER_VALUE }
+    requires stops { All (λ c. c.stop.0 < length nearby.walks.now) calls.now }
+    requires inner { length nearby.inner.now ≡ length nearby.walks.now }
+    ensures goes_on { IsTrue result → position + 1 < length calls.now }
+    ensures stays { (result ≡ false) → StaysNear calls.now nearby.entry.walks.now nearby.entry.inner.now position
+        seconds }
+{
+    for next in position + 1..calls.len() {
+        let stop = calls[next].stop.0 as usize;
+        if calls[next].alight && seconds < nearby.inner[stop] {
+            return true;
+        }
+        if calls[next].board && next + 1 < calls.len() && nearby.walks[stop] <= seconds {
+            return false;
+        }
+    }
+    false
+}
+
+/// The positions from which trips of a line that are boarded first lead away from the origin, each with the seconds of
+/// the walk there. At the last position nobody boards.
 fn boardings_of(
     alloc: Global,
     calls: &[Call],
-    walks: &[u32],
+    nearby: Nearby<'_>,
 ) -> Result<Vec<(usize, u32)>, AllocError>
-    requires stops { All (λ c. c.stop.0 < length walks.now) calls.now }
-    ensures { IfOk result (λ boardings. AreBoardings calls.now walks.now (length calls.now) boardings.items) }
+    requires stops { All (λ c. c.stop.0 < length nearby.walks.now) calls.now }
+    requires inner { length nearby.inner.now ≡ length nearby.walks.now }
+    ensures { IfOk result (λ boardings. AreBoardings calls.now nearby.entry.walks.now nearby.entry.inner.now
+        (length calls.now) boardings.items) }
 {
     let mut boardings = Vec::new(alloc);
     for position in 0..calls.len() {
-        let seconds = walks[calls[position].stop.0 as usize];
-        if seconds != NEVER && calls[position].board && position + 1 < calls.len() {
+        let seconds = nearby.walks[calls[position].stop.0 as usize];
+        if seconds != NEVER
+            && calls[position].board
+            && leads_away(calls, nearby, position, seconds)
+        {
             boardings.push((position, seconds))?;
         }
     }
@@ -117,20 +206,21 @@ fn mark_trips(
 fn mark_line(
     alloc: Global,
     lines: &Lines,
-    walks: &[u32],
+    nearby: Nearby<'_>,
     line: u32,
     first: u32,
     marks: &mut [bool],
 ) -> Result<(), AllocError>
     requires first { first < END_OF_AXIS }
     requires line { line < length lines.now.lines }
-    requires walks { (n : Net) × (origin : ℕ) × HasWalks n origin lines.now walks.now }
+    requires walks { (n : Net) × (origin : ℕ) × HasWalks n origin lines.now nearby.walks.now nearby.inner.now }
     ensures grows { Grows marks.old marks.new }
-    ensures covers { OnOk result ((n : Net) (origin : ℕ) → HasWalks n origin lines.now walks.now →
+    ensures covers { OnOk result ((n : Net) (origin : ℕ) →
+        HasWalks n origin lines.now nearby.entry.walks.now nearby.entry.inner.now →
         CoversLine n origin first lines.now.lines marks.new line) }
 {
     let calls = lines.calls_of(line);
-    let boardings = boardings_of(alloc, calls, walks)?;
+    let boardings = boardings_of(alloc, calls, nearby)?;
     let trips = lines.trips_of(line).len();
     if boardings.len() > 0 {
         mark_trips(
@@ -160,9 +250,14 @@ pub fn mark_useful(
 {
     network.known();
     let walks = walks_from(alloc, network, origin)?;
+    let inner = inner_from(alloc, network, origin, &walks)?;
+    let nearby = Nearby {
+        walks: walks.as_slice(),
+        inner: inner.as_slice(),
+    };
     let lines = network.lines();
     for line in 0..lines.count() {
-        mark_line(alloc, lines, &walks, line as u32, first, marks)?;
+        mark_line(alloc, lines, nearby, line as u32, first, marks)?;
     }
     Ok(())
 }

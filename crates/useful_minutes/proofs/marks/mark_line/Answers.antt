@@ -11,8 +11,9 @@ boardings_of-requires c =
     let lines = c.args.lines.now in
     let v = times_of_line n lines has.lined c.args.line c.calls_of-calls.result.now c.calls_of-calls.ensures in
     record {
-      stops = calls_in_range n c.requires.walks.1 c.args.walks.now has.ok has.walked lines has.lined c.args.line v.row
-          c.calls_of-calls.result.now v.times v.at v.view;
+      stops = calls_in_range n c.requires.walks.1 c.args.nearby.walks.now has.ok has.walked lines has.lined c.args.line
+          v.row c.calls_of-calls.result.now v.times v.at v.view;
+      inner = has.noted.long;
     }
 
 pub mark_trips-requires-clause-size : goal.mark_trips-requires-clause-size
@@ -32,8 +33,9 @@ mark_trips-requires-clause-inside c =
     let view = has.lined.viewed.view c.args.line row calls times c.trips_of-trips.ensures c.calls_of-calls.ensures
     c.times_of.ensures in
     let bs = c.in_ok-boardings.boardings.items in
-    rw c.deref.ensures.value (boardings_inside c.requires.walks.0 c.requires.walks.1 c.args.walks.now has.ok has.walked
-    c.args.lines.now has.lined c.args.line row calls times c.trips_of-trips.ensures view bs c.in_ok-boardings.ensures)
+    rw c.deref.ensures.value (boardings_inside c.requires.walks.0 c.requires.walks.1 c.args.nearby.walks.now has.ok
+    has.walked c.args.lines.now has.lined c.args.line row calls times c.trips_of-trips.ensures view
+    c.args.nearby.inner.now has.noted bs c.in_ok-boardings.ensures)
 
 pub returns-clause-covers : goal.returns-clause-covers
 returns-clause-covers c n origin has =
@@ -47,13 +49,13 @@ returns-clause-covers c n origin has =
           let times = w.times_of.result.now in
           let view = has.lined.viewed.view line row calls times c.trips_of-trips.ensures c.calls_of-calls.ensures
           w.times_of.ensures in
-          rw w.marks-is (line_covers n origin c.args.walks.now has.ok has.walked lines has.lined line row calls times
-          c.trips_of-trips.ensures view bs c.in_ok-boardings.ensures c.args.first w.mark_trips.new.marks
-          (rw w.deref.ensures.value at w.mark_trips.ensures.covers))
+          rw w.marks-is (line_covers n origin c.args.nearby.walks.now has.ok has.walked lines has.lined line row calls
+          times c.trips_of-trips.ensures view c.args.nearby.inner.now has.noted bs c.in_ok-boardings.ensures
+          c.args.first w.mark_trips.new.marks (rw w.deref.ensures.value at w.mark_trips.ensures.covers))
       | else-len-gt0 w ↦
           let v = times_of_line n lines has.lined line calls c.calls_of-calls.ensures in
-          line_covers n origin c.args.walks.now has.ok has.walked lines has.lined line v.row calls v.times v.at v.view
-          bs c.in_ok-boardings.ensures c.args.first c.if-len-gt0.marks
+          line_covers n origin c.args.nearby.walks.now has.ok has.walked lines has.lined line v.row calls v.times v.at
+          v.view c.args.nearby.inner.now has.noted bs c.in_ok-boardings.ensures c.args.first c.if-len-gt0.marks
           (λ r l k j seconds m inside here caught.
           absurd (omega (arith, inside, w.if-len-gt0.false, c.len.ensures, c.in_ok-boardings.boardings.ok.0)))
     ]

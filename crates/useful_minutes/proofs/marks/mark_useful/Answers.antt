@@ -13,7 +13,9 @@ mark_line-requires-clause-walks c = (
   record {
     ok = c.known.ensures;
     lined = c.lines-lines.ensures;
-    walked = rw c.deref.ensures.value c.in_ok-walks.ensures;
+    walked = rw c.as_slice.ensures.value c.in_ok-walks.ensures;
+    noted = rw (c.as_slice.ensures.value, c.as_slice-2.ensures.value)
+        (rw c.deref.ensures.value at c.in_ok-inner.ensures);
   },
 )
 
@@ -25,11 +27,13 @@ loop-line-preserved c =
     let told = c.in_ok-mark_line.ensures in
     let line = c.loop-line.line in
     let lines = c.lines-lines.result.now in
-    let has : HasWalks n origin lines c.deref.result.now =
+    let has : HasWalks n origin lines c.as_slice.result.now c.as_slice-2.result.now =
     record {
       ok = c.known.ensures;
       lined = c.lines-lines.ensures;
-      walked = rw c.deref.ensures.value c.in_ok-walks.ensures;
+      walked = rw c.as_slice.ensures.value c.in_ok-walks.ensures;
+      noted = rw (c.as_slice.ensures.value, c.as_slice-2.ensures.value)
+          (rw c.deref.ensures.value at c.in_ok-inner.ensures);
     } in
     record {
       grows = grows_on old.grows told.grows;
@@ -42,10 +46,10 @@ loop-line-preserved c =
     }
 
 pub returns-clause-covers : goal.returns-clause-covers
-returns-clause-covers c trip j m caught =
+returns-clause-covers c trip j i m ride =
     let n = c.args.network.now in
     let lined = c.lines-lines.ensures in
-    let line = lined.lines.all trip (slice_get_within n.trips trip caught.t caught.runs) in
+    let line = lined.lines.all trip (slice_get_within n.trips trip ride.on.t ride.on.runs) in
     let within = slice_get_within c.lines-lines.result.now.lines line.0 line.1.0 line.1.2 in
     c.loop-line.invariant.covers line.0 (omega (arith, within, c.loop-line-test.false, c.count-line-end.ensures)) trip j
-    m line.1 caught
+    i m line.1 ride
