@@ -11,6 +11,9 @@ ghost use Rattle.useful_minutes.specs.Marks.{HasWalks, IsLastBefore, IsInner, Ar
 use std::alloc::{AllocError, Global};
 use timetable::{Call, CallTimes, Lines, NEVER, Renumbered, StopNo};
 
+/// The most walks onward from a stop that are looked at: near a hub with thousands from each stop, looks stay few.
+const MOST_ONWARD: usize = 256;
+
 /// How long the walk from the origin to each stop takes, or `NEVER`. Out of memory is the only error.
 fn walks_from(
     alloc: Global,
@@ -30,7 +33,8 @@ fn walks_from(
 }
 
 /// Whether a stop is inner: each stop that one walks to from it is reached no later by a walk from the origin. Stops
-/// that are a long walk away seldom are, since a footpath is limited and two don't follow one another.
+/// that are a long walk away seldom are, since a footpath is limited and two don't follow one another. A stop with more
+/// walks onward than are looked at counts as none.
 fn is_inner(network: &Renumbered<'_>, walks: &[u32], stop: StopNo) -> bool
     requires stop { stop.0 < network.now.stops }
     requires walks { length walks.now ≡ network.now.stops }
@@ -38,7 +42,11 @@ fn is_inner(network: &Renumbered<'_>, walks: &[u32], stop: StopNo) -> bool
 {
     network.known();
     let walk = walks[stop.0 as usize];
-    for (next, seconds) in network.feet().leaving(stop) {
+    let onward = network.feet().leaving(stop);
+    if onward.len() > MOST_ONWARD {
+        return false;
+    }
+    for (next, seconds) in onward {
         let there = walks[next.0 as usize];
         if walk < there && *seconds < there - walk {
             return false;

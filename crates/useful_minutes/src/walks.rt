@@ -17,9 +17,7 @@ fn lower_lane(labels: &mut [Lanes], at: usize, l: usize, seconds: u32)
     ensures kept { (i k : ℕ) → (i ≢ at) ⊎ (k ≢ l) →
         slice_index (slice_index_or labels.new i []) k ≡ slice_index (slice_index_or labels.old i []) k }
 {
-    let mut chunk = labels[at];
-    chunk[l] = chunk[l].min(seconds);
-    labels[at] = chunk;
+    labels[at][l] = labels[at][l].min(seconds);
 }
 
 /// Lowers the labels of a stop to some seconds, for each of so many minutes.

@@ -12,18 +12,18 @@ use Rattle.useful_minutes.proofs.marks.is_inner.Goals.{
 pub bounds-walks-next : goal.bounds-walks-next
 bounds-walks-next c =
     let n = c.args.network.now in
-    let row = c.leaving-next-items.result.now in
+    let row = c.leaving-onward.result.now in
     let k = c.loop-next.next-index in
     let none : StopNo × ℕ = (record { 0 = 0 }, 0) in
     let here = slice_get-get_or row k none c.loop-next-test.true in
-    let at : slice_get n.feet.walks c.args.stop.0 ≡ Some row = rw c.feet.ensures at c.leaving-next-items.ensures in
+    let at : slice_get n.feet.walks c.args.stop.0 ≡ Some row = rw c.feet.ensures at c.leaving-onward.ensures in
     let target = foot_in_range n.feet c.known.ensures.feet c.args.stop.0 (get_or row k none).0.0 (get_or row k none).1
     (row, k, at, here) in
     omega (arith, target.0, c.known.ensures.in_range.lists, c.requires.walks)
 
 pub loop-next-preserved : goal.loop-next-preserved
 loop-next-preserved c =
-    let row = c.leaving-next-items.result.now in
+    let row = c.leaving-onward.result.now in
     let k = c.loop-next.next-index in
     let none : StopNo × ℕ = (record { 0 = 0 }, 0) in
     let here = slice_get-get_or row k none c.loop-next-test.true in
@@ -37,7 +37,7 @@ loop-next-preserved c =
 pub returns : goal.returns
 returns c _ =
     let n = c.args.network.now in
-    let row = c.leaving-next-items.result.now in
-    let at : slice_get n.feet.walks c.args.stop.0 ≡ Some row = rw c.feet.ensures at c.leaving-next-items.ensures in
+    let row = c.leaving-onward.result.now in
+    let at : slice_get n.feet.walks c.args.stop.0 ≡ Some row = rw c.feet.ensures at c.leaving-onward.ensures in
     is_inner_stop n c.args.walks.now c.args.stop.0 row at c.loop-next.next-index (omega (arith, c.loop-next-test.false))
     c.loop-next.invariant
