@@ -97,12 +97,13 @@ def gate(root: Path) -> Count:
 
 
 def quick(root: Path) -> Count:
-    """The tests and the program's main job by `rt try`, the tests of the tools that run no program, and the pages.
+    """The tests and the program's main job by `rt try`, the tests of the tools that run no program, and the pages. What
+    takes longer than it tells is left out: the layout and types of the Python, and tests in a browser.
 
     The scripts begin, since the first takes longest: it may have to install packages, which leaves processors free.
     """
     trials = ["ttm", *(name for name in reversed(repository.crates_of(root)) if has_tests(root, name))]
-    scripts = [[*WITHOUT_PROGRAM[0], "--no-browser"], *WITHOUT_PROGRAM[1:]]
+    scripts = [[*WITHOUT_PROGRAM[0], "--quick"], *WITHOUT_PROGRAM[1:]]
     with ThreadPoolExecutor(jobs()) as pool:
         checked = pool.map(lambda script: run_scripts(root, [script]), scripts)
         tested = pool.map(lambda name: try_crate(root, name), trials)

@@ -2,7 +2,7 @@
 """Checks the Python of this repository: its layout, its types, and the tests of the tools; and runs the built program.
 
     tools_checks.py                  layout, types, and the tests that don't run the program
-    tools_checks.py --no-browser     the same without those in a browser, which takes longest to install
+    tools_checks.py --quick          these tests alone, without those in a browser, which takes longest to install
     tools_checks.py PROGRAM          tests/program, and the tests of the tools that run the built `ttm`
 
 `black`, `flake8` and `mypy --strict` look at the folders below, and `pytest` runs the tests, by as many processes as
@@ -36,10 +36,14 @@ LEAFLET = Path("/usr/share/javascript/leaflet/leaflet.min.js"), "libjs-leaflet"
 
 
 def lacking_tools() -> list[str]:
-    """The Debian packages of what isn't there, but for the browser's."""
-    commands = [command for command in COMMANDS if shutil.which(command) is None]
+    """The Debian packages of what the tests need and isn't there, but for the browser's."""
     file, package = LEAFLET
-    return lacking(PACKAGES) + commands + ([] if file.is_file() else [package])
+    return lacking(PACKAGES) + ([] if file.is_file() else [package])
+
+
+def lacking_linters() -> list[str]:
+    """The Debian packages of the linters that aren't there."""
+    return [command for command in COMMANDS if shutil.which(command) is None]
 
 
 def lacking_browser() -> list[str]:
@@ -101,7 +105,7 @@ def there(*modules: str) -> bool:
     return subprocess.run([PYTHON, "-c", f"import {', '.join(modules)}"], stderr=subprocess.DEVNULL).returncode == 0
 
 
-def test(program: str | None, without_browser: bool) -> Count:
+def test(program: str | None, quick: bool) -> Count:
     """The tests that run this program; without one the others. Those of the gate take long, like a browser."""
     if not there("pytest", "numpy"):
         print("the tests of the tools are skipped: without python3-pytest and python3-numpy")
@@ -113,7 +117,7 @@ def test(program: str | None, without_browser: bool) -> Count:
     count = tested([*common, *chosen], at_once, "tools")
     if program:
         return count + tested([*common, *chosen[2:]], at_once, OF_PROGRAM)
-    for folder in ("bench",) if without_browser else ("bench", ".ci"):
+    for folder in ("bench",) if quick else ("bench", ".ci"):
         count += tested(common, [], folder)
     return count
 
@@ -140,13 +144,13 @@ def counted(status: int, said: str) -> Count:
 
 def main() -> int:
     argument = sys.argv[1] if len(sys.argv) > 1 else None
-    without_browser = argument == "--no-browser"
-    program = None if without_browser else argument
-    install(lacking_tools(), [] if without_browser else lacking_browser())
+    quick = argument == "--quick"
+    program = None if quick else argument
+    install(*([lacking_tools()] if quick else [lacking_tools() + lacking_linters(), lacking_browser()]))
     missing = lacking_tools() + lacking_browser()
     if missing:
         print(f"what needs {', '.join(missing)} is skipped: it isn't installed")
-    count = (Count() if program else lint()) + test(program, without_browser)
+    count = (Count() if program or quick else lint()) + test(program, quick)
     print(f"{count.passed} passed, {count.failed} failed, {count.skipped} skipped")
     return 1 if count.failed else 0
 
