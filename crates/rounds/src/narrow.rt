@@ -32,6 +32,20 @@ impl NarrowWorkspaces {
             forty_eight: Workspace::new(alloc),
         }
     }
+
+    /// Gives memory back where a network is large: that of the workspaces that a batch of as many lanes as are left, in
+    /// sixteens, doesn't take; all of it where none is left.
+    fn keep_for(&mut self, alloc: Global, stops: u32, left: usize) {
+        if left != 1 {
+            self.sixteen.give_back(alloc, stops);
+        }
+        if left != 2 && left != 4 {
+            self.thirty_two.give_back(alloc, stops);
+        }
+        if left < 3 || left == 4 {
+            self.forty_eight.give_back(alloc, stops);
+        }
+    }
 }
 
 /// The labels of the searched minutes, of each stop side by side. What they hold when a search begins doesn't matter.
@@ -207,9 +221,11 @@ pub(crate) fn run_narrow(
     found.fit(alloc, query.network.stops() as usize, width)?;
     let mut bounds = no_bounds(alloc, query)?;
     while found.from > 0 {
+        workspaces.keep_for(alloc, query.network.stops(), found.from / LANES);
         if !find_next(alloc, query, &mut bounds, workspaces, last, found)? {
             return Ok(false);
         }
     }
+    workspaces.keep_for(alloc, query.network.stops(), 0);
     Ok(true)
 }

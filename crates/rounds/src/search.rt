@@ -27,7 +27,8 @@ const MOST_AT_ONCE: u32 = 15;
 /// The workspaces of a search: labels and marks, of each stop or line.
 ///
 /// They grow when a network is searched for the first time, and then serve each origin and window of it: what they hold
-/// from before doesn't matter. One search serves any network, and makes its workspaces anew where the size is another.
+/// from before doesn't matter. In a large network their memory is given back where something else is made. One search
+/// serves any network, and makes its workspaces anew where the size is another.
 #[derive(Drop)]
 pub struct Search {
     /// Of labels that reach some eighteen hours, for each number of lanes that a batch may take.

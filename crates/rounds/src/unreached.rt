@@ -101,5 +101,6 @@ pub(crate) fn leave_out_unreached(
     let ride = workspace.ride.as_slice();
     let ready = workspace.ready.labels.as_slice();
     leave_out(ride, ready, last);
+    workspace.give_back(alloc, query.network.stops());
     Ok(())
 }

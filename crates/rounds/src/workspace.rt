@@ -6,6 +6,10 @@ use std::alloc::{AllocError, Global};
 use timetable::{Lines, NEVER};
 use trip_lanes::{Fall, LaneLabels, UNFALLEN};
 
+/// The most stops of a network whose workspaces are kept for the next batch or origin. Those of a larger one hold
+/// megabytes, and making them anew takes little beside a search.
+const MOST_STOPS_KEPT: u32 = 10_000;
+
 /// From when one may board at each stop, and what fell there since lines were scanned last.
 #[derive(Drop)]
 pub(crate) struct Readiness<R> {
@@ -44,6 +48,13 @@ impl<R: LaneLabels> Workspace<R> {
             },
             falls: Vec::new(alloc),
             due: Vec::new(alloc),
+        }
+    }
+
+    /// Gives its memory back in a network of many stops, so that what is made next can take it.
+    pub(crate) fn give_back(&mut self, alloc: Global, stops: u32) {
+        if stops > MOST_STOPS_KEPT {
+            *self = Workspace::new(alloc);
         }
     }
 
