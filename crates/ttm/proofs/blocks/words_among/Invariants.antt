@@ -1,6 +1,0 @@
-use Rattle.std.proofs.Common.{◌≡◌, map, string_bytes, take}
-use Rattle.ttm.specs.Blocks.{words_in}
-use Rattle.ttm.proofs.blocks.words_among.Given as goal
-
-abbrev pub invariant-loop-line : goal.invariant-loop-line
-invariant-loop-line l = words_in (take l.line-index (map (λ line. line.now) l.lines)) ≡ map string_bytes l.words.items
