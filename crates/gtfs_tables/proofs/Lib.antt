@@ -1,4 +1,5 @@
 pub mod FeedTrips
+pub mod TripsForgotten
 pub mod ServiceNumbers
 pub mod RowsWithoutFaults
 pub mod FilesGiveAFeed

@@ -1,6 +1,6 @@
 -- What a feed says, and what is true of every feed.
 -- (GTFS Schedule reference. The limits are those of a network.)
-use Rattle.std.specs.Prelude.{◌≡◌, ◌<◌, ◌≤◌, ℕ, List, length, map, sum_by, All}
+use Rattle.std.specs.Prelude.{◌≡◌, ◌<◌, ◌≤◌, ℕ, List, [], length, map, sum_by, All}
 use Rattle.std.specs.List.{IsDistinct}
 use Rattle.std.specs.Str.{bytes_eq}
 use Rattle.timetable.specs.declared.limits.TheConstants.{MOST_EVENTS, MOST_STOPS, MOST_TRIPS}
@@ -38,6 +38,23 @@ pub record FeedData : Type 0 where
   pub aside : ℕ
   pub links : List Link
   pub unused : ℕ
+
+-- the same feed without trips
+abbrev pub without_trips : FeedData → FeedData
+without_trips d = record {
+  names = d.names;
+  places = d.places;
+  stops = d.stops;
+  children = d.children;
+  routes = d.routes;
+  services = d.services;
+  calendar = d.calendar;
+  exceptions = d.exceptions;
+  trips = [];
+  aside = 0;
+  links = d.links;
+  unused = d.unused;
+}
 
 -- a row's two times are within 168 hours, and its headway is at least a second
 pub record IsDeparting (row : Departures) : Type 0 where

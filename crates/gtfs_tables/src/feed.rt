@@ -5,7 +5,7 @@ ghost use Rattle.std.specs.Str.{bytes_eq};
 ghost use Rattle.table_files.specs.Children as children_spec;
 ghost use Rattle.table_files.specs.Ends as ends_spec;
 ghost use Rattle.table_files.specs.Places.{place_named};
-ghost use Rattle.gtfs_tables.specs.Feed.{IsFeed, calendar_data, exception_data};
+ghost use Rattle.gtfs_tables.specs.Feed.{IsFeed, calendar_data, exception_data, without_trips};
 ghost use Rattle.gtfs_tables.specs.FeedParts.{data_of};
 
 use crate::catalog::Catalog;
@@ -13,6 +13,7 @@ use crate::trip::FeedTrip;
 use std::alloc::Global;
 use std::marker::Model;
 use table_files::{CalendarRow, Ends, ExceptionRow, Link, Place, Transfers};
+use table_records::Identifiers;
 use timetable::StopNo;
 
 /// The data of a feed. Stops have numbers from 0 in the order of `stops.txt`, routes in that of `routes.txt`, trips in
@@ -164,6 +165,21 @@ impl Feed {
             Some(number) => Some(number as u32),
             None => None,
         }
+    }
+
+    /// Forgets the trips and gives their memory back. All else of the feed stays as it is.
+    pub fn forget_trips(&mut self, alloc: Global)
+        ensures { self.new ≡ without_trips self.old }
+    {
+        let Feed {
+            catalog,
+            trips,
+            aside,
+            ..
+        } = self;
+        catalog.trips.ids = Identifiers::new(alloc);
+        *trips = Vec::new(alloc);
+        *aside = 0;
     }
 
     /// How many trips were set aside: a record of theirs in `stop_times.txt` names no stop. They have no events.

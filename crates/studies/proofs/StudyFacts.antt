@@ -14,10 +14,8 @@ use Rattle.timetable.specs.declared.faults.NetFault.{NetFault}
 use Rattle.timetable.specs.declared.trips.StopNo.{StopNo}
 use Rattle.timetable.specs.Footpaths.{FeetData}
 use Rattle.timetable.specs.Networks.{Net}
-use Rattle.gtfs_tables.specs.Feed.{FeedData, IsFeed, day_number}
+use Rattle.gtfs_tables.specs.Feed.{FeedData, day_number}
 use Rattle.gtfs_tables.specs.Files.{feed_faults}
-use Rattle.gtfs_tables.specs.Opportunities.{opportunities_of}
-use Rattle.gtfs_tables.specs.Origins.{destinations_of, origins_of}
 use Rattle.service_days.specs.declared.fault.DayFault.{DayFault}
 use Rattle.service_days.specs.declared.fault.DayFault.TheVariants as day
 use Rattle.service_days.specs.declared.run.Run.{Run}
@@ -274,19 +272,16 @@ study_is i s networks origins opportunities query p q asked =
     ∙ ap (λ (x : Query). study_with x networks (origins_in i) (opportunities_in i)) asked
 
 -- the files mean the study of these networks
-pub means : (i : InputFiles) (s : SettingsData) (feed : FeedData) (t : Tables) (networks : List Net)
+pub means : (i : InputFiles) (s : SettingsData) (t : Tables) (networks : List Net)
     (origins : List StopNo) (opportunities : List ℕ) (query : Query)
-    → feed ≡ feed_in i → AreTables i feed t → AreNetworks i s networks → origins ≡ t.origins.items →
+    → AreTables i (feed_in i) t → AreNetworks i s networks → origins ≡ t.origins.items →
     opportunities ≡ t.opportunities.items → query ≡ query_of s t.destinations.items
     → Means i s (study_with query networks origins opportunities)
-means i s feed t networks origins opportunities query is are made p q asked = record {
+means i s t networks origins opportunities query are made p q asked = record {
   networks = networks;
   made = made;
-  study_is = study_is i s networks origins opportunities query
-      (p ∙ are.origins_are ∙ ap (λ (d : FeedData). origins_of i.origins d) is)
-      (q ∙ are.opportunities_are ∙ ap (λ (d : FeedData). opportunities_of i.opportunities d) is)
-      (asked ∙ ap (λ (l : List StopNo). query_of s l) (are.destinations_are
-      ∙ ap (λ (d : FeedData). destinations_of i.destinations d) is));
+  study_is = study_is i s networks origins opportunities query (p ∙ are.origins_are) (q ∙ are.opportunities_are)
+      (asked ∙ ap (λ (l : List StopNo). query_of s l) are.destinations_are);
 }
 
 pub text_made : {V : Type 0} (items : V →
@@ -326,28 +321,27 @@ window_fits s fits = record {
 }
 
 -- the study is within the limits
-pub study_fits : (i : InputFiles) (s : SettingsData) (feed : FeedData) (t : Tables) (networks : List Net)
+pub study_fits : (i : InputFiles) (s : SettingsData) (t : Tables) (networks : List Net)
     (origins : List StopNo) (opportunities : List ℕ) (query : Query)
-    → SettingsFit s → IsFeed feed → feed ≡ feed_in i → AreTables i feed t → AreNetworks i s networks →
+    → SettingsFit s → length (feed_in i).stops ≤ 65535 → AreTables i (feed_in i) t → AreNetworks i s networks →
     origins ≡ t.origins.items → opportunities ≡ t.opportunities.items
     → query ≡ query_of s t.destinations.items
     → StudyFits (study_with query networks origins opportunities)
-study_fits i s feed t networks origins opportunities query fits is_feed is tables made p q asked =
+study_fits i s t networks origins opportunities query fits limit tables made p q asked =
+    let stop_count = length (feed_in i).stops in
     let count : length networks ≡ length i.scenarios + 1 = network_count i s networks made in
     let few_files : length i.scenarios < MOST_SCENARIOS = made.walked.dated.edited.read.named.few in
-    let stops : length opportunities ≡ length feed.stops = ap length q ∙ tables.count in
-    let same : length opportunities ≡ length (feed_in i).stops = stops ∙ ap (λ (d : FeedData). length d.stops) is in
+    let stops : length opportunities ≡ stop_count = ap length q ∙ tables.count in
     let some : length origins ≡ length t.origins.items = ap length p in
-    let few : length t.origins.items ≤ length feed.stops = tables.few_origins in
-    let few_named : length t.destinations.items ≤ length feed.stops = tables.few_destinations in
-    let limit : length feed.stops ≤ 65535 = is_feed.few_stops in
+    let few : length t.origins.items ≤ stop_count = tables.few_origins in
+    let few_named : length t.destinations.items ≤ stop_count = tables.few_destinations in
     subst (λ (x : Query). StudyFits (study_with x networks origins opportunities)) (sym asked)
     (record {
       few_networks = omega (arith, count, few_files);
-      stops = subst (λ (n : ℕ). All (λ (x : Net). x.stops ≡ n) networks) (sym same) (network_stops i s networks made);
+      stops = subst (λ (n : ℕ). All (λ (x : Net). x.stops ≡ n) networks) (sym stops) (network_stops i s networks made);
       few_origins = omega (arith, some, few, limit);
       origins = subst (λ (n : ℕ). All (λ (o : StopNo). o.0 < n) origins) (sym stops)
-          (subst (λ (l : List StopNo). All (λ (o : StopNo). o.0 < length feed.stops) l) (sym p) tables.in_range);
+          (subst (λ (l : List StopNo). All (λ (o : StopNo). o.0 < stop_count) l) (sym p) tables.in_range);
       few_destinations = omega (arith, few_named, limit);
       destinations = subst (λ (n : ℕ). All (λ (o : StopNo). o.0 < n) t.destinations.items) (sym stops)
           tables.destinations_in_range;

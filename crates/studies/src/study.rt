@@ -73,7 +73,9 @@ pub fn watch_study<G: Gate + Sync, W: Watch, R: Threads + Wait + Sync>(
     ensures run { IfErr result (λ e. TellsBy (G.decides gate.now) (G.was_told gate.now) e (inputs_of inputs.now)
         settings.now) }
 {
-    let prepared = prepare(alloc, inputs, settings, watch)?;
+    let mut prepared = prepare(alloc, inputs, settings, watch)?;
+    // Rows need the networks' copies of the trips alone.
+    prepared.kept.feed.forget_trips(alloc);
     let asked = Asked {
         inputs,
         settings,
@@ -82,7 +84,7 @@ pub fn watch_study<G: Gate + Sync, W: Watch, R: Threads + Wait + Sync>(
     text_of(rt, alloc, &prepared.kept, &asked, gate, watch)
 }
 
-/// The text of the matrix of what is asked of the networks that are kept.
+/// The text of the matrix of what is asked of the networks that are kept. Of the feed it takes the stops.
 pub(crate) fn text_of<G: Gate + Sync, W: Watch, R: Threads + Wait + Sync>(
     rt: &R,
     alloc: Global,
@@ -92,8 +94,9 @@ pub(crate) fn text_of<G: Gate + Sync, W: Watch, R: Threads + Wait + Sync>(
     watch: &W,
 ) -> Result<Vec<u8>, StudyFault>
     requires settings { SettingsFit asked.now.settings.now }
-    requires feed { kept.now.feed.value ≡ feed_in (inputs_of asked.now.inputs.now) }
-    requires tables { AreTables (inputs_of asked.now.inputs.now) kept.now.feed.value asked.now.tables.now }
+    requires stops { kept.now.feed.value.stops ≡ (feed_in (inputs_of asked.now.inputs.now)).stops }
+    requires tables { AreTables (inputs_of asked.now.inputs.now) (feed_in (inputs_of asked.now.inputs.now))
+        asked.now.tables.now }
     requires networks { AreNetworks (inputs_of asked.now.inputs.now) asked.now.settings.now kept.now.networks.items }
     requires listed { W.saw watch.now listed }
     ensures text { IfOk result (λ text.
@@ -135,8 +138,8 @@ fn text_of_matrix(
     tables: &Tables,
     matrix: &Matrix,
 ) -> Result<Vec<u8>, StudyFault>
-    requires feed { feed.now ≡ feed_in (inputs_of inputs.now) }
-    requires tables { AreTables (inputs_of inputs.now) feed.now tables.now }
+    requires stops { feed.now.stops ≡ (feed_in (inputs_of inputs.now)).stops }
+    requires tables { AreTables (inputs_of inputs.now) (feed_in (inputs_of inputs.now)) tables.now }
     requires scenarios { matrix.now.scenarios ≡ length inputs.now.scenarios.now + 1 }
     requires origins { matrix.now.origins ≡ length tables.now.origins.items }
     requires width { matrix.now.width ≡ length tables.now.destinations.items }

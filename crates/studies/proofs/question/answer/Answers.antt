@@ -1,10 +1,12 @@
 use Rattle.std.proofs.Common.{◌≡◌, ◌∙◌, [], ap, sym, subst}
 use Rattle.std.specs.Prelude.{IfErr}
+use Rattle.gtfs_tables.specs.Feed.{FeedData}
 use Rattle.studies.specs.declared.fault.StudyFault.{StudyFault}
+use Rattle.studies.specs.declared.parts.Tables.{Tables}
 use Rattle.studies.specs.Answers.{asked_files}
 use Rattle.studies.specs.Inputs.{InputFiles, inputs_of}
 use Rattle.studies.specs.Parts.{feed_in, point_faults}
-use Rattle.studies.specs.Stages.{TellsTables}
+use Rattle.studies.specs.Stages.{AreTables, TellsTables}
 use Rattle.studies.specs.Study.{AreNetworks, Tells, TellsBy}
 use Rattle.studies.proofs.AnyGate.{any_gates, by_gate, tables_no_run}
 use Rattle.studies.proofs.QuestionOfKept.{question_networks, question_told}
@@ -38,9 +40,18 @@ returns-in_err-tables-clause-run g c =
     (by_gate decides was_told i q.settings.now e (tables_no_run e i feed told)
     (question_told k q c.requires.kept c.requires.question e feed c.as_ref.ensures told))
 
-pub text_of-requires-clause-feed : goal.text_of-requires-clause-feed
-text_of-requires-clause-feed g c κs within =
-    c.requires.kept.feed.feed_is ∙ ap (λ (i : InputFiles). feed_in i) (sym c.inputs_with-inputs.ensures)
+pub text_of-requires-clause-stops : goal.text_of-requires-clause-stops
+text_of-requires-clause-stops g c κs within =
+    ap (λ (d : FeedData). d.stops)
+    (c.requires.kept.feed.feed_is ∙ ap (λ (i : InputFiles). feed_in i) (sym c.inputs_with-inputs.ensures))
+
+pub text_of-requires-clause-tables : goal.text_of-requires-clause-tables
+text_of-requires-clause-tables g c κs within =
+    let i = inputs_of c.inputs_with-inputs.result in
+    let feed_is = c.as_ref.ensures ∙ c.requires.kept.feed.feed_is
+    ∙ ap (λ (i : InputFiles). feed_in i) (sym c.inputs_with-inputs.ensures) in
+    subst (λ (t : Tables). AreTables i (feed_in i) t) (sym c.as_ref-2.ensures)
+    (subst (λ (d : FeedData). AreTables i d c.in_ok-tables.tables.value) feed_is c.in_ok-tables.ensures.tables)
 
 pub text_of-requires-clause-networks : goal.text_of-requires-clause-networks
 text_of-requires-clause-networks g c κs within =
