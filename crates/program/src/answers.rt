@@ -6,20 +6,27 @@
 //! let every lease be worked at.
 
 ghost use Rattle.std.specs.Prelude.{◌≡◌, ◌≤◌, IfErr, OnOk};
+ghost use Rattle.std.specs.Io.KnownBytes.{Appends};
 ghost use Rattle.std.specs.Process.{exit_status};
+ghost use Rattle.matrix_text.specs.Prefixes.{PutsPart};
 ghost use Rattle.studies.specs.Inputs.{AreWithinLimit, inputs_of};
 ghost use Rattle.studies.specs.Settings.{SettingsFit};
 ghost use Rattle.studies.specs.Watched.{SawFault};
 ghost use Rattle.program.specs.Answers as spec;
+ghost use Rattle.program.specs.Files.{files_of};
+ghost use Rattle.program.specs.Gates.{told_anything, works_at_each};
 
 use crate::host::Host;
+use crate::study_files::StudyFiles;
 use command_line::{DONE, Task, fault_line, status, tell_made};
-use matrix_text::put_all;
+use matrix_text::{TextFault, put_all};
 use reports::Report;
 use std::alloc::Global;
 use std::io::Write;
 use std::process::ExitCode;
-use studies::{Inputs, Settings, StudyFault, Unwatched, Watch, watch_study};
+use studies::{
+    Inputs, Settings, StudyFault, Unwatched, Watch, compute_study, ready_study, run_study,
+};
 use work_book::{Lease, Settled};
 use workers::{Gate, Open, Verdict};
 
@@ -45,29 +52,98 @@ impl<'a, 'b, H: Host> Gate for ReportGate<'a, 'b, H> {
 
 /// Puts out the matrix of a task whose files are read, or tells why there is none; and reports it, if the task says so.
 /// The matrix is the same with a report and without, and no promise of it or of the status asks whether there is one.
-pub(crate) fn answer_task<'a, H: Host, O: Write, E: Write>(
-    host: &'a H,
+///
+/// Of the files the scenarios' alone are left where the rows were computed.
+pub(crate) fn answer_task<H: Host, O: Write, E: Write>(
+    host: &H,
     task: &Task,
-    inputs: &Inputs<'a>,
+    files: &mut StudyFiles,
     out: &mut O,
     err: &mut E,
 ) -> ExitCode
-    requires files { AreWithinLimit (inputs_of inputs.now) }
+    requires files { AreWithinLimit (files_of files.old) }
     requires settings { SettingsFit task.now.settings }
-    ensures answered { spec.IsAnswered (inputs_of inputs.now) task.now.settings (O.contents out.old)
+    ensures answered { spec.IsAnswered (files_of files.old) task.now.settings (O.contents out.old)
         (O.contents out.new) (E.contents err.old) (E.contents err.new) (exit_status result) }
     ensures success { exit_status result ≡ DONE →
-        spec.IsPrinted (inputs_of inputs.now) task.now.settings (O.contents out.old) (O.contents out.new) }
+        spec.IsPrinted (files_of files.old) task.now.settings (O.contents out.old) (O.contents out.new) }
     ensures quiet { exit_status result ≡ DONE → err.new ≡ err.old }
 {
     if task.report {
-        answer_and_report(host, inputs, task, out, err)
-    } else {
-        answer(host, inputs, &task.settings, out, err)
+        return answer_and_report(host, task, files, out, err);
+    }
+    match put_study(host, files, &task.settings, &Open, &Unwatched, out) {
+        Ok(()) => ExitCode::from(DONE),
+        Err(fault) => tell_why(host.alloc(), &fault, &files.inputs(), err),
     }
 }
 
-/// Puts out the matrix of a study, or tells why there is none.
+/// The same, with a report. Its last lines come after the matrix is out or the line of a fault is told.
+fn answer_and_report<H: Host, O: Write, E: Write>(
+    host: &H,
+    task: &Task,
+    files: &mut StudyFiles,
+    out: &mut O,
+    err: &mut E,
+) -> ExitCode
+    requires files { AreWithinLimit (files_of files.old) }
+    requires settings { SettingsFit task.now.settings }
+    ensures answered { spec.IsAnswered (files_of files.old) task.now.settings (O.contents out.old)
+        (O.contents out.new) (E.contents err.old) (E.contents err.new) (exit_status result) }
+    ensures success { exit_status result ≡ DONE →
+        spec.IsPrinted (files_of files.old) task.now.settings (O.contents out.old) (O.contents out.new) }
+    ensures quiet { exit_status result ≡ DONE → err.new ≡ err.old }
+{
+    let report = Report::new(host.alloc(), host, &files.inputs());
+    let gate = ReportGate { report: &report };
+    match put_study(host, files, &task.settings, &gate, &report, out) {
+        Ok(()) => {
+            report.ended();
+            ExitCode::from(DONE)
+        }
+        Err(fault) => {
+            let inputs = files.inputs();
+            let code = tell_why(host.alloc(), &fault, &inputs, err);
+            report.refused(&fault, &inputs, task.feed.as_str());
+            code
+        }
+    }
+}
+
+/// Puts out the matrix of the study of these files. At an error it isn't out whole. If the workers gave no matrix, the
+/// error says why, by what this gate may decide, and it is the one that the watch was told.
+///
+/// The rows need the files no more: once the study is ready, the bytes of all but the scenarios' are freed.
+fn put_study<H: Host, G: Gate + Sync, W: Watch, O: Write>(
+    host: &H,
+    files: &mut StudyFiles,
+    settings: &Settings,
+    gate: &G,
+    watch: &W,
+    out: &mut O,
+) -> Result<(), StudyFault>
+    requires files { AreWithinLimit (files_of files.old) }
+    requires settings { SettingsFit settings.now }
+    ensures printed { OnOk result (spec.IsPrinted (files_of files.old) settings.now (O.contents out.old)
+        (O.contents out.new)) }
+    ensures why { IfErr result (λ fault. spec.IsWhy (G.decides gate.now) (G.was_told gate.now) fault
+        (files_of files.old) settings.now (O.contents out.old) (O.contents out.new)) }
+    ensures told_fault { IfErr result (λ fault.
+        SawFault (W.saw watch.now) fault (files_of files.old) settings.now) }
+    ensures scenarios { files.new.scenarios.items ≡ files.old.scenarios.items }
+{
+    let study = match ready_study(host.alloc(), &files.inputs(), settings, watch) {
+        Ok(study) => study,
+        Err(fault) => return Err(fault),
+    };
+    files.free();
+    match compute_study(host, host.alloc(), &study, settings, gate, watch) {
+        Ok(text) => put_text(&text, out),
+        Err(fault) => Err(fault),
+    }
+}
+
+/// Puts out the matrix of a study of the program's own, or tells why there is none.
 pub(crate) fn answer<H: Host, O: Write, E: Write>(
     host: &H,
     inputs: &Inputs<'_>,
@@ -83,68 +159,41 @@ pub(crate) fn answer<H: Host, O: Write, E: Write>(
         spec.IsPrinted (inputs_of inputs.now) settings.now (O.contents out.old) (O.contents out.new) }
     ensures quiet { exit_status result ≡ DONE → err.new ≡ err.old }
 {
-    match put_matrix(host, inputs, settings, &Open, &Unwatched, out) {
+    match put_own(host, inputs, settings, out) {
         Ok(()) => ExitCode::from(DONE),
         Err(fault) => tell_why(host.alloc(), &fault, inputs, err),
     }
 }
 
-/// The same, with a report. Its last lines come after the matrix is out or the line of a fault is told.
-fn answer_and_report<'a, H: Host, O: Write, E: Write>(
-    host: &'a H,
-    inputs: &Inputs<'a>,
-    task: &Task,
-    out: &mut O,
-    err: &mut E,
-) -> ExitCode
-    requires files { AreWithinLimit (inputs_of inputs.now) }
-    requires settings { SettingsFit task.now.settings }
-    ensures answered { spec.IsAnswered (inputs_of inputs.now) task.now.settings (O.contents out.old)
-        (O.contents out.new) (E.contents err.old) (E.contents err.new) (exit_status result) }
-    ensures success { exit_status result ≡ DONE →
-        spec.IsPrinted (inputs_of inputs.now) task.now.settings (O.contents out.old) (O.contents out.new) }
-    ensures quiet { exit_status result ≡ DONE → err.new ≡ err.old }
-{
-    let report = Report::new(host.alloc(), host, inputs);
-    let gate = ReportGate { report: &report };
-    match put_matrix(host, inputs, &task.settings, &gate, &report, out) {
-        Ok(()) => {
-            report.ended();
-            ExitCode::from(DONE)
-        }
-        Err(fault) => {
-            let code = tell_why(host.alloc(), &fault, inputs, err);
-            report.refused(&fault, inputs, task.feed.as_str());
-            code
-        }
-    }
-}
-
-/// Puts out the matrix of a study. At an error it isn't out whole. If the workers gave no matrix, the error says why,
-/// by what this gate may decide, and it is the one that the watch was told.
-fn put_matrix<H: Host, G: Gate + Sync, W: Watch, O: Write>(
+/// Puts out the matrix of a study of the program's own. At an error it isn't out whole.
+fn put_own<H: Host, O: Write>(
     host: &H,
     inputs: &Inputs<'_>,
     settings: &Settings,
-    gate: &G,
-    watch: &W,
     out: &mut O,
 ) -> Result<(), StudyFault>
     requires files { AreWithinLimit (inputs_of inputs.now) }
     requires settings { SettingsFit settings.now }
     ensures printed { OnOk result (spec.IsPrinted (inputs_of inputs.now) settings.now (O.contents out.old)
         (O.contents out.new)) }
-    ensures why { IfErr result (λ fault. spec.IsWhy (G.decides gate.now) (G.was_told gate.now) fault
-        (inputs_of inputs.now) settings.now (O.contents out.old) (O.contents out.new)) }
-    ensures told_fault { IfErr result (λ fault.
-        SawFault (W.saw watch.now) fault (inputs_of inputs.now) settings.now) }
+    ensures why { IfErr result (λ fault. spec.IsWhy works_at_each told_anything fault (inputs_of inputs.now)
+        settings.now (O.contents out.old) (O.contents out.new)) }
 {
-    match watch_study(host, host.alloc(), inputs, settings, gate, watch) {
-        Ok(text) => match put_all(&text, out) {
-            Ok(()) => Ok(()),
-            Err(fault) => Err(StudyFault::Text(fault)),
-        },
+    match run_study(host, host.alloc(), inputs, settings, &Open) {
+        Ok(text) => put_text(&text, out),
         Err(fault) => Err(fault),
+    }
+}
+
+/// Puts out the text of a matrix. At an error it isn't out whole.
+fn put_text<O: Write>(text: &[u8], out: &mut O) -> Result<(), StudyFault>
+    ensures whole { OnOk result (Appends (O.contents out.old) (O.contents out.new) text.now) }
+    ensures part { IfErr result (λ fault. (fault ≡ StudyFault.Text TextFault.Write)
+        × PutsPart (O.contents out.old) (O.contents out.new) text.now) }
+{
+    match put_all(text, out) {
+        Ok(()) => Ok(()),
+        Err(fault) => Err(StudyFault::Text(fault)),
     }
 }
 

@@ -12,10 +12,10 @@ ghost use Rattle.std.specs.IoError.{error_kind};
 ghost use Rattle.std.specs.Process.{exit_status};
 ghost use Rattle.std.specs.declared.io.ErrorKind.TheVariants.{OutOfMemory};
 ghost use Rattle.clap.specs.Words.{Text};
-ghost use Rattle.studies.specs.Inputs.{AreWithinLimit, inputs_of};
+ghost use Rattle.studies.specs.Inputs.{AreWithinLimit};
 ghost use Rattle.studies.specs.Settings.{SettingsFit};
 ghost use Rattle.program.specs.Answers as spec;
-ghost use Rattle.program.specs.Files.{IsShort};
+ghost use Rattle.program.specs.Files.{IsShort, files_of};
 
 use crate::answers::{answer, answer_task};
 use crate::example::example_settings;
@@ -229,7 +229,7 @@ fn read_and_answer<H: Host, I: Read, O: Write, E: Write>(
     ensures quiet { exit_status result ≡ DONE → err.new ≡ err.old }
 {
     match read_files(host.alloc(), host, task, files) {
-        Ok(()) => answer_files(host, task, &files.inputs(), input, out, err),
+        Ok(()) => answer_files(host, task, files, input, out, err),
         Err(unread) => {
             let code = unread.tell(host.alloc(), err);
             if task.report {
@@ -241,26 +241,26 @@ fn read_and_answer<H: Host, I: Read, O: Write, E: Write>(
 }
 
 /// Answers the study of a task whose files are read, or the questions of its conversation.
-fn answer_files<'a, H: Host, I: Read, O: Write, E: Write>(
-    host: &'a H,
-    task: &'a Task,
-    inputs: &Inputs<'a>,
+fn answer_files<H: Host, I: Read, O: Write, E: Write>(
+    host: &H,
+    task: &Task,
+    files: &mut StudyFiles,
     input: &mut I,
     out: &mut O,
     err: &mut E,
 ) -> ExitCode
-    requires files { AreWithinLimit (inputs_of inputs.now) }
+    requires files { AreWithinLimit (files_of files.old) }
     requires settings { SettingsFit task.now.settings }
-    ensures ended { spec.EndsFiles (H.finds host.now) (inputs_of inputs.now) task.now (I.remaining input.old)
+    ensures ended { spec.EndsFiles (H.finds host.now) (files_of files.old) task.now (I.remaining input.old)
         (I.remaining input.new) (O.contents out.old) (O.contents out.new) (E.contents err.old) (E.contents err.new)
         (exit_status result) }
-    ensures success { exit_status result ≡ DONE → spec.IsDoneOf (H.finds host.now) (inputs_of inputs.now) task.now
+    ensures success { exit_status result ≡ DONE → spec.IsDoneOf (H.finds host.now) (files_of files.old) task.now
         (I.remaining input.old) (I.remaining input.new) (O.contents out.old) (O.contents out.new) }
     ensures quiet { exit_status result ≡ DONE → err.new ≡ err.old }
 {
     if task.asks {
-        converse(host, task, inputs, input, out, err)
+        converse(host, task, &files.inputs(), input, out, err)
     } else {
-        answer_task(host, task, inputs, out, err)
+        answer_task(host, task, files, out, err)
     }
 }

@@ -56,4 +56,21 @@ impl StudyFiles {
             scenarios: self.scenarios.as_slice(),
         }
     }
+    /// Frees the bytes of all files but the scenarios', as if there were no such files.
+    pub fn free(&mut self)
+        ensures { files_of self.new ≡ record {
+          feed = no_files;
+          footpaths = None;
+          origins = None;
+          opportunities = None;
+          destinations = None;
+          scenarios = self.old.scenarios.items;
+        } }
+    {
+        self.feed = FeedFiles::none();
+        self.footpaths = None;
+        self.origins = None;
+        self.opportunities = None;
+        self.destinations = None;
+    }
 }

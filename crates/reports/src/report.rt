@@ -7,7 +7,7 @@ use crate::folder_lines::tell_folder;
 use crate::measures::time_text;
 use crate::progress::Progress;
 use crate::row_lines::{row_count, tell_rows};
-use crate::table_lines::{tell_ends, tell_feed};
+use crate::table_lines::{route_count, tell_ends, tell_feed};
 use collector::Matrix;
 use console::{Console, tell_count, tell_line};
 use footpaths::Direct;
@@ -25,21 +25,22 @@ use workers::{Gate, RunFault, Study, Verdict};
 pub struct Report<'a, C> {
     console: &'a C,
     alloc: Global,
-    /// The bytes of `routes.txt`.
-    routes: Option<&'a [u8]>,
+    /// How many routes there are, if `routes.txt` is there.
+    routes: Option<u64>,
     /// When the report began, in milliseconds.
     began: Option<u64>,
     progress: Progress,
 }
 
 impl<'a, C: Console> Report<'a, C> {
-    /// The report of the study of some files. Nothing is told yet.
-    pub fn new(alloc: Global, console: &'a C, inputs: &Inputs<'a>) -> Report<'a, C> {
+    /// The report of the study of some files. Nothing is told yet, and nothing of the files is held.
+    pub fn new(alloc: Global, console: &'a C, inputs: &Inputs<'_>) -> Report<'a, C> {
+        let began = console.milliseconds();
         Report {
             console,
             alloc,
-            routes: inputs.feed.routes,
-            began: console.milliseconds(),
+            routes: route_count(alloc, inputs.feed.routes),
+            began,
             progress: Progress::new(),
         }
     }

@@ -7,16 +7,18 @@ use gtfs_tables::Feed;
 use std::alloc::Global;
 use timetable::StopNo;
 
-/// Tells how much the feed has, `routes.txt` with these bytes among it, and how many direct footpaths there are.
+/// Tells how much the feed has, with this number of routes, if it is known, and how many direct footpaths there are.
 pub(crate) fn tell_feed<C: Console>(
     console: &C,
     alloc: Global,
     feed: &Feed,
-    routes: Option<&[u8]>,
+    routes: Option<u64>,
     direct: &Direct,
 ) {
     tell_count(console, alloc, "stops", u64::from(feed.stop_count()));
-    tell_routes(console, alloc, routes);
+    if let Some(count) = routes {
+        tell_count(console, alloc, "routes", count);
+    }
     tell_count(console, alloc, "trips", u64::from(feed.trip_count()));
     tell_count(console, alloc, "trips set aside", u64::from(feed.aside()));
     tell_count(
@@ -33,13 +35,10 @@ pub(crate) fn tell_feed<C: Console>(
     );
 }
 
-/// Tells how many routes there are: each record of `routes.txt` but its header is one.
-fn tell_routes<C: Console>(console: &C, alloc: Global, routes: Option<&[u8]>) {
-    if let Some(bytes) = routes {
-        if let Some(records) = record_count(alloc, bytes) {
-            tell_count(console, alloc, "routes", records.saturating_sub(1));
-        }
-    }
+/// How many routes `routes.txt` has, if it is there: each record but its header is one.
+pub(crate) fn route_count(alloc: Global, routes: Option<&[u8]>) -> Option<u64> {
+    let records = record_count(alloc, routes?)?;
+    Some(records.saturating_sub(1))
 }
 
 /// Tells at how many stops journeys begin, and how many have a column of travel times.

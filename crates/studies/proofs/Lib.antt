@@ -8,6 +8,7 @@ pub mod ScenarioFiles
 pub mod NetworkFaults
 pub mod FewOrigins
 pub mod StudyFacts
+pub mod ForFiles
 pub mod OneMeaning
 mod OtherColumns
 pub mod Lasting

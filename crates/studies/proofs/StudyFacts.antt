@@ -43,6 +43,7 @@ use Rattle.studies.specs.declared.parts.NetworkParts.{NetworkParts}
 use Rattle.studies.specs.declared.parts.Tables.{Tables}
 use Rattle.studies.specs.NamedFile.{NamedBytes}
 use Rattle.studies.specs.Names.{name_faults, names_of}
+use Rattle.studies.specs.Ready.{AreReady}
 use Rattle.studies.specs.Settings.{SettingsData, SettingsFit, query_of, window_of}
 use Rattle.studies.specs.Parts.{destinations_in, direct_in, edit_faults, feed_in, labels_in}
 use Rattle.studies.specs.Parts.{network_faults, networks_of, opportunities_in, origins_in, own_faults}
@@ -364,20 +365,34 @@ labels_with names origins shares limits destinations stops =
       stops = stops;
     }
 
--- the labels are those of the files and the settings
-pub labels_are : (i : InputFiles) (s : SettingsData) (names : List (List ℕ)) (origins : List StopNo)
-    (shares limits : List ℕ) (destinations : List StopNo) (stops : List (List ℕ))
-    → names ≡ names_of i.scenarios → origins ≡ origins_in i → shares ≡ s.shares → limits ≡ s.withins →
-    destinations ≡ destinations_in i → stops ≡ (feed_in i).stops
-    → labels_with names origins shares limits destinations stops ≡ labels_in i s
-labels_are i s names origins shares limits destinations stops p q r t v u =
+-- labels of the same parts are the same
+pub labels_are : {names other_names : List (List ℕ)} {origins other_origins : List StopNo}
+    {shares other_shares limits other_limits : List ℕ} {destinations other_destinations : List StopNo}
+    {stops other_stops : List (List ℕ)}
+    → names ≡ other_names → origins ≡ other_origins → shares ≡ other_shares → limits ≡ other_limits →
+    destinations ≡ other_destinations → stops ≡ other_stops
+    → labels_with names origins shares limits destinations stops
+    ≡ labels_with other_names other_origins other_shares other_limits other_destinations other_stops
+labels_are {names} {other_names} {origins} {other_origins} {shares} {other_shares} {limits} {other_limits}
+    {destinations} {other_destinations} {stops} {other_stops} p q r t v u =
     ap (λ (x : List (List ℕ)). labels_with x origins shares limits destinations stops) p
-    ∙ ap (λ (x : List StopNo). labels_with (names_of i.scenarios) x shares limits destinations stops) q
-    ∙ ap (λ (x : List ℕ). labels_with (names_of i.scenarios) (origins_in i) x limits destinations stops) r
-    ∙ ap (λ (x : List ℕ). labels_with (names_of i.scenarios) (origins_in i) s.shares x destinations stops) t
-    ∙ ap (λ (x : List StopNo). labels_with (names_of i.scenarios) (origins_in i) s.shares s.withins x stops) v
-    ∙ ap (λ (x : List (List ℕ)). labels_with (names_of i.scenarios) (origins_in i) s.shares s.withins
-    (destinations_in i) x) u
+    ∙ ap (λ (x : List StopNo). labels_with other_names x shares limits destinations stops) q
+    ∙ ap (λ (x : List ℕ). labels_with other_names other_origins x limits destinations stops) r
+    ∙ ap (λ (x : List ℕ). labels_with other_names other_origins other_shares x destinations stops) t
+    ∙ ap (λ (x : List StopNo). labels_with other_names other_origins other_shares other_limits x stops) v
+    ∙ ap (λ (x : List (List ℕ)). labels_with other_names other_origins other_shares other_limits other_destinations x) u
+
+-- what is ready is so by any other way to its parts
+pub ready_with : (i : InputFiles) (s : SettingsData) {stops other_stops names other_names : List (List ℕ)}
+    {t other : Tables} {networks other_networks : List Net}
+    → other_stops ≡ stops → other_names ≡ names → other ≡ t → other_networks ≡ networks →
+    AreReady i s stops names t networks → AreReady i s other_stops other_names other other_networks
+ready_with i s p q r v h = record {
+  stops_are = p ∙ h.stops_are;
+  names_are = q ∙ h.names_are;
+  tables_are = subst (λ (x : Tables). AreTables i (feed_in i) x) (sym r) h.tables_are;
+  networks_are = subst (λ (l : List Net). AreNetworks i s l) (sym v) h.networks_are;
+}
 
 -- there is a name for each scenario
 pub name_count : (files : List NamedBytes) → length (names_of files) ≡ length files + 1

@@ -7,6 +7,7 @@ pub mod Names
 pub mod Parts
 pub mod Stages
 pub mod Study
+pub mod Ready
 pub mod Kept
 pub mod Answers
 pub mod Laws

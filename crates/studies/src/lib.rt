@@ -2,10 +2,12 @@
 //!
 //! - `study`: [`run_study`], the text of the matrix that the files ([`Inputs`], [`NamedFile`]) and the [`Settings`]
 //!   mean, or the first [`StudyFault`]. Its stages, each making one value of those before it: `names`, `tables`,
-//!   `networks` (with `scenario_files`), `matrix`; `parts` has what they hand on, and `boxes` puts it in boxes.
+//!   `networks` (with `scenario_files`), `matrix`, `text`; `parts` has what they hand on, and `boxes` puts it in boxes.
+//! - `ready`: the two halves of a study, for who frees its files in between: [`ready_study`] reads them and makes the
+//!   networks ([`ReadyStudy`]), and [`compute_study`] gives the text.
 //! - `kept`: [`keep`] reads and makes what no question changes ([`Kept`]); `question`: [`answer`] gives the answer of
-//!   a [`Question`] by it, [`answers`] those of a list. [`watch_study`] goes the same way: it makes what is kept, and
-//!   answers the study's own question.
+//!   a [`Question`] by it, [`answers`] those of a list. A study goes the same way: it makes what is kept, and answers
+//!   its own question.
 //! - `watch`: [`watch_study`] is [`run_study`] with a [`Watch`], who is told what each stage has made.
 //! - `inputs`, `named_file`, `settings`: what a study is made of, and `limits`, within which; `fault`: why there is
 //!   none.
@@ -32,10 +34,12 @@ mod networks;
 mod parts;
 mod plain;
 mod question;
+mod ready;
 mod scenario_files;
 mod settings;
 mod study;
 mod tables;
+mod text;
 mod watch;
 
 pub use fault::StudyFault;
@@ -47,6 +51,7 @@ pub use limits::{MOST_DAYS, MOST_WORKERS, limits_are_as_stated};
 pub use named_file::NamedFile;
 pub use plain::minute_line;
 pub use question::{Question, answer, answers};
+pub use ready::{ReadyStudy, compute_study, ready_study};
 pub use settings::Settings;
 pub use study::{run_study, watch_study};
 pub use watch::{Unwatched, Watch};

@@ -1,11 +1,11 @@
 //! What the stages of a study hand on: the analyst's own tables, what networks are made of, and what is asked of them.
 
-use crate::inputs::Inputs;
 use crate::kept::Kept;
 use crate::settings::Settings;
+use gtfs_tables::Feed;
 use scenarios::Scenario;
 use service_days::Run;
-use timetable::{Feet, StopNo};
+use timetable::{Feet, Network, StopNo};
 
 /// The tables of a question, by the feed that names their stops.
 #[derive(Drop)]
@@ -36,10 +36,15 @@ pub(crate) struct Prepared<'a> {
     pub tables: Box<Tables>,
 }
 
-/// What is asked of the networks that are kept: a question's files and settings, and what its tables state.
+/// What is asked of networks, and what names the rows and columns of the answer.
 #[derive(Clone, Copy)]
 pub(crate) struct Asked<'a> {
-    pub inputs: &'a Inputs<'a>,
+    /// The feed, which names the stops.
+    pub feed: &'a Feed,
+    /// The network of each scenario, `base` first.
+    pub networks: &'a [Network],
+    /// The names of the scenarios, `base` first.
+    pub names: &'a [Vec<u8>],
     pub settings: &'a Settings,
     pub tables: &'a Tables,
 }

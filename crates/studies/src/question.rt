@@ -8,10 +8,11 @@ ghost use Rattle.studies.specs.Study.{IsStudyText, Tells, TellsBy};
 use crate::fault::StudyFault;
 use crate::inputs::Inputs;
 use crate::kept::Kept;
+use crate::names::names_of;
 use crate::parts::Asked;
 use crate::settings::Settings;
-use crate::study::text_of;
 use crate::tables::read_tables;
+use crate::text::text_of;
 use crate::watch::Unwatched;
 use std::alloc::{AllocError, Global};
 use std::sync::Wait;
@@ -71,13 +72,17 @@ pub fn answer<G: Gate + Sync, R: Threads + Wait + Sync>(
         (asked_files (inputs_of kept.now.inputs) question.now) question.now.settings.now) }
 {
     let inputs = inputs_with(&kept.inputs, question);
-    let tables = read_tables(alloc, &inputs, kept.feed.as_ref())?;
+    let feed = kept.feed.as_ref();
+    let tables = read_tables(alloc, &inputs, feed)?;
+    let names = names_of(alloc, inputs.scenarios)?;
     let asked = Asked {
-        inputs: &inputs,
+        feed,
+        networks: kept.networks.as_slice(),
+        names: names.as_slice(),
         settings: question.settings,
         tables: tables.as_ref(),
     };
-    text_of(rt, alloc, kept, &asked, gate, &Unwatched)
+    text_of(rt, alloc, &asked, gate, &Unwatched)
 }
 
 /// The files of the study that a question asks for.

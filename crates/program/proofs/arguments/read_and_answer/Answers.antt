@@ -1,23 +1,14 @@
-use Rattle.std.proofs.Common.{inl, inr, refl, subst, sym}
-use Rattle.studies.specs.Inputs.{inputs_of}
-use Rattle.program.specs.Files.{AreNamed, asks_of}
+use Rattle.std.proofs.Common.{inl, inr, refl}
+use Rattle.program.specs.Files.{asks_of}
 use Rattle.program.proofs.FirstUnread.{told}
 use Rattle.program.proofs.arguments.read_and_answer.Goals as goal
 
 pub returns-in-Ok-clause-success : goal.returns-in-Ok-clause-success
 returns-in-Ok-clause-success g c = λ z.
-    record {
-      files = inputs_of c.inputs.result;
-      named = subst (λ i. AreNamed (g.H.Disk.finds c.args.host.now) c.args.task.now i) (sym c.inputs.ensures)
-          c.in-Ok.ensures.files;
-      whole = c.answer_files.ensures.success z;
-    }
+    record { files = _; named = c.in-Ok.ensures.files; whole = c.answer_files.ensures.success z }
 
 pub returns-in-Ok-clause-ended : goal.returns-in-Ok-clause-ended
-returns-in-Ok-clause-ended g c =
-    let named = subst (λ i. AreNamed (g.H.Disk.finds c.args.host.now) c.args.task.now i) (sym c.inputs.ensures)
-    c.in-Ok.ensures.files in
-    inr (inputs_of c.inputs.result, named, c.answer_files.ensures.ended)
+returns-in-Ok-clause-ended g c = inr (_, c.in-Ok.ensures.files, c.answer_files.ensures.ended)
 
 pub returns-after-task-clause-ended : goal.returns-after-task-clause-ended
 returns-after-task-clause-ended g c =
