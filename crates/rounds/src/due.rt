@@ -32,7 +32,9 @@ fn note(due: &mut [u32], line: usize, position: u32)
 }
 
 /// Notes how far the labels of each stop in `fallen` fell from those that were kept of it, and from which position on
-/// each line is due that can be boarded there. At the other stops none fell.
+/// each line is due that can be boarded there. At the other stops none fell. It is a function of its own, so that its
+/// loop has registers enough.
+#[inline(never)]
 pub(crate) fn note_falls<R: LaneLabels>(
     lines: &Lines,
     before: &[R],

@@ -69,7 +69,9 @@ fn scan_trips<R: LaneLabels>(
     scan_line(view, first, round.labels, ride, marked);
 }
 
-/// Carries travellers line by line, from where each line is due, along at least the trips that they newly catch.
+/// Carries travellers line by line, from where each line is due, along at least the trips that they newly catch. It is
+/// a function of its own, so that its loops have registers enough.
+#[inline(never)]
 pub(crate) fn scan_lines<R: LaneLabels>(
     round: Round<'_, '_, R>,
     due: &[u32],

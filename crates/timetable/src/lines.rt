@@ -119,18 +119,31 @@ fn order_of(alloc: Global, trips: &[Trip]) -> Result<Vec<(u64, u32, u32)>, Alloc
     Ok(order)
 }
 
-/// A number for the stops of the events, and where one may board and alight: trips of one line have the same.
+/// A number for the stops of the events, and where one may board and alight: trips of one line have the same. The first
+/// stop has the highest bits, so that lines which begin near each other lie near each other and are scanned in turn.
 fn pattern_of(events: &[Event]) -> u64 {
-    let mut pattern: u64 = events.len() as u64;
+    (u64::from(first_stop(events)) << 48) | (mixed_stops(events) >> 16)
+}
+
+fn first_stop(events: &[Event]) -> u32 {
+    match events.first() {
+        Some(event) => event.stop.0,
+        None => 0,
+    }
+}
+
+/// All stops in one number, and where one may board and alight.
+fn mixed_stops(events: &[Event]) -> u64 {
+    let mut mixed: u64 = events.len() as u64;
     for event in events {
         let stop = u64::from(event.stop.0).wrapping_mul(4);
         let board = if event.board { 2 } else { 0 };
         let alight = if event.alight { 1 } else { 0 };
-        pattern = (pattern ^ stop ^ board ^ alight)
+        mixed = (mixed ^ stop ^ board ^ alight)
             .wrapping_mul(0x9E37_79B9_7F4A_7C15)
             .rotate_left(29);
     }
-    pattern
+    mixed
 }
 
 fn first_departure(events: &[Event]) -> u32 {

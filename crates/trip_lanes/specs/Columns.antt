@@ -9,9 +9,17 @@ pub record IsColumn (c : Column) : Type 0 where
   pub position : c.position < c.positions
   pub size : length c.times.now ≡ c.trips * c.positions
 
--- when the trip that comes r-th in the line arrives at the position, as labels tell it, and when it departs
+-- when the trip that comes r-th in the line departs from the position
+abbrev pub leaves : Column → ℕ → ℕ
+leaves c r = slice_index (departures_in c.times.now) (r * c.positions + c.position)
+
+-- when it arrives there, as labels tell it, and when it departs
 abbrev pub arrives : Column → ℕ → ℕ
 arrives c r = cut c.base c.cap (slice_index (arrivals_in c.times.now) (r * c.positions + c.position))
 
 abbrev pub departs : Column → ℕ → ℕ
-departs c r = cut c.base c.cap (slice_index (departures_in c.times.now) (r * c.positions + c.position))
+departs c r = cut c.base c.cap (leaves c r)
+
+-- a time before which trips depart before a label
+abbrev pub IsTimeOf : Column → ℕ → ℕ → Type 0
+IsTimeOf c label time = (r : ℕ) → leaves c r < time → departs c r < label

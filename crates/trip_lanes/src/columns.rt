@@ -1,6 +1,6 @@
 //! When the trips of a line arrive at one of its positions, and depart there.
 ghost use Rattle.std.specs.Prelude.{◌≡◌, ◌<◌};
-ghost use Rattle.trip_lanes.specs.Columns.{IsColumn, arrives, departs};
+ghost use Rattle.trip_lanes.specs.Columns.{IsColumn, IsTimeOf, arrives, departs, leaves};
 ghost use Rattle.trip_lanes.specs.Cut.{cut};
 
 use timetable::CallTimes;
@@ -46,6 +46,25 @@ pub(crate) fn departure(column: Column<'_>, rank: usize) -> u32
     requires rank { rank < column.trips }
     ensures { result ≡ departs column.entry rank }
 {
-    let time = column.times[rank * column.positions + column.position].depart;
-    told(time, column.base, column.cap)
+    told(departure_time(column, rank), column.base, column.cap)
+}
+
+/// When the trip of a rank departs, in seconds on the axis.
+pub(crate) fn departure_time(column: Column<'_>, rank: usize) -> u32
+    requires column { IsColumn column }
+    requires rank { rank < column.trips }
+    ensures { result ≡ leaves column.entry rank }
+{
+    column.times[rank * column.positions + column.position].depart
+}
+
+/// A time on the axis before which trips depart before a label.
+pub(crate) fn time_of(column: Column<'_>, label: u32) -> u32
+    ensures { IsTimeOf column.entry label result }
+{
+    if label == 0 {
+        0
+    } else {
+        column.base.saturating_add(label)
+    }
 }

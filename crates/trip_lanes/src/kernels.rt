@@ -1,5 +1,5 @@
 //! Labels of one stop that are lowered, in each lane.
-ghost use Rattle.std.specs.Prelude.{◌≡◌, ◌-◌, ℕ, ◌<◌, length, slice_index, List, set, true, false};
+ghost use Rattle.std.specs.Prelude.{◌≡◌, ◌-◌, ℕ, ◌<◌, length, slice_index, slice_index_or, List, set, true, false};
 ghost use Rattle.trip_lanes.specs.Falls.{AreNoted};
 ghost use Rattle.trip_lanes.specs.Lane.{lane, labels_in, MarksFallenOf};
 ghost use Rattle.timetable.specs.RoundSteps.{Lowers};
@@ -18,8 +18,23 @@ pub fn lower_row<R: LaneLabels>(labels: &mut [R], marked: &mut [bool], stop: usi
         marked.new }
 {
     let old = labels[stop];
-    let new = old.lower_of(times);
-    marked[stop] = marked[stop] | new.changed(old);
+    lower_from(labels, marked, stop, old, times);
+}
+
+/// The same, where the labels of the stop have been read.
+#[inline(always)]
+fn lower_from<R: LaneLabels>(labels: &mut [R], marked: &mut [bool], stop: usize, row: R, times: R)
+    requires stop { stop < length labels.old }
+    requires same { length marked.old ≡ length labels.old }
+    requires row { row ≡ slice_index_or labels.old stop row }
+    ensures lanes { (l : ℕ) → l < R.LANES → Lowers (λ p x. (p ≡ stop)
+        × (x ≡ slice_index (R.labels times) l)) (lane l (labels_in R.labels labels.old))
+        (lane l (labels_in R.labels labels.new)) }
+    ensures marks { MarksFallenOf R.LANES (labels_in R.labels labels.old) (labels_in R.labels labels.new) marked.old
+        marked.new }
+{
+    let new = row.lower_of(times);
+    marked[stop] = marked[stop] | new.changed(row);
     labels[stop] = new;
 }
 
@@ -46,10 +61,10 @@ pub(crate) fn lower_noting<R: LaneLabels>(
         AreNoted was (lane l (labels_in R.labels ready.old)) (lane l (labels_in R.labels before.old)) fallen.old →
         AreNoted was (lane l (labels_in R.labels ready.new)) (lane l (labels_in R.labels before.new)) fallen.new }
 {
+    // The labels before are stored first, while registers hold them.
     let old = ready[stop];
-    let noted = fallen[stop];
-    lower_row(ready, fallen, stop, times);
-    keep_first(before, stop, old, noted);
+    keep_first(before, stop, old, fallen[stop]);
+    lower_from(ready, fallen, stop, old, times);
 }
 
 /// Keeps the labels of a stop, unless its first fall is noted already: then those of no stop take them.

@@ -5,13 +5,13 @@
 ghost use Rattle.std.specs.Prelude.{◌≡◌, ◌+◌, ◌*◌, ℕ, ◌<◌, ◌≤◌, ◌⊎◌, List, length, slice_index, All};
 ghost use Rattle.trip_lanes.specs.Lane.{lane, labels_in, MarksFallenOf};
 ghost use Rattle.trip_lanes.specs.Scan.{FallsTo};
-ghost use Rattle.trip_lanes.specs.Columns.{IsColumn, departs};
+ghost use Rattle.trip_lanes.specs.Columns.{IsColumn, IsTimeOf, departs};
 ghost use Rattle.trip_lanes.specs.Falls.{HasFallen, AreFalls};
 ghost use Rattle.trip_lanes.specs.Ranks.{Rides, RidesBy, Catches, Ascend};
 ghost use Rattle.trip_lanes.specs.Rows.{IsCutViewOf, NoneOvertakes, CarriesRow, IsCaught, IsPast};
 ghost use Rattle.timetable.specs.declared.trips.Event.{Event};
 
-use crate::columns::{Column, departure};
+use crate::columns::{Column, departure, departure_time, time_of};
 use crate::falls::Fall;
 use crate::kernels::lower_row;
 use crate::lane_labels::LaneLabels;
@@ -96,13 +96,15 @@ pub fn scan_line<R: LaneLabels>(
     }
 }
 
-/// The first rank that departs no earlier than a time, sought from a rank that may be near.
-fn first_from(column: Column<'_>, time: u32, near: usize) -> usize
+/// The first rank that departs no earlier than a label, sought from a rank that may be near. Times are compared as they
+/// stand, without telling each as labels do.
+fn first_from(column: Column<'_>, label: u32, near: usize) -> usize
     requires { IsColumn column }
     ensures within { result ≤ column.entry.trips }
     ensures early { Ascend (departs column.entry) column.entry.trips → (r : ℕ) → r < result →
-        departs column.entry r < time }
+        departs column.entry r < label }
 {
+    let time = time_of(column, label);
     let start = if near < column.trips {
         near
     } else {
@@ -120,7 +122,7 @@ fn guess(column: Column<'_>, time: u32) -> usize
     let mut high = column.trips;
     while low < high {
         let middle = low + (high - low) / 2;
-        if departure(column, middle) < time {
+        if departure_time(column, middle) < time {
             low = middle + 1;
         } else {
             high = middle;
@@ -134,11 +136,11 @@ fn back(column: Column<'_>, time: u32, start: usize) -> usize
     requires column { IsColumn column }
     requires start { start ≤ column.trips }
     ensures within { result ≤ start }
-    ensures early { Ascend (departs column.entry) column.entry.trips → (r : ℕ) → r < result →
-        departs column.entry r < time }
+    ensures early { (label : ℕ) → IsTimeOf column.entry label time → Ascend (departs column.entry) column.entry.trips →
+        (r : ℕ) → r < result → departs column.entry r < label }
 {
     let mut first = start;
-    while first > 0 && departure(column, first - 1) >= time {
+    while first > 0 && departure_time(column, first - 1) >= time {
         first -= 1;
     }
     first
@@ -148,13 +150,14 @@ fn back(column: Column<'_>, time: u32, start: usize) -> usize
 fn forth(column: Column<'_>, time: u32, start: usize) -> usize
     requires column { IsColumn column }
     requires within { start ≤ column.trips }
-    requires early { Ascend (departs column) column.trips → (r : ℕ) → r < start → departs column r < time }
+    requires early { (label : ℕ) → IsTimeOf column label time → Ascend (departs column) column.trips → (r : ℕ) →
+        r < start → departs column r < label }
     ensures within { result ≤ column.entry.trips }
-    ensures early { Ascend (departs column.entry) column.entry.trips → (r : ℕ) → r < result →
-        departs column.entry r < time }
+    ensures early { (label : ℕ) → IsTimeOf column.entry label time → Ascend (departs column.entry) column.entry.trips →
+        (r : ℕ) → r < result → departs column.entry r < label }
 {
     let mut first = start;
-    while first < column.trips && departure(column, first) < time {
+    while first < column.trips && departure_time(column, first) < time {
         first += 1;
     }
     first

@@ -92,7 +92,8 @@ pub fn transfer_marked<R: LaneLabels>(
 }
 
 /// Walks along the footpaths that leave a stop, in each lane, and notes the stops where a label fell: at its first fall
-/// a stop's labels before are kept.
+/// a stop's labels before are kept. It is a function of its own, so that its loop has registers enough.
+#[inline(never)]
 fn walk_noting<R: LaneLabels>(
     leaving: &[(StopNo, u32)],
     times: R,

@@ -134,9 +134,15 @@ fn with_more(labels: Lanes, more: Lanes) -> Lanes
         slice_index result l ≡ (slice_index labels l + slice_index more l) % 2 ^ 32 }
 {
     let times = u32x16::from_array(labels);
+    let sums = times + u32x16::from_array(more);
+    let never = u32x16::splat(NEVER_NARROW);
+    // Most stops that are reached at all are reached in each of the minutes.
+    if times.simd_ne(never).all() {
+        return sums.to_array();
+    }
     times
-        .simd_eq(u32x16::splat(NEVER_NARROW))
-        .select(u32x16::splat(NEVER), times + u32x16::from_array(more))
+        .simd_eq(never)
+        .select(u32x16::splat(NEVER), sums)
         .to_array()
 }
 

@@ -11,19 +11,19 @@ returns-clause-before g c l was h are =
     let s = c.args.stop in
     let old = c.index-ready-stop.result in
     let ready = c.args.ready.now in
-    let low = c.lower_row.new.labels in
+    let low = c.lower_from.new.labels in
     let kept = c.args.before.now in
     let fallen = c.args.fallen.now in
-    let is = c.lower_row.new.marked in
+    let is = c.lower_from.new.marked in
     let in_fallen : s < length fallen = omega (arith, c.requires.stop, c.requires.fallen) in
     elim (cases_Bool (get_or fallen s false)) [
       | inl on ↦
           let again : slice_get fallen s ≡ Some true = slice_get-get_or fallen s false in_fallen ∙ ap Some on in
           rw (c.keep_first.ensures.later on) (noted_again labels was ready low kept fallen is s lanes l old
-          c.args.times c.lower_row.ensures.lanes c.lower_row.ensures.marks c.requires.fallen h
+          c.args.times c.lower_from.ensures.lanes c.lower_from.ensures.marks c.requires.fallen h
           c.index-ready-stop.is c.requires.stop are (length kept - 1) again (omega (arith, c.requires.before)))
       | inr off ↦ rw (c.keep_first.ensures.first off) (noted_first labels was ready low kept fallen is s lanes l old
-          c.args.times c.lower_row.ensures.lanes c.lower_row.ensures.marks c.requires.fallen h
+          c.args.times c.lower_from.ensures.lanes c.lower_from.ensures.marks c.requires.fallen h
           c.index-ready-stop.is c.requires.stop are
           (λ on. false≢true (sym off ∙ get_or_from_slice_get fallen s true false on))
           (omega (arith, c.requires.stop, c.requires.before)))
