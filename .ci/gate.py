@@ -2,6 +2,7 @@
 """The merge gate: `rt ci` at the top of the repository, whole, and then the scripts on the program that it built.
 
     .ci/run                       the gate
+    .ci/run --anew                the gate, with nothing taken from what earlier runs kept
     .ci/run --quick               a first answer in minutes; proves nothing
     .ci/run --planted [CRATE ..]  tries the bugs in crates/CRATE/planted, of these crates or of all
 
@@ -90,9 +91,10 @@ def run_scripts(root: Path, scripts: list[list[str]]) -> Count:
     return count
 
 
-def gate(root: Path) -> Count:
-    """Proves, tries and tests the whole repository."""
-    proved = counted(*lines_of(["rt", "ci"], root, "rt ci", at_once=True))
+def gate(root: Path, flags: list[str]) -> Count:
+    """Proves, tries and tests the whole repository, with these flags of `rt ci`."""
+    command = ["rt", "ci", *flags]
+    proved = counted(*lines_of(command, root, " ".join(command), at_once=True))
     return proved + run_scripts(root, [*WITHOUT_PROGRAM, *ON_PROGRAM])
 
 
@@ -134,6 +136,7 @@ def arguments_of(arguments: list[str]) -> argparse.Namespace:
     form = argparse.RawDescriptionHelpFormatter
     parser = argparse.ArgumentParser(prog=".ci/run", description=__doc__, formatter_class=form)
     part = parser.add_mutually_exclusive_group()
+    part.add_argument("--anew", action="store_true", help="prove and try all, kept or not")
     part.add_argument("--quick", action="store_true", help="run tests without any proof")
     part.add_argument("--planted", nargs="*", metavar="CRATE", help="try the planted bugs, and nothing else")
     return parser.parse_args(arguments)
@@ -145,7 +148,7 @@ def run(root: Path, command: list[str]) -> int:
     if arguments.planted is not None:
         count = sum(try_planted(root, arguments.planted), Count())
     else:
-        count = quick(root) if arguments.quick else gate(root)
+        count = quick(root) if arguments.quick else gate(root, ["--anew"] if arguments.anew else [])
     print(count)
     return 1 if count.failed else 0
 

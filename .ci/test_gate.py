@@ -105,6 +105,12 @@ def test_rt_ci_sees_the_repository_whole(small: Gate) -> None:
     assert run.calls == ["ci repository"]
 
 
+def test_anew_is_handed_to_rt_ci(small: Gate) -> None:
+    small.stand_in(STAND_IN.replace("ci)\n", 'ci)\n    echo "asked of rt: $*"\n'))
+    assert "asked of rt: ci --anew" in small.run("--anew").lines
+    assert "asked of rt: ci" in small.run().lines
+
+
 def test_scripts_are_counted_and_those_on_the_program_get_its_path(small: Gate) -> None:
     for name in (".ci/names.py", ".ci/packaging_checks.py", "bench/hostile.py"):
         small.repository.write(name, SCRIPT)
