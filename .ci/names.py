@@ -132,7 +132,8 @@ def judged_assurance(root: Path, sources: Sources) -> Iterator[tuple[str, bool]]
     page = root / "docs/explanation/proofs.md"
     text = page.read_text() if page.is_file() else ""
     for crate, edit in EDIT.findall(text):
-        yield f"proofs.md: {crate} has no edit {edit}", (root / f"crates/{crate}/must-fail/{edit}.edit").is_file()
+        is_there = any((root / f"crates/{crate}/{folder}/{edit}.edit").is_file() for folder in ("must-fail", "planted"))
+        yield f"proofs.md: {crate} has no edit {edit}", is_there
     files = {path.stem for crate in sources.names for path in repository.files_of(root / f"crates/{crate}/src")}
     specs = "\n".join(path.read_text() for path in sorted((root / "crates").glob("*/specs/*.antt")))
     libraries = {text for crate in repository.crates_of(root).values() for text in crate.line.split(":")[1].split()}

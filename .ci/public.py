@@ -18,6 +18,7 @@ from edits import Edit
 TEST = re.compile(r"((?:[ \t]*///.*\n)*)(?:[ \t]*#\[.*\]\n)*[ \t]*#\[test\]\n")
 NAME = re.compile(r"`((?:\w+::)?\w+)`")
 LAWS = "laws"  # modules whose functions have nothing but a contract, which is a theorem
+MOST_MUST_FAIL = 150  # edits that `rt ci` tries one at a time
 NOTHING = {"known", "none"}  # they show an invariant, and make what stands before anything is read
 
 
@@ -63,6 +64,8 @@ def can_be_planted(path: Path) -> bool:
 def judged(root: Path) -> Iterator[tuple[str, bool]]:
     """Each public function, and whether something names it; and each test, whether it names one."""
     crates = repository.crates_of(root)
+    one_by_one = sum(len(repository.edits_of(root, crate)) for crate in crates)
+    yield f"{one_by_one} must-fail edits, of at most {MOST_MUST_FAIL}: move some to planted", one_by_one <= MOST_MUST_FAIL
     tests = named_by_tests(root, crates)
     for crate in crates:
         if repository.PROMISE_NOTHING.search(crate):
