@@ -1,15 +1,18 @@
 #!/usr/bin/env python3
-"""The merge gate: `rt ci` at the top of the repository, whole, and then the scripts on the program that it built.
+"""The merge gate: `rt ci` at the top of the repository, planted bugs, and then scripts on the program that it built.
 
     .ci/run                       the gate
     .ci/run --anew                the gate, with nothing taken from what earlier runs kept
     .ci/run --quick               a first answer in minutes; proves nothing
-    .ci/run --planted [CRATE ..]  tries the bugs in crates/CRATE/planted, of these crates or of all
+    .ci/run --planted [CRATE ..]  tries the bugs in crates/CRATE/planted, of these crates or of all, and notes in
+                                  planted.lock which crates had all refused
 
-`rt ci` proves every crate and its tests, tries every must-fail edit, and runs every test and program. Then the scripts
-run, one after another, since some of their tests go by the clock: the layout, types and tests of the Python, the checks
-of the pages, and what is tried on the built program. The exit status is 0 where `rt ci` and each script passed. The
-last line is 'N passed, M failed, K skipped': skipped is what can't be run on this machine, and each is named above.
+`rt ci` proves every crate and its tests, tries every must-fail edit, and runs every test and program. Then the planted
+bugs of the crates that changed since they were all refused are tried, and those of one crate that the commit draws. The
+scripts run last and one after another, since some of their tests go by the clock: the layout, types and tests of the
+Python, the checks of the pages, and the tests of the built program. The gate says how long it should take, where it is,
+and which ten parts took longest. The exit status is 0 if all passed. The last line is 'N passed, M failed, K skipped':
+what this machine can't run is skipped, and each such check is named above.
 """
 
 from __future__ import annotations
@@ -19,14 +22,15 @@ import os
 import re
 import subprocess
 import sys
-import tempfile
 import time
-from collections.abc import Iterator
+from collections.abc import Callable
 from concurrent.futures import ThreadPoolExecutor
+from dataclasses import dataclass
 from pathlib import Path
 
+import planted
 import repository
-import trials
+from progress import Progress, Sampler
 from repository import Count
 
 MEMORY_OF_A_CHECK = 4_000_000  # kilobytes
@@ -35,10 +39,11 @@ CLOSING = re.compile(r"(\d+) passed, (\d+) failed(?:, (\d+) skipped)?")
 CLOSING_OF_TESTS = re.compile(r"test result: \w+\. (\d+) passed; (\d+) failed()\b.*")
 WITHOUT_PROGRAM = [[".ci/tools_checks.py"], [".ci/names.py"], [".ci/same.py"], [".ci/lemmas.py"]]
 PROGRAM, TRIALS = "crates/ttm/out/ttm", "crates/growth_trials/out/growth_trials"
+HOSTILE = "bench/hostile.py"
 ON_PROGRAM = [
     [".ci/tools_checks.py", PROGRAM],
     [".ci/packaging_checks.py", PROGRAM],
-    ["bench/hostile.py", PROGRAM, TRIALS],
+    [HOSTILE, PROGRAM, TRIALS],
 ]
 
 
@@ -56,23 +61,33 @@ def counted(status: int, lines: list[str], closing: re.Pattern[str] = CLOSING) -
     return Count(passed, max(failed, 1 if status else 0), skipped)
 
 
-def lines_of(command: list[str], folder: Path, title: str, at_once: bool = False) -> tuple[int, list[str]]:
-    """Runs a command; its status and its lines, which are printed when it has ended, or `at_once` as they come."""
+@dataclass(frozen=True)
+class Ran:
+    """What a command came to: its exit status, its lines, and the processor seconds that it took."""
+
+    status: int
+    lines: list[str]
+    seconds: float
+
+
+def run_command(command: list[str], folder: Path, title: str, read: Callable[[str], None] | None = None) -> Ran:
+    """Runs a command. Its lines are printed once it has ended, or as they come if `read` is to be called with each."""
     began = time.monotonic()
     lines = []
     environment = {"SOURCE_DATE_EPOCH": time_of_commit(folder), **os.environ}
     with subprocess.Popen(command, cwd=folder, env=environment, **repository.PIPED) as process:
         assert process.stdout
         for line in process.stdout:
-            if at_once:
-                print(line, end="", flush=True)
             lines.append(line.rstrip("\n"))
+            if read:
+                print(line, end="", flush=True)
+                read(lines[-1])
         _, status, usage = os.wait4(process.pid, 0)
         process.returncode = os.waitstatus_to_exitcode(status)
-    processor = usage.ru_utime + usage.ru_stime
-    heading = f"== {title} ({time.monotonic() - began:.0f} s, {processor:.0f} s of processor time)"
-    print("\n".join([heading] if at_once else [heading, *lines]), flush=True)
-    return process.returncode, lines
+    seconds = usage.ru_utime + usage.ru_stime
+    heading = f"== {title} ({time.monotonic() - began:.0f} s, {seconds:.0f} s of processor time)"
+    print("\n".join([heading] if read else [heading, *lines]), flush=True)
+    return Ran(process.returncode, lines, seconds)
 
 
 def time_of_commit(folder: Path) -> str:
@@ -82,32 +97,49 @@ def time_of_commit(folder: Path) -> str:
     return log.stdout.strip() or "0"
 
 
-def run_scripts(root: Path, scripts: list[list[str]]) -> Count:
-    count = Count()
-    for script in scripts:
-        if (root / script[0]).is_file():
-            paths = [str(root / word) if word in (PROGRAM, TRIALS) else word for word in script]
-            count += counted(*lines_of([sys.executable, *paths], root, script[0]))
+def run_script(root: Path, script: list[str]) -> tuple[Count, float]:
+    """Runs a script of the repository; what it counts, and its processor seconds."""
+    if not (root / script[0]).is_file():
+        return Count(), 0.0
+    paths = [str(root / word) if word in (PROGRAM, TRIALS) else word for word in script]
+    ran = run_command([sys.executable, *paths], root, script[0])
+    return counted(ran.status, ran.lines), ran.seconds
+
+
+def gate(root: Path, is_anew: bool) -> Count:
+    """Proves, tries and tests the whole repository."""
+    crates = repository.crates_of(root)
+    progress = Progress(len(crates), sum(len(repository.edits_of(root, crate)) for crate in crates))
+    progress.expect()
+    sampler = Sampler()
+    sampler.start()
+    command = ["rt", "ci", *(["--anew"] if is_anew else [])]
+    ran = run_command(command, root, " ".join(command), progress.read)
+    count = counted(ran.status, ran.lines)
+    progress.report("planted bugs")
+    if count.failed:
+        print("no planted bug is tried, since `rt ci` failed")
+    else:
+        count += planted.try_changed(root, is_anew, jobs())
+    took: dict[str, float] = {}
+    for script in [*WITHOUT_PROGRAM, *ON_PROGRAM]:
+        progress.report(" ".join(script))
+        counted_here, took[" ".join(script)] = run_script(root, script)
+        count += counted_here
+    print("\n".join(["the slowest parts, in processor time:", *sampler.slowest(took)]))
     return count
 
 
-def gate(root: Path, flags: list[str]) -> Count:
-    """Proves, tries and tests the whole repository, with these flags of `rt ci`."""
-    command = ["rt", "ci", *flags]
-    proved = counted(*lines_of(command, root, " ".join(command), at_once=True))
-    return proved + run_scripts(root, [*WITHOUT_PROGRAM, *ON_PROGRAM])
-
-
 def quick(root: Path) -> Count:
-    """The tests and the program's main job by `rt try`, the tests of the tools that run no program, and the pages. What
-    takes longer than it tells is left out: the layout and types of the Python, and tests in a browser.
+    """The tests and the program's main job by `rt try`, the tests of the tools that run no program, and the pages. The
+    layout and types of the Python and tests in a browser take longer than they tell here, and are left out.
 
     The scripts begin, since the first takes longest: it may have to install packages, which leaves processors free.
     """
     trials = ["ttm", *(name for name in reversed(repository.crates_of(root)) if has_tests(root, name))]
     scripts = [[*WITHOUT_PROGRAM[0], "--quick"], *WITHOUT_PROGRAM[1:]]
     with ThreadPoolExecutor(jobs()) as pool:
-        checked = pool.map(lambda script: run_scripts(root, [script]), scripts)
+        checked = pool.map(lambda script: run_script(root, script)[0], scripts)
         tested = pool.map(lambda name: try_crate(root, name), trials)
         return sum([*checked, *tested], Count())
 
@@ -116,20 +148,12 @@ def try_crate(root: Path, name: str) -> Count:
     """Runs the tests of a crate by `rt try`, or the program where it has none."""
     tests = ["--test"] if has_tests(root, name) else []
     command = ["rt", "try", *tests, "--seconds", str(SECONDS_OF_TESTS)]
-    status, lines = lines_of(command, root / "crates" / name, f"{name}, by rt try")
-    return counted(status, lines, CLOSING_OF_TESTS) if tests else Count(status == 0, status != 0)
+    ran = run_command(command, root / "crates" / name, f"{name}, by rt try")
+    return counted(ran.status, ran.lines, CLOSING_OF_TESTS) if tests else Count(ran.status == 0, ran.status != 0)
 
 
 def has_tests(root: Path, name: str) -> bool:
     return "#[test]" in repository.source_of(root, name)
-
-
-def try_planted(root: Path, names: list[str]) -> Iterator[Count]:
-    """Tries the planted bugs of these crates, or of all."""
-    paths = {name: repository.edits_of(root, name, "planted") for name in names or repository.crates_of(root)}
-    with tempfile.TemporaryDirectory(prefix="ttm-planted-") as room:
-        for outcome in trials.try_all(root, Path(room), {path: paths[path] for path in paths if paths[path]}, jobs()):
-            yield Count(len(outcome.refused), len(outcome.others))
 
 
 def arguments_of(arguments: list[str]) -> argparse.Namespace:
@@ -146,9 +170,9 @@ def run(root: Path, command: list[str]) -> int:
     """Runs the gate of the repository at `root`, or a part of it, and returns the exit status."""
     arguments = arguments_of(command)
     if arguments.planted is not None:
-        count = sum(try_planted(root, arguments.planted), Count())
+        count = planted.try_named(root, arguments.planted, jobs())
     else:
-        count = quick(root) if arguments.quick else gate(root, ["--anew"] if arguments.anew else [])
+        count = quick(root) if arguments.quick else gate(root, arguments.anew)
     print(count)
     return 1 if count.failed else 0
 

@@ -1,17 +1,20 @@
-"""Tests of the gate: what it runs, what it counts, which planted bugs it tries together, and that a bug that proves
-makes it fail.
+"""Tests of the gate: what it runs and counts, which planted bugs it tries, and that a bug that proves makes it fail.
 
 Most run over a stand-in for `rt`; the last goes through the toolchain itself.
 """
 
 from __future__ import annotations
 
+import re
 from pathlib import Path
 
 import pytest
 
 import edits
 import gate
+import lock
+import planted
+import progress
 from small_repository import LOWER, Repository
 
 # what stands in for `rt`: it refuses each edit that adds another number, and notes what it was asked
@@ -19,6 +22,8 @@ STAND_IN = """#!/bin/sh
 crate=$(basename "$PWD")
 echo "$1 $crate" >> "$RT_LOG"
 case $1 in
+version)
+    echo "kit 1" ;;
 ci)
     echo "rt ci sees $(ls crates/*/must-fail/*.edit | wc -l) edits and lists $(cut -d: -f1 crates.txt | tr '\\n' ' ')"
     echo "5 passed, 0 failed" ;;
@@ -61,6 +66,7 @@ PROVES = "file: src/lib.rt\nold:     count + 1\nnew:     1 + count\n"
 ONCE = "file: src/lib.rt\nold:     bump(bump(count))\nnew:     bump(count)\n"
 UNKNOWN_NAME = "file: src/lib.rt\nold:     count + 1\nnew:     counts + 1\n"
 UNREADABLE = "file: src/lib.rt\nold:     bump(bump(count))\nnew:     bump(bump(count)\n"
+SLOWEST = "the slowest parts, in processor time:"
 SCRIPT = "import os, sys\nprint(f'{len(sys.argv)} passed, 0 failed, 2 skipped')\n"
 
 
@@ -95,14 +101,16 @@ class Gate:
 def small(tmp_path: Path, monkeypatch: pytest.MonkeyPatch, capsys: pytest.CaptureFixture[str]) -> Gate:
     monkeypatch.setenv("PATH", f"{tmp_path / 'bin'}:/usr/bin:/bin")
     monkeypatch.setenv("RT_LOG", str(tmp_path / "log"))
+    monkeypatch.setattr(progress, "work", lambda: progress.WORK)
+    monkeypatch.setenv("XDG_CACHE_HOME", str(tmp_path / "cache"))
     return Gate(tmp_path, capsys)
 
 
 def test_rt_ci_sees_the_repository_whole(small: Gate) -> None:
     run = small.run()
-    assert (run.status, run.lines[-1]) == (0, "5 passed, 0 failed")
+    assert (run.status, run.lines[-1]) == (0, f"{5 + 4} passed, 0 failed")
     assert "rt ci sees 4 edits and lists lower upper one two " in run.lines
-    assert run.calls == ["ci repository"]
+    assert run.calls[0] == "ci repository"
 
 
 def test_anew_is_handed_to_rt_ci(small: Gate) -> None:
@@ -111,18 +119,27 @@ def test_anew_is_handed_to_rt_ci(small: Gate) -> None:
     assert "asked of rt: ci" in small.run().lines
 
 
+def test_the_gate_says_how_long_it_takes_and_what_took_longest(small: Gate) -> None:
+    small.repository.write(".ci/names.py", SCRIPT)
+    lines = small.run().lines
+    assert re.fullmatch(r"expected on \d+ processors, if nothing else runs: \d+ min if nothing is kept, .*", lines[0])
+    assert any(re.fullmatch(r"-- 0 min of \d+ min at most: \.ci/names\.py", line) for line in lines)
+    assert any(re.fullmatch(r" +\d+ s  \.ci/names\.py", line) for line in lines[lines.index(SLOWEST) :])
+
+
 def test_scripts_are_counted_and_those_on_the_program_get_its_path(small: Gate) -> None:
-    for name in (".ci/names.py", ".ci/packaging_checks.py", "bench/hostile.py"):
+    for name in (".ci/names.py", ".ci/packaging_checks.py", gate.HOSTILE):
         small.repository.write(name, SCRIPT)
     run = small.run()
-    assert (run.status, run.lines[-1]) == (0, f"{5 + 1 + 2 + 3} passed, 0 failed, 6 skipped")
+    assert (run.status, run.lines[-1]) == (0, f"{5 + 4 + 1 + 2 + 3} passed, 0 failed, 6 skipped")
 
 
-def test_scripts_run_when_rt_ci_has_ended(small: Gate) -> None:
+def test_scripts_run_when_everything_was_tried(small: Gate) -> None:
     """The script passes as often as `rt` was called before it."""
     script = "import os\nprint(f\"{len(open(os.environ['RT_LOG']).readlines())} passed, 0 failed\")\n"
     small.repository.write(".ci/names.py", script)
-    assert small.run().lines[-1] == "6 passed, 0 failed"
+    run = small.run()
+    assert run.lines[-1] == f"{5 + 4 + len(run.calls)} passed, 0 failed"
 
 
 @pytest.mark.parametrize(
@@ -137,12 +154,13 @@ def test_a_proof_that_fails_fails_the_gate(small: Gate, ending: str, closing: st
     small.stand_in(STAND_IN.replace("ci)\n", f"ci)\n    {ending}\n"))
     run = small.run()
     assert (run.status, run.lines[-1]) == (1, closing)
+    assert run.calls == ["ci repository"]
 
 
 def test_a_script_that_crashes_fails_the_gate(small: Gate) -> None:
     small.repository.write(".ci/same.py", "raise ValueError\n")
     run = small.run()
-    assert (run.status, run.lines[-1]) == (1, "5 passed, 1 failed")
+    assert (run.status, run.lines[-1]) == (1, f"{5 + 4} passed, 1 failed")
 
 
 def test_quick_proves_nothing_and_tries_every_test(small: Gate) -> None:
@@ -162,23 +180,63 @@ def test_quick_fails_where_a_test_fails(small: Gate) -> None:
     assert (run.status, run.lines[-1]) == (1, "2 passed, 2 failed")
 
 
-def test_planted_bugs_of_all_crates_are_tried(small: Gate) -> None:
+def crates_tried(run: Run) -> set[str]:
+    return {call.split()[1] for call in run.calls if call.startswith("check ")}
+
+
+def test_planted_bugs_of_all_crates_are_tried_and_noted(small: Gate) -> None:
     run = small.run("--planted")
-    assert (run.status, run.lines[-1]) == (0, "4 passed, 0 failed")
-    assert run.calls.count("lib lower") == 1
-    assert run.calls.index("lib lower") < run.calls.index("check upper")
+    assert (run.status, run.lines[-1], crates_tried(run)) == (0, "4 passed, 0 failed", {"lower", "upper", "one", "two"})
+    assert lock.locked(small.repository.root) == lock.digests(small.repository.root)
 
 
-def test_planted_bugs_of_one_crate_are_tried(small: Gate) -> None:
+def test_planted_bugs_of_one_crate_are_tried_and_noted(small: Gate) -> None:
     run = small.run("--planted", "upper")
-    assert (run.status, run.lines[-1]) == (0, "1 passed, 0 failed")
-    assert "check one" not in run.calls
+    assert (run.status, run.lines[-1], crates_tried(run)) == (0, "1 passed, 0 failed", {"upper"})
+    assert list(lock.locked(small.repository.root)) == ["upper"]
 
 
-def test_a_planted_bug_that_proves_fails(small: Gate) -> None:
+@pytest.mark.parametrize(
+    "file, old, new, tried",
+    [
+        ("one/src/lib.rt", "    count + 1", "    let _ = count;\n    count + 1", {"one"}),
+        ("one/planted/lib.bump.three_more.edit", "+ 3", "+ 4", {"one"}),
+        ("lower/src/lib.rt", "    count + 1", "    let _ = count;\n    count + 1", {"lower"}),
+        ("lower/src/lib.rt", "One more.", "Another one.", {"lower"}),
+        ("lower/src/lib.rt", "1000", "999", {"lower", "upper"}),
+    ],
+)
+def test_the_gate_tries_what_changed_and_one_more(small: Gate, file: str, old: str, new: str, tried: set[str]) -> None:
+    """A contract counts for the crates above it, a body for its own crate alone."""
+    small.run("--planted")
+    path = small.repository.root / "crates" / file
+    path.write_text(path.read_text().replace(old, new))
+    lock.cache().unlink()
+    run = small.run()
+    assert run.status == 0 and tried < crates_tried(run) and len(crates_tried(run)) == len(tried) + 1
+    assert f"`.ci/run --planted {' '.join(sorted(tried))}` notes these in {lock.FILE}" in run.lines
+    assert crates_tried(small.run()) == set()
+    assert crates_tried(small.run("--anew")) == crates_tried(run)
+
+
+def test_the_commit_draws_one_crate() -> None:
+    crates = ["a", "b", "c"]
+    assert [planted.drawn_by(commit, crates) for commit in ("0b", "3", "")] == [["c"], ["a"], ["a"]]
+    assert planted.drawn_by("0b", []) == []
+
+
+def test_another_toolchain_tries_all(small: Gate) -> None:
+    small.run("--planted")
+    small.stand_in(STAND_IN.replace("kit 1", "kit 2"))
+    assert crates_tried(small.run()) == {"lower", "upper", "one", "two"}
+
+
+@pytest.mark.parametrize("arguments", [["--planted"], []])
+def test_a_planted_bug_that_proves_fails(small: Gate, arguments: list[str]) -> None:
     small.repository.write("crates/one/planted/lib.bump.turned_round.edit", PROVES)
-    run = small.run("--planted")
-    assert (run.status, run.lines[-1]) == (1, "4 passed, 1 failed")
+    run = small.run(*arguments)
+    assert (run.status, run.lines[-1]) == (1, f"{4 if arguments else 9} passed, 1 failed")
+    assert "one" not in lock.locked(small.repository.root)
     assert "one/lib.bump.turned_round.edit: NOT REFUSED: the crate is still proved with it" in run.lines
 
 
@@ -215,6 +273,7 @@ def test_the_prover_refuses_what_it_should(
         return refused
 
     monkeypatch.setattr(edits.Trial, "together", noted)
+    monkeypatch.setenv("XDG_CACHE_HOME", str(tmp_path / "cache"))
     status = gate.run(repository.root, ["--planted"])
     lines = capsys.readouterr().out.splitlines()
     assert (status, lines[-1]) == (1, "1 passed, 4 failed")

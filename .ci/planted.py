@@ -1,0 +1,92 @@
+"""Tries the planted bugs of crates: all of a crate that is named, or in the gate those of the crates that changed.
+
+Each crate is tried in a copy of its own, since only one `rt` at a time works in a crate's folder. Libraries that were
+built at the root are linked into the copies; `rt` builds the others once and shares them. Standard library only.
+"""
+
+from __future__ import annotations
+
+import shutil
+import subprocess
+import tempfile
+from concurrent.futures import ThreadPoolExecutor
+from pathlib import Path
+
+import edits
+import lock
+import repository
+from repository import Count
+
+
+def lay_out(root: Path, room: Path, crate: str) -> Path:
+    """Copies a crate and those below it, with their built libraries; the folder of the crate's copy."""
+    crates = repository.crates_of(root)
+    names = [crate, *repository.below(crates, crate)]
+    (room / "crates").mkdir(parents=True)
+    shutil.copy(root / "HANDLES", room)
+    (room / "crates.txt").write_text("".join(crates[name].line + "\n" for name in names))
+    for name in names:
+        ignored = shutil.ignore_patterns("out", "must-fail", "planted")
+        shutil.copytree(root / "crates" / name, room / "crates" / name, ignore=ignored)
+        built, out = root / "crates" / name / "out/rlib", room / "crates" / name / "out"
+        if name != crate and built.is_dir():
+            out.mkdir()
+            subprocess.run(["cp", "-al", str(built), str(out)], check=True)
+    return room / "crates" / crate
+
+
+def try_crate(root: Path, crate: str, jobs: int) -> edits.Outcome:
+    """Tries the planted bugs of a crate, and prints what came of them."""
+    with tempfile.TemporaryDirectory(prefix=f"ttm-planted-{crate}-") as room:
+        trial = edits.Trial(lay_out(root, Path(room) / "copy", crate), jobs)
+        outcome = trial.run([edits.Edit(path) for path in repository.edits_of(root, crate, "planted")])
+    outcome.tell()
+    return outcome
+
+
+def try_crates(root: Path, digests: dict[str, str], jobs: int) -> Count:
+    """Tries the planted bugs of these crates, several at once, and keeps the digests of those that have all refused."""
+    each = max(1, jobs // max(1, len(digests)))
+    count = Count()
+    with ThreadPoolExecutor(max(1, min(jobs, len(digests)))) as pool:
+        for outcome in pool.map(lambda crate: try_crate(root, crate, each), digests):
+            count += Count(len(outcome.refused), len(outcome.others))
+            if not outcome.others:
+                lock.keep(digests[outcome.crate])
+    return count
+
+
+def try_named(root: Path, names: list[str], jobs: int) -> Count:
+    """Tries the planted bugs of these crates, or of all, and notes in the lock file those of which all were refused."""
+    digests = {crate: digest for crate, digest in lock.digests(root).items() if crate in names or not names}
+    count = try_crates(root, digests, jobs)
+    lock.lock(root, {crate: digest for crate, digest in digests.items() if digest in lock.kept()})
+    return count
+
+
+def try_changed(root: Path, is_anew: bool, jobs: int) -> Count:
+    """Tries the planted bugs of each crate that changed since they were all refused, and of one that did not, which the
+    commit's hash draws; but none that passed on this machine as they are, unless all is to be tried anew.
+    """
+    digests, locked = lock.digests(root), lock.locked(root)
+    changed = [crate for crate in digests if digests[crate] != locked.get(crate)]
+    drawn = drawn_by(commit_of(root), [crate for crate in digests if crate not in changed])
+    passed = set() if is_anew else lock.kept()
+    left = {crate: digests[crate] for crate in [*changed, *drawn] if digests[crate] not in passed}
+    print(f"changed since all their planted bugs were refused: {', '.join(changed) or 'no crate'}")
+    print(f"drawn from the others: {', '.join(drawn) or 'none'}; to be tried: {', '.join(left) or 'none'}", flush=True)
+    count = try_crates(root, left, jobs)
+    if changed and not count.failed:
+        print(f"`.ci/run --planted {' '.join(changed)}` notes these in {lock.FILE}")
+    return count
+
+
+def commit_of(root: Path) -> str:
+    """The hash of the commit that is checked out, as far as there is one."""
+    asked = subprocess.run(["git", "rev-parse", "--verify", "HEAD"], cwd=root, capture_output=True, text=True)
+    return asked.stdout.strip()
+
+
+def drawn_by(commit: str, crates: list[str]) -> list[str]:
+    """One of these crates, by a commit's hash; none of no crates."""
+    return [crates[int(commit or "0", 16) % len(crates)]] if crates else []
