@@ -1,9 +1,10 @@
 """Which functions a program comes to: a walk over the sources from its `main`, by names.
 
-It reads no types. `name(..)` is the free function of that name in the same crate, else in the crates below;
-`Type::name(..)` is that type's; `.name(..)` is the method of every type that the walk has met, in these crates, and of
-every impl of a trait. So it may come to a function that no run calls, and misses what is called only by an operator,
-by `?` or by a format. It goes by the layout of `rt fmt`; tests, comments and clauses are left out.
+It reads no types. `name(..)` is the function that the file imports by `use`, else the free function of that name in the
+same crate, else in the crates below; `Type::name(..)` is that type's; `.name(..)` is the method of every type that the
+walk has met, in these crates, and of every impl of a trait. So it may come to a function that no run calls, and misses
+what is called only by an operator, by `?` or by a format. It relies on the layout of `rt fmt`; tests, comments and
+clauses are left out.
 """
 
 from __future__ import annotations
@@ -24,6 +25,7 @@ STRUCT = re.compile(r"(?:pub(?:\([a-z]+\))? )?(?:struct|enum) (\w+)")
 CALL = re.compile(r"(\.)?\b(?:(\w+)::)?(\w+)(?:::<[^;{}]*?>)?\(")
 TYPE = re.compile(r"\b[A-Z]\w*[a-z]\w*\b")
 CLAUSE = re.compile(r" *(?:requires|ensures|ghost)\b")
+IMPORT = re.compile(r"^(?:pub(?:\([a-z]+\))? )?use (\w+)::([^;]*);", re.MULTILINE)
 
 
 @dataclass(frozen=True)
@@ -71,6 +73,15 @@ def items_of(crate: str, path: Path) -> Iterator[Item]:
             yield Item(function, False, start[2] == "pub ", *parts_of(line, lines, start[1]))
 
 
+def imports_of(crate: str, text: str) -> dict[str, str]:
+    """The names that a file of a crate imports, each with the crate that it is of."""
+    return {
+        name: crate if first == "crate" else first
+        for first, rest in IMPORT.findall(text)
+        for name in re.findall(r"\b\w+\b(?!::)", rest)
+    }
+
+
 def parts_of(line: str, lines: Iterator[str], indent: str) -> tuple[list[str], list[str]]:
     """The head and the body of an item that begins so."""
     head = repository.head_of(line, lines, indent)
@@ -88,11 +99,14 @@ class Walk:
         self.contracts: set[Function] = set()  # those that say what they ensure
         self.types: dict[str, str] = defaultdict(str)
         self.named: dict[str, list[Function]] = defaultdict(list)
+        self.imports: dict[Function, dict[str, str]] = defaultdict(dict)  # those of its file
         for crate in crates:
             tests = repository.test_modules(root / "crates" / crate / "src")
             for path in [path for path in repository.sources_of(root, crate) if path.name not in tests]:
+                imports = imports_of(crate, path.read_text())
                 for item in items_of(crate, path):
                     self.note(item)
+                    self.imports[item.function].update(imports)
         for function in self.texts:
             self.named[function.name].append(function)
         self.reached: set[Function] = set()
@@ -136,7 +150,8 @@ class Walk:
         if path[:1].isupper():
             return [one for one in own if one.owner == path]
         free = [one for one in own if not one.owner]
-        return [one for one in free if one.crate == caller.crate] or free
+        imported = [one for one in free if not path and one.crate == self.imports[caller].get(name)]
+        return imported or [one for one in free if one.crate == caller.crate] or free
 
     def called(self, crate: str, path: str) -> list[Function]:
         """The crate's functions of this name, or of this type or trait and name."""

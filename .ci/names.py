@@ -1,13 +1,12 @@
 #!/usr/bin/env python3
 """Checks that the pages name only what exists.
 
-- Each function and law that README or architecture.md names exists in its crate, and each promise names a function
-  that has a contract.
-- The program's `main` reaches each function that architecture.md doesn't list as 'apart', by a walk over the sources
-  that goes by names (`calls.py` says what it misses).
-- Each spec that architecture.md or definitions.md names is a file, and so is each must-fail edit of proofs.md; the
-  functions, types and constants that proofs.md names exist.
-- Each module that the table of the tools names in architecture.md is there, and has the names of its row.
+- architecture.md: each function that its tables name exists in its crate, and the program's `main` reaches those of
+  *Where is it decided* (`calls.py` says what that walk misses); each crate is named; each source file and module exists.
+- proofs.md: each promise names functions that have contracts, and each edit exists. Its numbers are right
+  (`stated.py`).
+- definitions.md, how-it-is-computed.md and architecture.md: each spec that they name is a file.
+- The functions, types and constants on architecture.md, proofs.md, how-it-is-computed.md and the glossary exist.
 - Each planted bug can be planted, and a test or a planted bug names each public function (`public.py`).
 
 The last line is 'N passed, M failed'. Standard library only.
@@ -24,17 +23,25 @@ from pathlib import Path
 import calls
 import public
 import repository
+import stated
+import tables
 
 ROOT = Path(__file__).resolve().parent.parent
 PROGRAM = "ttm"
+ARCHITECTURE = "docs/explanation/architecture.md"
+PROOFS = "docs/explanation/proofs.md"
+WITH_SPECS = ("docs/explanation/definitions.md", "docs/explanation/how-it-is-computed.md")
+WITH_NAMES = (ARCHITECTURE, PROOFS, WITH_SPECS[1], "docs/glossary.md")
 NAME = re.compile(r"`((?:\w+::)*[A-Za-z]\w*)`")
-ITEM = re.compile(r"\d+\. \*\*(.+?)\*\*(.*)", re.DOTALL)
 EDIT = re.compile(r"`(\w+)/(\w+\.\w+\.\w+)`")
 SPEC = re.compile(r"(?:\b(\w+)/)?\b([A-Z]\w*)\b")
+SOURCE = re.compile(r"`((?:[\w]+/)*\w+\.rt)`")
 MODULE = re.compile(r"`([\w/]+\.py)`")
+OF_R5 = "(*R5*)"  # what a line of the glossary has whose words are of R5, not of the code
 TOOLS = "tools/src/ttm_tools"
 PYTHON = r"(?m)^(?:(?:def|class) {0}\b|{0}(?:: [^=\n]+)? = )"
 VISIBLE = r"(?:pub(?:\([a-z]+\))? )?"
+PART = r'^ +(?:pub(?:\([a-z]+\))? )?{0}(?::|,$| \{{|\()|"{0}"'  # a field, a variant, a column of a table
 NAMED = rf"(?m)^(?: *{VISIBLE}(?:(?:const|unsafe|final) )*fn|{VISIBLE}(?:struct|enum|trait|type|const)) {{}}\b"
 
 
@@ -57,6 +64,11 @@ class Sources:
         self.names = list(crates)
         self.texts = {crate: repository.source_of(root, crate) for crate in crates}
         self.walk = calls.Walk(root, crates).start(PROGRAM, "main")
+        self.specs = "\n".join(path.read_text() for path in sorted((root / "crates").glob("*/specs/*.antt")))
+        files = {path.stem for crate in crates for path in repository.files_of(root / f"crates/{crate}/src")}
+        folders = {path.name for path in (root / "crates").glob("*/*") if path.is_dir()}
+        libraries = {name for crate in crates.values() for name in crate.line.split(":")[1].split()}
+        self.others = {*crates, *files, *folders, *libraries}
 
     def has(self, claim: Claim) -> bool:
         """Whether the crate has a function of that name, of that type where one is named; or a type or a constant."""
@@ -67,113 +79,127 @@ class Sources:
 
     def has_contract(self, claim: Claim) -> bool:
         """Whether a function of that name says what it ensures."""
-        return not self.walk.contracts.isdisjoint(self.walk.called(claim.crate, claim.name.split("::")[-1]))
+        return not self.walk.contracts.isdisjoint(self.walk.called(claim.crate, claim.name))
 
     def has_spec(self, claim: Claim) -> bool:
         return (self.root / "crates" / claim.crate / "specs" / f"{claim.name}.antt").is_file()
 
-
-def promises(readme: str) -> Iterator[tuple[str, str]]:
-    """The numbered promises of README: the title of each, and its text."""
-    part = readme.split("\n## What is proved\n", 1)[1].split("\n## ", 1)[0]
-    for item in re.split(r"\n(?=\d+\. \*\*)", part)[1:]:
-        found = ITEM.match(item.split("\n\n")[0])
-        if found:
-            yield found[1].rstrip("."), found[2]
-
-
-def claims_of_promise(text: str, crates: list[str]) -> list[Claim]:
-    """The names of a promise; one without a crate is of the crate that was named last."""
-    claims, crate = [], ""
-    for path in NAME.findall(text):
-        first = path.split("::")[0]
-        crate = first if first in crates else crate
-        if crate and path != crate:
-            claims.append(Claim("README", crate, path))
-    return claims
+    def knows(self, path: str) -> bool:
+        """Whether something is called so: in the crate that the path begins with, or in any crate, or in a spec."""
+        crate, _, name = path.partition("::")
+        if name and crate in self.names:
+            return self.has(Claim("", crate, name))
+        if path in self.others or any(self.has(Claim("", crate, path)) for crate in self.names):
+            return True
+        part = re.compile(PART.format(re.escape(path)), re.MULTILINE)
+        in_specs = re.search(rf"^(?:\w+ )*{re.escape(path)}\b", self.specs, re.MULTILINE)
+        return bool(in_specs) or any(part.search(text) for text in self.texts.values())
 
 
-def entries_of(architecture: str, crates: list[str]) -> Iterator[tuple[str, str, str, str]]:
-    """What is decided where: the crate, what is decided, functions on the program's way, and those apart from it."""
-    part = architecture.split("\n## Where is it decided", 1)[1].split("\n## ", 1)[0]
-    for block in re.split(r"\n(?=- `)", part)[1:]:
-        crate, *entries = re.split(r"\n {2}- ", block)
-        for entry in entries if crate.strip("- `\n") in crates else ():
-            what, *functions = re.split(r": (?=`|\*apart\*)", " ".join(entry.split()), maxsplit=1)
-            on_way, _, apart = "".join(functions).partition("*apart*")
-            yield crate.strip("- `\n"), what, on_way, apart
+def text_of(root: Path, page: str) -> str:
+    return (root / page).read_text() if (root / page).is_file() else ""
 
 
-def claims_of_entries(architecture: str, crates: list[str]) -> tuple[list[Claim], list[Claim]]:
-    """The names in the entries, those that the program comes to and those apart from its way; and the spec files that
-    entries name in square brackets.
-    """
-    claims, specs = [], []
-    for crate, what, on_way, apart in entries_of(architecture, crates):
-        claims += [Claim("architecture.md", crate, match, True) for match in NAME.findall(on_way)]
-        claims += [Claim("architecture.md", crate, match) for match in NAME.findall(apart)]
-        words = " ".join(re.findall(r"\[([^\]]*)\](?!\()", what))
+def judged_promises(root: Path, sources: Sources) -> Iterator[tuple[str, bool]]:
+    """The rows of the promises on proofs.md: each names functions, and each of these has a contract."""
+    for promise, contracts, *_ in tables.rows_of(tables.section(text_of(root, PROOFS), "The promises")):
+        title = promise.split("**")[1].rstrip(".") if "**" in promise else promise
+        names = NAME.findall(contracts)
+        yield f"proofs.md: '{title}' names no function", bool(names)
+        for name in names:
+            there = any(sources.has_contract(Claim("", crate, name)) for crate in sources.names)
+            yield f"proofs.md: '{title}': no function {name} has a contract", there
+
+
+def claims_of_decisions(architecture: str, crates: list[str]) -> tuple[list[Claim], list[Claim], list[tuple[str, str]]]:
+    """What *Where is it decided* names: functions that the program comes to, specs, and source files by their crate."""
+    claims, specs, files = [], [], []
+    part = tables.section(architecture, "Where is it decided")
+    for crate, what, defined, functions in tables.rows_by_crate(part, crates):
+        claims += [Claim("architecture.md", crate, name, True) for name in NAME.findall(functions)]
+        words = re.sub(r"`[^`]*`", "", defined)
         specs += [Claim("architecture.md", crate, spec) for _, spec in SPEC.findall(words)]
-    return claims, specs
+        files += [(crate, file) for file in SOURCE.findall(what + defined)]
+    return claims, specs, files
 
 
-def specs_of_definitions(definitions: str, crates: list[str]) -> list[Claim]:
+def claims_of_uncalled(architecture: str, crates: list[str]) -> list[Claim]:
+    """The names under *What the program never calls*: laws, reference models and what they model, other calls."""
+    part = tables.section(architecture, "What the program never calls")
+    return [
+        Claim("architecture.md", crate, name)
+        for of_crates, *cells in tables.rows_of(part)
+        for crate in NAME.findall(of_crates)
+        for name in NAME.findall(" ".join(cells))
+        if crate in crates
+    ]
+
+
+def specs_in(page: str, text: str, crates: list[str]) -> list[Claim]:
     """The spec files that stand in square brackets, as [crate/Name, Other]."""
     claims, crate = [], ""
-    for part in re.findall(r"\[([^\]]*/[^\]]*)\]", definitions):
+    for part in re.findall(r"\[([^\]]*/[^\]]*)\](?!\()", text):
         for named, spec in SPEC.findall(part):
             crate = named or crate
-            claims += [Claim("definitions.md", crate, spec)] if crate in crates else []
+            claims += [Claim(page, crate, spec)] if crate in crates else []
     return claims
 
 
-def judged_assurance(root: Path, sources: Sources) -> Iterator[tuple[str, bool]]:
-    """What proofs.md names: edits, and functions, types, constants, crates, files and words of specs of any crate."""
-    page = root / "docs/explanation/proofs.md"
-    text = page.read_text() if page.is_file() else ""
-    for crate, edit in EDIT.findall(text):
-        is_there = any((root / f"crates/{crate}/{folder}/{edit}.edit").is_file() for folder in ("must-fail", "planted"))
-        yield f"proofs.md: {crate} has no edit {edit}", is_there
-    files = {path.stem for crate in sources.names for path in repository.files_of(root / f"crates/{crate}/src")}
-    specs = "\n".join(path.read_text() for path in sorted((root / "crates").glob("*/specs/*.antt")))
-    libraries = {text for crate in repository.crates_of(root).values() for text in crate.line.split(":")[1].split()}
-    known = {*sources.names, *files, *libraries}
-    for name in dict.fromkeys(NAME.findall(text)):
-        there = any(sources.has(Claim("proofs.md", crate, name)) for crate in sources.names)
-        word = re.search(rf"(?m)^(?:\w+ )*{re.escape(name)}\b", specs)
-        yield f"proofs.md: nothing is called {name}", name in known or there or bool(word)
+def judged_sources(root: Path, named: list[tuple[str, str]]) -> Iterator[tuple[str, bool]]:
+    """The source files of architecture.md: those of the tables by their crate, the others in any crate."""
+    for crate, file in named:
+        yield f"architecture.md: {crate} has no {file}", (root / "crates" / crate / file).is_file()
+    for file in dict.fromkeys(SOURCE.findall(tables.section(text_of(root, ARCHITECTURE), "From a stop time"))):
+        there = [*(root / "crates").glob(f"*/src/{file}"), *(root / "crates").glob(file)]
+        yield f"architecture.md: no crate has {file}", bool(there)
+
+
+def judged_names(root: Path, sources: Sources) -> Iterator[tuple[str, bool]]:
+    """What pages name of any crate: functions, types, constants, crates, files and words of specs; and edits."""
+    for page in WITH_NAMES:
+        title = Path(page).name
+        lines = [line for line in text_of(root, page).splitlines() if OF_R5 not in line]
+        text = "\n".join(lines).partition("\n## The tools\n")[0]
+        for name in dict.fromkeys(NAME.findall(text)):
+            yield f"{title}: nothing is called {name}", sources.knows(name)
+        for crate, edit in EDIT.findall(text):
+            there = any(
+                edit == path.stem for folder in stated.EDITS for path in repository.edits_of(root, crate, folder)
+            )
+            yield f"{title}: {crate} has no edit {edit}", there
 
 
 def judged_tools(root: Path, architecture: str) -> Iterator[tuple[str, bool]]:
     """The modules of the tools that the table names, and what the table says that they define."""
-    for line in architecture.partition("\n## The tools\n")[2].split("\n## ", 1)[0].splitlines():
-        cells = line.strip("|").split("|") if line.startswith("|") else []
+    for cells in tables.rows_of(tables.section(architecture, "The tools")):
         modules = [root / TOOLS / name for name in MODULE.findall(cells[1])] if len(cells) == 3 else []
         yield from ((f"architecture.md: no module {module.relative_to(root)}", module.is_file()) for module in modules)
         text = "\n".join(module.read_text() for module in modules if module.is_file())
         for name in NAME.findall(cells[2]) if modules else ():
-            yield f"architecture.md: {cells[1].strip()} has no {name}", bool(re.search(PYTHON.format(name), text))
+            yield f"architecture.md: {cells[1]} has no {name}", bool(re.search(PYTHON.format(name), text))
 
 
 def judged(root: Path) -> Iterator[tuple[str, bool]]:
     """Each thing that is looked at, and whether it is as it should be."""
     sources = Sources(root)
-    architecture = (root / "docs/explanation/architecture.md").read_text()
-    claims, specs = claims_of_entries(architecture, sources.names)
-    for title, text in promises((root / "README.md").read_text()):
-        named = claims_of_promise(text, sources.names)
-        yield f"README: '{title}' names no function with a contract", any(map(sources.has_contract, named))
-        claims += named
-    for claim in claims:
+    architecture = text_of(root, ARCHITECTURE)
+    claims, specs, files = claims_of_decisions(architecture, sources.names)
+    for claim in claims + claims_of_uncalled(architecture, sources.names):
         yield f"{claim.page}: {claim.crate} has no {claim.name}", sources.has(claim)
         if claim.on_way and sources.has(claim):
             said = f"{claim.page}: {PROGRAM} doesn't come to {claim.crate}'s {claim.name}"
             yield said, sources.walk.comes_to(claim.crate, claim.name)
-    specs += specs_of_definitions((root / "docs/explanation/definitions.md").read_text(), sources.names)
+    for page in WITH_SPECS:
+        specs += specs_in(Path(page).name, text_of(root, page), sources.names)
     for claim in specs:
         yield f"{claim.page}: {claim.crate} has no spec {claim.name}", sources.has_spec(claim)
-    yield from judged_assurance(root, sources)
+    listed = NAME.findall(architecture)
+    yield from ((f"architecture.md names no crate {crate}", crate in listed) for crate in sources.names)
+    yield from judged_sources(root, files)
+    yield from judged_promises(root, sources)
+    yield from judged_names(root, sources)
     yield from judged_tools(root, architecture)
+    yield from stated.judged(root, text_of(root, PROOFS))
     yield from public.judged(root)
 
 

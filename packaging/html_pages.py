@@ -58,7 +58,7 @@ def helps(program: Path) -> Iterator[str]:
 
 def contents(docs: Path) -> Iterator[str]:
     """The tables of contents, which the sidebar shows."""
-    groups = {"Start": ["tutorial"]}
+    groups = {"Start": ["tutorial", "faq", "glossary"]}
     for caption, folder in GROUPS.items():
         groups[caption] = sorted(str(path.relative_to(docs).with_suffix("")) for path in (docs / folder).glob("*.md"))
     groups["Project"] = [f"../{name}" for name in PROJECT]

@@ -1,4 +1,4 @@
-"""The script that makes the README's film strip of a change, with the real program in a real browser."""
+"""The script that makes the pictures of a change for the page of `explore`, with the real program in a real browser."""
 
 import struct
 from pathlib import Path
@@ -17,9 +17,9 @@ import explore_pictures  # noqa: E402
 ROOT = Path(__file__).resolve().parents[2]
 
 
-def test_the_readme_shows_its_pictures_in_their_order() -> None:
-    text = (ROOT / "README.md").read_text()
-    places = [text.index(f"](docs/images/{name})") for name in explore_pictures.NAMES]
+def test_the_page_shows_the_pictures_in_their_order() -> None:
+    text = (ROOT / "docs" / "howto" / "explore.md").read_text()
+    places = [text.index(f"](../images/{name})") for name in explore_pictures.NAMES]
     assert places == sorted(places)
 
 

@@ -78,7 +78,7 @@ def test_readme_prints_what_it_says_and_its_commands_take_another_feed(room: Roo
     assert len(page) == 5
     assert pages.differences(page, room.folder, environment_of(room)) == []
     shutil.copy(room.path("town.zip"), room.path("own.zip"))
-    script_run(room, PATH + "\n" + block_after("**On your own feed**", readme))
+    script_run(room, PATH + "\n" + block_after("Replace the date", readme))
     assert len((room.folder / "own.csv").read_text().splitlines()) == 483
 
 
