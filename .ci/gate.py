@@ -38,7 +38,7 @@ PROGRAM, TRIALS = "crates/ttm/out/ttm", "crates/growth_trials/out/growth_trials"
 ON_PROGRAM = [
     [".ci/tools_checks.py", PROGRAM],
     [".ci/packaging_checks.py", PROGRAM],
-    ["bench/hostile.py", PROGRAM, TRIALS],
+    ["tests/program/hostile.py", PROGRAM, TRIALS],
 ]
 
 

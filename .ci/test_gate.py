@@ -112,7 +112,7 @@ def test_anew_is_handed_to_rt_ci(small: Gate) -> None:
 
 
 def test_scripts_are_counted_and_those_on_the_program_get_its_path(small: Gate) -> None:
-    for name in (".ci/names.py", ".ci/packaging_checks.py", "bench/hostile.py"):
+    for name in (".ci/names.py", ".ci/packaging_checks.py", "tests/program/hostile.py"):
         small.repository.write(name, SCRIPT)
     run = small.run()
     assert (run.status, run.lines[-1]) == (0, f"{5 + 1 + 2 + 3} passed, 0 failed, 6 skipped")
