@@ -1,7 +1,7 @@
 #!/usr/bin/env python3
 """Looks that what several places say is the same in all of them.
 
-The small feed of `bench/small.py` is that of the crate `small_feed`; no two crates declare a limit, or the number of
+The small feed of `tests/program/small.py` is that of the crate `small_feed`; no two crates declare a limit, or the number of
 lanes, of one name; and the help states the limits that the code goes by. The last line is 'N passed, M failed'.
 Standard library only.
 """
@@ -15,7 +15,7 @@ from pathlib import Path
 
 import repository
 
-sys.path.insert(0, str(Path(__file__).resolve().parent.parent / "bench"))
+sys.path.insert(0, str(Path(__file__).resolve().parent.parent / "tests/program"))
 from small import FEED  # noqa: E402
 
 ROOT = Path(__file__).resolve().parent.parent

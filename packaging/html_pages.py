@@ -70,7 +70,7 @@ def write_sources(program: Path, room: Path) -> None:
     """The pages as Sphinx reads them, with the helps and the tables of contents."""
     for folder in FOLDERS:
         for path in (ROOT / folder).rglob("*"):
-            if path.suffix in (".md", ".png", ".toml"):
+            if path.suffix in (".md", ".png", ".svg", ".toml"):
                 copy = room / path.relative_to(ROOT)
                 copy.parent.mkdir(parents=True, exist_ok=True)
                 shutil.copyfile(path, copy)

@@ -12,7 +12,7 @@ umask 022
 export LC_ALL=C.UTF-8 PATH="$PATH:/usr/sbin:/sbin" DEBIAN_FRONTEND=noninteractive
 NO_ROOM=75
 SECONDS_FOR_A_ROOM=900
-# in the order in which their commands run; bench/many_machines.sh runs those of howto/cluster.md
+# in the order in which their commands run; tests/cluster/many_machines.sh runs those of howto/cluster.md
 PAGES="tutorial howto/export howto/r5py howto/feed howto/plans reference/plan-file howto/measures howto/points howto/study"
 here=$(cd "$(dirname "$0")/.." && pwd)
 kind=

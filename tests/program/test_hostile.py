@@ -1,5 +1,5 @@
-"""Hostile use of the built program (bench/hostile.py): whatever the system refuses, the answer is the whole right text,
-or a line and the status that belong to what was refused.
+"""Hostile use of the built program (tests/program/hostile.py): whatever the system refuses, the answer is the whole
+right text, or a line and the status that belong to what was refused.
 """
 
 from __future__ import annotations

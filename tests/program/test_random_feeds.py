@@ -1,5 +1,5 @@
-"""The built program beside a plain second one (bench/plain.py), over small feeds that are drawn by a seed: every matrix
-is the same, byte for byte.
+"""The built program next to a plain second one (tests/program/plain.py), over small feeds that are drawn by a seed:
+every matrix is the same, byte for byte.
 """
 
 from __future__ import annotations

@@ -29,7 +29,7 @@ ASKED = (
 HUB = 2_000  # stops around a hub, with a footpath of 60 s from and to it each
 NEAR = 600  # footpaths of 60 s from each of 2,000 stops in a ring, to those that follow it
 RING = 63  # stops of the first ring of footpaths in the greatest feed
-GREATEST = Path(__file__).resolve().parents[2] / "bench/greatest.py"
+GREATEST = Path(__file__).with_name("greatest.py")
 
 
 @dataclass

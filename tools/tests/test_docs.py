@@ -11,7 +11,7 @@ PAGES = sorted([*ROOT.glob("*.md"), *DOCS.rglob("*.md"), *(ROOT / "bench").glob(
 SOURCES = ("crates", "tools", "bench", "packaging", ".ci", "tests")
 KINDS = {".rt", ".antt", ".py", ".sh", ".edit", ""}
 LINK = re.compile(r"\]\(([^)\s]+)\)")
-MENTION = re.compile(r"\b(?:docs|bench)/(?:[\w-]+/)*[\w-]+\.(?:md|png|py|sh)\b")
+MENTION = re.compile(r"\b(?:docs|bench|tests/(?:cluster|program))/(?:[\w-]+/)*[\w-]+\.(?:md|png|py|sh)\b")
 CODE = re.compile(r"^```.*?^```$|^(?: {4}|\t).*?$|`[^`]*`|\]\([^)]*\)", re.MULTILINE | re.DOTALL)
 PRIVATE = re.compile(
     r"\b(?:told|whence|thereby|beside|begun|for who|so many|looked at|put out|bears? the name"

@@ -1,4 +1,4 @@
-"""Journeys behind cells: by hand on the small feed, and on drawn feeds beside `bench/plain.py`, leg by leg."""
+"""Journeys behind cells: by hand on the small feed, and on drawn feeds beside `tests/program/plain.py`, leg by leg."""
 
 import argparse
 import importlib

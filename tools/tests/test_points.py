@@ -15,7 +15,7 @@ from streets import write_osm
 from test_damages import damaged
 from ttm_tools.points import study
 
-BENCH = Path(__file__).resolve().parents[2] / "bench"
+PROGRAM_TESTS = Path(__file__).resolve().parents[2] / "tests/program"
 PACE = ("--speed", "1", "--detour", "1")
 
 
@@ -287,7 +287,7 @@ class Doors:
 def test_drawn_towns_have_the_durations_of_journeys_that_begin_and_end_with_a_walk(
     room: Room, program: str, monkeypatch: pytest.MonkeyPatch, seed: int
 ) -> None:
-    monkeypatch.syspath_prepend(str(BENCH))
+    monkeypatch.syspath_prepend(str(PROGRAM_TESTS))
     import plain
 
     draw = random.Random(seed)

@@ -1,5 +1,5 @@
 //! Trials of each public call that takes memory: made once, and, where it tells out of memory, once more, over inputs
-//! whose answers are known. `bench/hostile.py` runs the program with its first, second and each further growth of
+//! whose answers are known. `tests/program/hostile.py` runs the program with its first, second and each further growth of
 //! memory refused.
 //!
 //!     growth_trials [TRIAL]

@@ -12,9 +12,12 @@ pair of stops is joined through it: 1974 stops make 3,898,650 pairs.
 """
 import itertools
 import os
+import sys
+from pathlib import Path
 from typing import Iterator
 
-from shared import DATE, clock, parser_of, write_lines
+sys.path.append(str(Path(__file__).resolve().parents[2] / "bench"))
+from shared import DATE, clock, parser_of, write_lines  # noqa: E402
 
 STOPS, TRIPS, CALLS, PAIRS = 65_535, 1_000_000, 8, 4_000_000
 TRIPS_OF_A_LINE = 122

@@ -2,7 +2,7 @@
 # Makes a study of a town on this machine, by GNU parallel (here, and over ssh), and by a Slurm array of which a task is
 # killed and begun again and whose own command is killed and given again, and compares the bytes with those of one run
 # of ttm. Three minutes: Slurm lets a task that is begun again wait for two.
-# usage: bench/study_elsewhere.sh [PROGRAM]
+# usage: tests/cluster/study_elsewhere.sh [PROGRAM]
 #   PROGRAM  a built ttm; crates/ttm/out/ttm by default
 # As root; Debian: apt-get install python3-numpy python3-pandas python3-h5py python3-matplotlib parallel slurm-wlm
 #          openssh-server
@@ -79,5 +79,5 @@ scontrol requeue "${job}_3"
 "$TOOLS" study study.toml --out slurm --slurm 2> log || { cat log >&2; exit 1; }
 grep -q "job $job of this study goes on" log || { cat log >&2; exit 1; }
 END
-TOOLS="$here/tools/ttm-tools" TTM_PROGRAM="$room/slow" "$here/bench/one_node_slurm.sh" timeout 600 sh array.sh
+TOOLS="$here/tools/ttm-tools" TTM_PROGRAM="$room/slow" "$here/tests/cluster/one_node_slurm.sh" timeout 600 sh array.sh
 same slurm "a Slurm array, a task killed and begun again, its command killed and given again"

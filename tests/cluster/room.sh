@@ -1,6 +1,6 @@
 # Sourced by scripts that compute a study in several ways: a room that goes with the script, and two hosts that are this
 # machine.
-here=$(cd "$(dirname "$0")/.." && pwd)
+here=$(cd "$(dirname "$0")/../.." && pwd)
 room=$(mktemp -d)
 server=
 end() {

@@ -3,7 +3,7 @@
 # first, or is lost, and is computed again, as docs/howto/cluster.md says. FOLDER has a scenario file cut.csv, and footpaths.csv and opportunities.csv where --walk
 # and access shall mean something. Hosts are this machine by two names: an ssh server on a port of its own is started and ended where there is one.
 # Three minutes on the feed of a town: Slurm lets a task that is begun again wait for two.
-# usage: bench/many_machines.sh FOLDER        (after `rt run` in crates/ttm; as root; Debian: apt-get install python3-numpy parallel slurm-wlm openssh-server)
+# usage: tests/cluster/many_machines.sh FOLDER        (after `rt run` in crates/ttm; as root; Debian: apt-get install python3-numpy parallel slurm-wlm openssh-server)
 set -eu
 [ $# -eq 1 ] || { echo "usage: $0 FOLDER" >&2; exit 2; }
 . "$(dirname "$0")/room.sh"
@@ -69,5 +69,5 @@ rm parts/matrix_part_0003.csv
 scontrol requeue 1_3
 until [ -f parts/matrix_part_0003.csv ]; do sleep 1; done
 END
-"$here/bench/one_node_slurm.sh" timeout 600 sh array.sh
+"$here/tests/cluster/one_node_slurm.sh" timeout 600 sh array.sh
 same "a Slurm job array, one task begun again"

@@ -1,7 +1,7 @@
 #!/bin/sh
 # Starts a Slurm of one node on this machine, runs a command with it, and ends it; nothing of the system's own Slurm or
 # munge is touched.
-# usage: bench/one_node_slurm.sh COMMAND ..        (as root; Debian: apt-get install slurm-wlm)
+# usage: tests/cluster/one_node_slurm.sh COMMAND ..        (as root; Debian: apt-get install slurm-wlm)
 set -eu
 [ $# -gt 0 ] || { echo "usage: $0 COMMAND .." >&2; exit 2; }
 room=$(mktemp -d)

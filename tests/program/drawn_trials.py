@@ -17,12 +17,11 @@ import tempfile
 from pathlib import Path
 from typing import Callable
 
-from shared import parser_of
-
-ROOT = Path(__file__).resolve().parent.parent
+ROOT = Path(__file__).resolve().parents[2]
 sys.path[:0] = [str(ROOT / part) for part in ("tools/src", "tools/tests", "tests/program", "bench")]
 from damages import damage_stays, first_fault_differs, right_feed_differs  # noqa: E402
 from drawn_plans import plan_differs  # noqa: E402
+from shared import parser_of  # noqa: E402
 
 
 def failures(trial: Callable[[str, int, Path], str], program: str, seeds: range) -> int:

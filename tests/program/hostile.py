@@ -10,7 +10,7 @@ public call that takes memory is refused each growth in turn, too: it gives the 
 gives it when made again. In a conversation (`ttm --ask`) each growth, start, open, read and write is refused in turn,
 too: one answer alone says it, or the conversation ends before its first answer; where its own input can't be read or
 an answer can't be written, it ends behind the answers before. What it tried is counted, and the last line is 'N passed,
-M failed'. It wants a C compiler (`cc`), which builds bench/refuse.c. Standard library only.
+M failed'. It wants a C compiler (`cc`), which builds tests/program/refuse.c. Standard library only.
 """
 import io
 import itertools
@@ -24,7 +24,6 @@ from typing import Mapping, Sequence
 
 import plain
 import small
-from shared import HERE
 
 # the small feed with a station, a day of its own and a headway, and the analyst's own files
 FILES = {
@@ -77,7 +76,7 @@ class Trial:
         self.program, self.room, self.passed, self.failed = os.path.abspath(program), Path(room), 0, 0
         self.given: bytes | None = None  # what the program reads from its standard input
         self.library = str(self.room / "refuse.so")
-        source = os.path.join(HERE, "refuse.c")
+        source = Path(__file__).with_name("refuse.c")
         subprocess.run(["cc", "-O2", "-shared", "-fPIC", "-o", self.library, source], check=True)
         self.folder = self.room / "feed"
         self.folder.mkdir()

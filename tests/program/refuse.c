@@ -1,10 +1,10 @@
 /* Refuses a program what it asks of the system, once: the n-th growth of memory, start of a thread, open, read or write.
  *
- *     cc -O2 -shared -fPIC -o refuse.so bench/refuse.c
+ *     cc -O2 -shared -fPIC -o refuse.so tests/program/refuse.c
  *     REFUSE=growth:3 REFUSE_FD=9 LD_PRELOAD=./refuse.so program ..
  *
  * REFUSE names the kind (growth, start, open, read, write) and the number, from 1; a byte on the file REFUSE_FD says that it came to that.
- * With ONE_BYTE set, each read and write moves one byte. bench/hostile.py builds and uses it.
+ * With ONE_BYTE set, each read and write moves one byte. tests/program/hostile.py builds and uses it.
  */
 #define _GNU_SOURCE
 #include <dlfcn.h>
