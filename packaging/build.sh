@@ -108,7 +108,7 @@ tar --directory "$room/deb" --sort=name --mtime="@$SOURCE_DATE_EPOCH" --owner=0 
 gzip -9n "$room/ttm.tar"
 
 # The Debian package. The program needs the C library alone; Python and its packages are for the tools.
-tools_need="python3 (>= 3.11), python3-numpy (>= 1:1.24), python3-pandas (>= 1.5), python3-tqdm"
+tools_need="python3 (>= 3.11), python3-numpy (>= 1:1.24), python3-pandas (>= 1.5), python3-tqdm, python3-pyproj"
 some_tools_need="python3-matplotlib (>= 3.6), python3-h5py, python3-geopandas, python3-jinja2, python3-flask, libjs-leaflet"
 streets_need="python3-scipy, python3-pyosmium"
 needed=$(grep -ao 'GLIBC_2\.[0-9]*' "$program" | sort -u -t . -k 2n | sed -n '$s/GLIBC_//p')

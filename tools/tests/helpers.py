@@ -20,6 +20,8 @@ Cell = int | str
 Table = list[list[Any]]
 Rows = Mapping[str, Sequence[Cell]]
 METRE = 180 / (math.pi * EARTH)  # of latitude, in degrees
+# a metre at the equator of the ellipsoid WGS 84, in degrees of latitude and of longitude
+NORTHWARDS, EASTWARDS = 1 / 110_574.2758, 1 / 111_319.4908
 LAUNCHER = str(Path(__file__).resolve().parent.parent / "ttm-tools")
 CALENDAR = (
     "service_id,monday,tuesday,wednesday,thursday,friday,saturday,sunday,start_date,end_date",

@@ -11,7 +11,8 @@ from browser import Browser
 from helpers import TOWN, Town, town_matrix
 from test_maps import figure
 from ttm_tools.faults import BadInput
-from ttm_tools.gtfs.stops import Projection, Stops, read_stops
+from ttm_tools.gtfs.projection import Projection
+from ttm_tools.gtfs.stops import Stops, read_stops
 from ttm_tools.matrices import open_matrix
 from ttm_tools.points.areas import AREAS_FILE, areas_beside
 from ttm_tools.points.shown import shown_of
@@ -136,7 +137,7 @@ def test_a_map_draws_areas_with_their_holes(town: Town, monkeypatch: pytest.Monk
     on_map = Projection(there.latitudes, there.longitudes)
 
     def colour(east: float, north: float) -> list[int]:
-        kilometres = np.stack([on_map.east(np.array([east])), on_map.north(np.array([north]))], axis=1)
+        kilometres = np.stack(on_map.kilometres([east], [north]), axis=1)
         across, up = axes.transData.transform(kilometres)[0]
         return [int(pixel) for pixel in pixels[len(pixels) - 1 - round(up), round(across), :3]]
 

@@ -2,14 +2,13 @@
 
 import csv
 import json
-import math
 from pathlib import Path
 from typing import Any
 
 import numpy as np
 import pytest
 
-from helpers import METRE, Room, Table, Town, town_matrix
+from helpers import EASTWARDS, NORTHWARDS, Room, Table, Town, town_matrix
 from test_points import PACE, feed, place
 
 NEAR = ["--limit", "300", *PACE]  # 300 metres
@@ -24,7 +23,7 @@ def polygons(room: Room, name: str, *shapes: tuple[dict[str, Any], float, float,
     features = []
     for properties, west, south, east, north in shapes:
         ring = [(west, south), (east, south), (east, north), (west, north), (west, south)]
-        own = {"type": "Polygon", "coordinates": [[[1 + x * METRE, y * METRE] for x, y in ring]]}
+        own = {"type": "Polygon", "coordinates": [[[1 + x * EASTWARDS, y * NORTHWARDS] for x, y in ring]]}
         features.append({"type": "Feature", "properties": properties, "geometry": own})
     Path(room.path(name)).write_text(json.dumps({"type": "FeatureCollection", "features": features}))
     return room.path(name)
@@ -39,8 +38,8 @@ def test_cells_lie_where_a_stop_is_within_a_walk(room: Room) -> None:
     found = cells_of(out)
     assert [item["id"] for item in found] == ["r1c1", "r1c2", "r1c5", "r1c6", "r2c1", "r2c2", "r2c5", "r2c6"]
     assert {item["width"] for item in found} == {"250"}
-    assert float(found[0]["lat"]) == pytest.approx(-175 * METRE, abs=1e-7)
-    assert float(found[3]["lon"]) == pytest.approx(1 + 1075 * METRE, abs=1e-7)
+    assert float(found[0]["lat"]) == pytest.approx(-175 * NORTHWARDS, abs=1e-7)
+    assert float(found[3]["lon"]) == pytest.approx(1 + 1075 * EASTWARDS, abs=1e-7)
     assert Path(out, "origins.csv").read_text() == Path(out, "destinations.csv").read_text()
 
 
@@ -133,9 +132,9 @@ def test_cells_are_squares_for_a_geographic_information_system(town: Town) -> No
     out = town.path("cells.geojson")
     assert town.ran("gis", "--feed", town.feed, "--out", out, town.file)[2] == 0
     square, oblong, point = [feature["geometry"] for feature in json.loads(Path(out).read_text())["features"]]
-    # 100 metres are 100 / 111,195 of a degree northwards; at 60 degrees twice as many to the east
-    up, right = 100 * METRE, 100 * METRE / math.cos(math.radians(60))
+    # a degree on the ellipsoid has 111,412 metres northwards and 55,800 eastwards at 60 degrees, 55,783 at 60.01
+    up, right = 100 / 111_412.2, 100 / 55_799.5
     corners = np.array([[-1, -1], [1, -1], [1, 1], [-1, 1], [-1, -1]])
     assert np.allclose(square["coordinates"], [corners * [right, up] + [7, 60]], rtol=0, atol=2e-7)
-    assert np.allclose(oblong["coordinates"], [corners * [right, up / 2] + [7, 60.01]], rtol=0, atol=2e-7)
+    assert np.allclose(oblong["coordinates"], [corners * [100 / 55_782.7, up / 2] + [7, 60.01]], rtol=0, atol=2e-7)
     assert point == {"type": "Point", "coordinates": [7.0, 59.99]}

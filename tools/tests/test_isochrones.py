@@ -8,7 +8,7 @@ from typing import Any
 import numpy as np
 import pytest
 
-from helpers import METRE, Town, town_matrix
+from helpers import EASTWARDS, METRE, NORTHWARDS, Town, town_matrix
 
 pytest.importorskip("shapely")
 CORNERS = 48  # of a circle
@@ -75,8 +75,8 @@ def test_polygons_of_the_points_are_taken_in_a_geopackage(town: Town) -> None:
     from shapely.geometry import box
 
     town.matrix(town_matrix(False))
-    side = 1000 / 111_195  # a kilometre on the equator, in degrees
-    areas = geopandas.GeoDataFrame({"id": ["A", "C"]}, geometry=[box(9, 0, 9 + side, side), box(9.01, 0, 9.02, 0.01)])
+    side, high = 1000 * EASTWARDS, 1000 * NORTHWARDS  # a kilometre on the equator, in degrees
+    areas = geopandas.GeoDataFrame({"id": ["A", "C"]}, geometry=[box(9, 0, 9 + side, high), box(9.01, 0, 9.02, 0.01)])
     areas.set_crs("EPSG:4326").to_file(town.path("areas.gpkg"), driver="GPKG")
     out = town.path("isochrones.gpkg")
     arguments = ["--points", town.path("areas.gpkg"), "--bands", "10", "--scenario", "cut", "--out", out, town.file]

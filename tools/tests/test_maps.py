@@ -10,7 +10,8 @@ import pytest
 from helpers import CALENDAR, STOP_TIMES, TOWN, Table, Town, read, town_matrix
 from ttm_tools.faults import counted, singular
 from ttm_tools.gtfs.lines import lines_of, pieces, read_trips, removed_trips
-from ttm_tools.gtfs.stops import Projection, read_stops
+from ttm_tools.gtfs.projection import Projection
+from ttm_tools.gtfs.stops import read_stops
 
 matplotlib = pytest.importorskip("matplotlib")
 
@@ -153,10 +154,10 @@ def test_trips_that_a_scenario_adds_are_named_as_such(town: Town, monkeypatch: p
 
 def test_kilometres_are_those_on_the_ground_and_the_date_line_is_no_edge() -> None:
     projection = Projection(np.array([60.0, 60.0]), np.array([179.9, -179.9]))
-    east = projection.east(np.array([-179.9, 179.9]))
-    north = projection.north(np.array([61.0, 60.0]))
-    assert east[0] - east[1] == pytest.approx(0.2 * 111.19 / 2, abs=0.01)
-    assert north[0] - north[1] == pytest.approx(111.19, abs=0.01)
+    east, _ = projection.kilometres(np.array([-179.9, 179.9]), np.array([60.0, 60.0]))
+    _, north = projection.kilometres(np.array([180.0, 180.0]), np.array([61.0, 60.0]))
+    assert east[0] - east[1] == pytest.approx(0.2 * 55.7995, abs=0.001)
+    assert north[0] - north[1] == pytest.approx(111.42, abs=0.01)
 
 
 def test_a_png_file_as_wide_as_asked(town: Town) -> None:

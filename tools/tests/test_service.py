@@ -7,7 +7,7 @@ from typing import Any
 import numpy as np
 import pytest
 
-from helpers import CALENDAR, STOP_TIMES, Room, read
+from helpers import CALENDAR, EASTWARDS, METRE, STOP_TIMES, Room, read
 from ttm_tools.measures.service import ServiceCalls, Period, ServiceRuns, vehicles_in
 
 NONE = np.zeros(0, np.int64)
@@ -18,7 +18,8 @@ def line(room: Room) -> Room:
     """A, B and C lie 1 and 2 km apart. Route R takes 2 and 4 minutes, from A at 8:00, 8:10 and 8:30 and back at 8:20; a
     night bus leaves A at 24:10 and arrives at B 4 minutes later. The scenario cut takes out the trip at 8:30.
     """
-    room.stops(("A", 0, 0), ("B", 0, 1000), ("C", 0, 3000))
+    kilometre = 1000 * EASTWARDS / METRE  # on the ellipsoid
+    room.stops(("A", 0, 0), ("B", 0, kilometre), ("C", 0, 3 * kilometre))
     room.write("routes.txt", "route_id,route_short_name", [["R", "7"], ["Q", ""]])
     room.write("calendar.txt", *CALENDAR)
     trips: list[list[Any]] = [["R", "M", f"T{number}", 0] for number in range(3)]

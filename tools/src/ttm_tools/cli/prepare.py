@@ -13,9 +13,9 @@ Writes a folder that ttm reads, from published feeds: zip files or folders, with
 --check reports all errors for which ttm would refuse the feed, in ttm's order, and writes no folder. For each check
 that fails it prints ttm's line, then the value, what is allowed, and how often it fails. A field that fails several
 checks is reported once; references to a missing file are not checked. Warnings follow: the days on which trips run,
-misspelt columns, stops without coordinates or at 0 and 0, trips of a single stop, speeds over 300 km/h, stations used
-as stops, transfers that aren't used. For a feed with errors, the days are those that --repair would leave, with what it
-would remove. The exit status is 1 if there is an error.
+misspelt columns, stops without coordinates, at 0 and 0 or far from all others, trips of a single stop, speeds over
+300 km/h, stations used as stops, transfers that aren't used. For a feed with errors, the days are those that --repair
+would leave, with what it would remove. The exit status is 1 if there is an error.
 
 --out writes the feed; a feed with errors is refused. --repair repairs it first, by the rules below; prepared.csv in the
 folder has a line for each repaired record. Then it prints how many records each file has left, and on which days trips

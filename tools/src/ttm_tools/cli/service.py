@@ -78,7 +78,7 @@ def day_of(args: argparse.Namespace) -> "Day":
     """What runs in each scenario: in the feed as it is, unless it is that of a plan, and in each file."""
     from pathlib import Path
 
-    from ..gtfs.stops import Projection, read_stops
+    from ..gtfs.stops import read_stops
     from ..matrices import BASE, TODAY
     from ..measures.service import periods_of, running_on, straight_lengths
     from ..gtfs.timetable import read_edits, read_timetable
@@ -92,11 +92,7 @@ def day_of(args: argparse.Namespace) -> "Day":
     stops = read_stops(args.feed)
     timetable = read_timetable(stops)
     own = stops.of(timetable.stops)
-    if own.placed.any():
-        projection = Projection(own.latitudes, own.longitudes)
-        lengths = straight_lengths(timetable, projection.east(own.longitudes), projection.north(own.latitudes))
-    else:
-        lengths = straight_lengths(timetable, own.longitudes, own.latitudes)
+    lengths = straight_lengths(timetable, own.longitudes, own.latitudes)
     files_by_name: dict[str, str | None] = dict(zip(names, files))
     if TODAY not in files_by_name:
         files_by_name = {BASE: None, **files_by_name}

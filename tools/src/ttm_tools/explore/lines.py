@@ -8,7 +8,8 @@ import numpy.typing as npt
 
 from ..gtfs.fields import Floats
 from ..gtfs.lines import LinePoints, pieces, shape_points, unique_rows
-from ..gtfs.stops import Projection, Stops, has_file
+from ..gtfs.projection import Projection
+from ..gtfs.stops import Stops, has_file
 from ..matrices import BASE
 from ..plans.base import Base
 from ..plans.new_records import OwnTrip
@@ -79,7 +80,7 @@ class FeedLines:
         latitudes, longitudes = (np.concatenate(some) for some in zip(*courses))
         line = np.repeat(np.arange(len(courses)), [len(one) for one, _ in courses])
         placed = ~np.isnan(latitudes)
-        east, north = self.projection.east(longitudes[placed]), self.projection.north(latitudes[placed])
+        east, north = self.projection.kilometres(longitudes[placed], latitudes[placed])
         return pieces(LinePoints([], line[placed], np.arange(len(east), dtype=np.float64), east, north))
 
 

@@ -10,7 +10,8 @@ from ..records import rows, shown
 from .columns import Codes, begins_run, numbers_of, positions_of
 from .fields import Floats
 from .reading import columns
-from .stops import Projection, Stops, has_file, in_folder
+from .projection import Projection
+from .stops import Stops, has_file, in_folder
 
 GRID = 0.01  # kilometres on which the ends of pieces of lines are laid
 
@@ -44,7 +45,7 @@ def shape_points(folder: str, projection: Projection) -> LinePoints:
     table = columns(path, ("shape_id", *names))
     sequence, latitudes, longitudes = (numbers_of(table[name], path, name) for name in names)
     line = table["shape_id"]
-    east, north = projection.east(longitudes), projection.north(latitudes)
+    east, north = projection.kilometres(longitudes, latitudes)
     return LinePoints(line.categories.tolist(), line.codes, sequence, east, north)
 
 
@@ -56,7 +57,7 @@ def stop_points(folder: str, stops: Stops, projection: Projection) -> LinePoints
     chosen = positions_of(called, stops.places)
     kept = (chosen >= 0) & np.append(stops.placed, False)[chosen]
     chosen = chosen[kept]
-    x, y = projection.east(stops.longitudes[chosen]), projection.north(stops.latitudes[chosen])
+    x, y = projection.kilometres(stops.longitudes[chosen], stops.latitudes[chosen])
     return LinePoints(line.categories.tolist(), line.codes[kept], sequence[kept], x, y)
 
 

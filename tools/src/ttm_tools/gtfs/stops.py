@@ -4,7 +4,7 @@ import math
 import os
 from dataclasses import dataclass, field
 from functools import cached_property
-from typing import Any, Mapping, Sequence
+from typing import Mapping, Sequence
 
 import numpy as np
 import numpy.typing as npt
@@ -127,31 +127,3 @@ def read_list(path: str, known: Sequence[str], kind: str) -> list[str]:
             raise BadInput(path, f"the matrix has no {kind} {shown(stop)}", record=number)
         named.append(stop)
     return named
-
-
-class Projection:
-    """Degrees to kilometres from the middle of some places (one at least), true to scale there; past the date line."""
-
-    def __init__(self, latitudes: Floats, longitudes: Floats) -> None:
-        placed = ~np.isnan(latitudes)
-        self.latitude = float(latitudes[placed].min() + latitudes[placed].max()) / 2
-        self.longitude = float(longitudes[placed][0])
-        self.degree = math.pi * EARTH / 180_000
-        self.narrow = math.cos(math.radians(min(abs(self.latitude), 89)))
-
-    def east(self, longitudes: Floats) -> Floats:
-        return ((longitudes - self.longitude + 180) % 360 - 180) * self.degree * self.narrow
-
-    def north(self, latitudes: Floats) -> Floats:
-        return (latitudes - self.latitude) * self.degree
-
-    def longitudes(self, east: Floats) -> Floats:
-        """The degrees of places at these kilometres east."""
-        return (east / (self.degree * self.narrow) + self.longitude + 180) % 360 - 180
-
-    def latitudes(self, north: Floats) -> Floats:
-        return north / self.degree + self.latitude
-
-    def kilometres(self, longitudes: Any, latitudes: Any) -> tuple[Floats, Floats]:
-        """Places as shapely hands them on."""
-        return self.east(np.asarray(longitudes)), self.north(np.asarray(latitudes))

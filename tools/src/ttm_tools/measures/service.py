@@ -13,6 +13,7 @@ from typing import Any, Sequence
 import numpy as np
 
 from ..gtfs.fields import Floats, Mask, Whole
+from ..gtfs.projection import metres_between
 from ..gtfs.timetable import Edits, Timetable, runs_of
 from .columns import column, row_of
 
@@ -139,7 +140,7 @@ OF_GAPS = (
     "median and greatest time between successive departures in the period, at the stop where most runs of the direction"
     " call (of several, the first on the way)"
 )
-OF_WAYS = "from each run's first departure to its last arrival; along straight lines from stop to stop"
+OF_WAYS = "from each run's first departure to its last arrival; along straight lines from stop to stop, on the ellipsoid WGS 84"
 
 
 @dataclass(frozen=True)
@@ -197,16 +198,21 @@ def departures_by_piece(running: ServiceRuns, period: Period) -> tuple[Whole, Wh
     return found[0][:, 0], found[0][:, 1], found[1]
 
 
-def straight_lengths(timetable: Timetable, east: Floats, north: Floats) -> Floats:
-    """The kilometres of each trip, straight from stop to stop; a stop without a place is passed over."""
-    events = timetable.events
-    placed = ~np.isnan(east[events.stop])
+def straight_lengths(timetable: Timetable, longitudes: Floats, latitudes: Floats) -> Floats:
+    """Return the kilometres of each trip, straight from stop to stop on the ellipsoid. A stop without a place is passed
+    over.
+    """
+    events, count = timetable.events, len(longitudes)
+    placed = ~np.isnan(longitudes[events.stop])
     trip = np.repeat(np.arange(len(timetable.trips)), np.diff(events.begins))[placed]
-    x, y = east[events.stop[placed]], north[events.stop[placed]]
-    steps: Floats = np.where(np.diff(trip) == 0, np.hypot(np.diff(x), np.diff(y)), 0.0)
-    lengths: Floats = np.zeros(len(timetable.trips))
-    np.add.at(lengths, trip[1:], steps)
-    return lengths
+    stop = events.stop[placed].astype(np.int64)
+    follows = np.flatnonzero(np.diff(trip) == 0)
+    pairs, which = np.unique(stop[follows] * count + stop[follows + 1], return_inverse=True)
+    one, other = pairs // count, pairs % count
+    metres = metres_between(longitudes[one], latitudes[one], longitudes[other], latitudes[other])
+    kilometres = np.zeros(len(timetable.trips))
+    np.add.at(kilometres, trip[follows + 1], metres[which] / 1000)
+    return kilometres
 
 
 def periods_of(times: Sequence[int]) -> list[Period]:

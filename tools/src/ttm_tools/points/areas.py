@@ -8,7 +8,8 @@ import numpy as np
 
 from ..faults import BadInput
 from ..gtfs.fields import Floats
-from ..gtfs.stops import Area, Projection, Stops
+from ..gtfs.projection import Projection
+from ..gtfs.stops import Area, Stops
 from ..opening.paths import as_one_line
 from ..opening.texts import read_json
 from ..records import shown
@@ -39,10 +40,10 @@ def squares_of(stops: Stops) -> dict[str, Area]:
     cells = np.flatnonzero(stops.placed & ~np.isnan(halves[:, 0]))
     if not len(cells):
         return {}
-    projection = Projection(stops.latitudes, stops.longitudes)
-    east = projection.east(stops.longitudes)[cells, None] + halves[cells, :1] * AROUND[:, 0]
-    north = projection.north(stops.latitudes)[cells, None] + halves[cells, 1:] * AROUND[:, 1]
-    rings = np.stack([projection.longitudes(east), projection.latitudes(north)], axis=2).round(DECIMALS)
+    projection = Projection(stops.latitudes[cells], stops.longitudes[cells])
+    east, north = projection.kilometres(stops.longitudes[cells], stops.latitudes[cells])
+    corners = east[:, None] + halves[cells, :1] * AROUND[:, 0], north[:, None] + halves[cells, 1:] * AROUND[:, 1]
+    rings = np.stack(projection.degrees(*corners), axis=2).round(DECIMALS)
     return {stops.identifiers[place]: [[ring]] for place, ring in zip(cells.tolist(), rings)}
 
 

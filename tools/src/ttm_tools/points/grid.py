@@ -13,7 +13,8 @@ import numpy.typing as npt
 
 from ..faults import BadInput, needs
 from ..gtfs.fields import Floats
-from ..gtfs.stops import Projection, Stops
+from ..gtfs.projection import Projection
+from ..gtfs.stops import Stops
 from ..records import shown
 from .table import AREAS, Points, plain, read_frame, read_points, text_of
 
@@ -31,7 +32,7 @@ class Grid:
 
     projection: Projection
     side: float  # kilometres
-    south: float  # of the first row, kilometres north of the middle of the projection
+    south: float  # of the first row, kilometres north of the centre of the projection
     west: float  # of the first column
     squares: Squares
 
@@ -51,8 +52,8 @@ class Grid:
         high, wide = [len(str(most + 1)) for most in self.squares.max(axis=0).tolist()]  # so that names sort by both
         names = [f"r{row + 1:0{high}d}c{column + 1:0{wide}d}" for row, column in self.squares.tolist()]
         widths = np.full(len(self.squares), self.side * 1000)
-        degrees = (self.projection.latitudes(north).round(7), self.projection.longitudes(east).round(7))
-        return Points(PATH, names, names, *degrees, widths, columns, numbers)
+        longitudes, latitudes = (degrees.round(7) for degrees in self.projection.degrees(east, north))
+        return Points(PATH, names, names, latitudes, longitudes, widths, columns, numbers)
 
 
 def grid_near(stops: Stops, side: float, metres: float) -> Grid:
@@ -61,7 +62,7 @@ def grid_near(stops: Stops, side: float, metres: float) -> Grid:
     if not called.any():
         raise BadInput(stops.path, "no stop has stop_lat and stop_lon, so there is no place for a grid")
     projection = Projection(stops.latitudes[called], stops.longitudes[called])
-    east, north = projection.east(stops.longitudes[called]), projection.north(stops.latitudes[called])
+    east, north = projection.kilometres(stops.longitudes[called], stops.latitudes[called])
     side, reach = side / 1000, metres / 1000
     south, west = float(north.min()) - reach, float(east.min()) - reach
     refuse_tried(((2 * reach / side) + 1) ** 2)
@@ -168,9 +169,8 @@ def from_points(grid: Grid, path: str) -> tuple[list[str], Floats, Floats]:
     """The columns of a file of points, their sums by cell, and their totals."""
     points = read_points(path)
     refuse_none(path, points.columns)
-    up = grid.projection.north(points.latitudes) - grid.south
-    right = grid.projection.east(points.longitudes) - grid.west
-    cells = np.floor(np.stack([up, right], axis=1) / grid.side + 1e-9).astype(np.int64)
+    right, up = grid.projection.kilometres(points.longitudes, points.latitudes)
+    cells = np.floor(np.stack([up - grid.south, right - grid.west], axis=1) / grid.side + 1e-9).astype(np.int64)
     places, sums = grid.places(), np.zeros((len(grid.squares), len(points.columns)))
     at = np.array([places.get((row, column), -1) for row, column in cells.tolist()], dtype=np.intp)
     np.add.at(sums, at[at >= 0], points.numbers[at >= 0])

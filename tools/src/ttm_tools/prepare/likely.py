@@ -13,12 +13,14 @@ from ..gtfs.columns import distinct, one_of, positions_of
 from ..gtfs.feeds import Feed, is_stop, stops_of, used_transfers
 from ..gtfs.fields import FILES
 from ..gtfs.service_days import days_of, runs_by_day
+from ..gtfs.projection import metres_between, middle_of
 from ..gtfs.stops import EARTH, place_of
 from ..gtfs.tables import Table
 from ..records import shown
 
 COMMA = re.compile(r"[+-]?[0-9]+,[0-9]+")
 FASTEST = 300  # km/h
+FAR, TIMES_FAR = 100.0, 10  # km from the middle of all stops; times the median of these distances
 NO_RUNS = "no trip runs on any day"
 WEEK = ("Mondays", "Tuesdays", "Wednesdays", "Thursdays", "Fridays", "Saturdays", "Sundays")
 PLACES = ("stop_lat", "stop_lon", "stop_name")
@@ -28,7 +30,7 @@ def sentences(feed: Feed, with_days: bool = True) -> Iterator[str]:
     """What is reported of a feed in addition to its errors; its days if it has none."""
     yield from misspelt(feed)
     if feed.has_columns("stops.txt"):
-        for some in (unplaced, with_commas, formulas):
+        for some in (unplaced, with_commas, far_off, formulas):
             yield from some(feed.tables["stops.txt"])
     if feed.has_columns("trips.txt"):
         yield from of_days(feed) if with_days else ()
@@ -75,6 +77,23 @@ def with_commas(table: Table) -> Iterator[str]:
     if wrong:
         count = int((one_of(columns[0], wrong) | one_of(columns[1], wrong)).sum())
         yield f"stops.txt: {quantity(count, 'stop')} with a decimal comma in a coordinate, such as {shown(wrong[0])}"
+
+
+def far_off(table: Table) -> Iterator[str]:
+    """Stops much farther from the middle of all stops than most, such as one in another country."""
+    latitudes, longitudes = places_of(table)
+    placed = np.flatnonzero(~np.isnan(latitudes))
+    if not len(placed):
+        return
+    ends = longitudes[placed], latitudes[placed]
+    north, east = middle_of(latitudes, longitudes)
+    distances = metres_between(*ends, np.full(len(placed), east), np.full(len(placed), north)) / 1000
+    limit = max(FAR, TIMES_FAR * float(np.median(distances)))
+    far = np.flatnonzero(distances > limit)
+    if len(far):
+        most = far[np.argmax(distances[far])]
+        which = f"the farthest, {shown(table.text('stop_id', int(placed[most])))}, {distances[most]:,.0f} km"
+        yield f"stops.txt: {quantity(len(far), 'stop')} over {limit:,.0f} km from the middle of all stops; {which}"
 
 
 def formulas(table: Table) -> Iterator[str]:

@@ -8,7 +8,8 @@ from matplotlib.collections import PathCollection, PolyCollection
 from matplotlib.path import Path
 
 from ..gtfs.fields import Floats
-from ..gtfs.stops import Area, Projection, Stops
+from ..gtfs.projection import Projection
+from ..gtfs.stops import Area, Stops
 
 CORNERS = np.array([[-0.5, -0.5], [0.5, -0.5], [0.5, 0.5], [-0.5, 0.5]])
 

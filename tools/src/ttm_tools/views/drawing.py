@@ -17,7 +17,8 @@ from matplotlib.lines import Line2D
 from matplotlib.patheffects import withStroke
 
 from ..gtfs.lines import GRID
-from ..gtfs.stops import Projection, Stops
+from ..gtfs.projection import Projection
+from ..gtfs.stops import Stops
 from .cells import Cells
 from .pictures import NO_ORIGIN, Mark, Picture, round_step
 from .texts import text_alone

@@ -8,10 +8,9 @@ from matplotlib.figure import Figure
 from matplotlib.patches import Patch
 from matplotlib.path import Path
 
-from ..gtfs.stops import Projection, Stops
 from . import drawing
 from .cells import path_along
-from .isochrones import polygons_in
+from .isochrones import AreaGround, polygons_in
 from .pictures import Mark, Picture, shades
 from .texts import text_alone
 
@@ -28,13 +27,18 @@ def path_of(shape: Any) -> Path | None:
 
 @text_alone
 def draw_bands(
-    picture: Picture, stops: Stops, lines: Sequence[drawing.MapLines], note: str, width: int, bands: Sequence[Band]
+    picture: Picture,
+    ground: AreaGround,
+    lines: Sequence[drawing.MapLines],
+    note: str,
+    width: int,
+    bands: Sequence[Band],
 ) -> Figure:
     """The map of bands, the widest, which is the last, below the others."""
-    points = drawing.points_of(stops, Projection(stops.latitudes, stops.longitudes))
+    points = np.stack([ground.east, ground.north], axis=1)
     paths = [path_of(shape) for _, shape in bands]
     corners = [path.vertices for path in paths if path is not None]
-    figure, axes = drawing.empty_map(drawing.limits_of(np.concatenate([points[stops.placed], *corners])), width)
+    figure, axes = drawing.empty_map(drawing.limits_of(np.concatenate([points[ground.placed], *corners])), width)
     drawing.write_head(figure, picture)
     colours = [drawing.colour_of(Mark("", shade)) for shade in shades(len(bands))]
     for above, (path, colour) in enumerate(reversed(list(zip(paths, colours)))):
@@ -42,7 +46,7 @@ def draw_bands(
             axes.add_collection(PathCollection([path], facecolors=colour, edgecolors="none", zorder=0.5 + above / 1000))
     for number, kind in enumerate(drawing.over_squares(lines)):
         drawing.draw_lines(axes, kind, 1 + number / 10)
-    drawing.draw_names(axes, picture, stops, points)
+    drawing.draw_names(axes, picture, ground.stops, points)
     drawing.draw_scale(axes)
     labels = [f"up to {minutes:g} minutes: {shape.area:,.1f} km²" for minutes, shape in bands]
     key = [Patch(facecolor=colour, label=label) for label, colour in zip(labels, colours)]

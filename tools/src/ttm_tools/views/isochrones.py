@@ -14,7 +14,8 @@ import numpy as np
 
 from ..faults import BadInput
 from ..gtfs.fields import Floats
-from ..gtfs.stops import Projection, Stops
+from ..gtfs.projection import Projection
+from ..gtfs.stops import Stops
 from ..matrices import Matrix, Share
 from ..measures.opportunities import Counts
 from ..points.table import AREAS, read_frame, text_of
@@ -56,12 +57,23 @@ class Isochrone:
 class AreaGround:
     """Where the stops or points of a matrix lie, and which of them have a shape of their own; all in kilometres."""
 
+    stops: Stops
     projection: Projection
     east: Floats
     north: Floats
     shapes: list[Any]  # polygons; None where there is none
     placed: Any  # whether it has a place
     reach: Reach | None = None  # along streets, from those that have a place and no shape, in their order
+
+    def around(self, identifier: str) -> "AreaGround":
+        """The same ground, projected around a stop, near which lengths are true; unchanged if it has no place."""
+        place = self.stops.places.get(identifier)
+        if place is None or not self.placed[place] or any(shape is not None for shape in self.shapes):
+            return self  # shapes have their areas in any equal-area projection, and squares that touch stay so
+        chosen = slice(place, place + 1)
+        projection = Projection(self.stops.latitudes[chosen], self.stops.longitudes[chosen])
+        east, north = projection.kilometres(self.stops.longitudes, self.stops.latitudes)
+        return replace(self, projection=projection, east=east, north=north)
 
     def shape_within(self, seconds: Floats, limit: float, walking: Walking) -> Any:
         from shapely.ops import unary_union
@@ -92,8 +104,8 @@ class AreaGround:
         from shapely.validation import make_valid
 
         def degrees(east: Any, north: Any) -> tuple[Any, Any]:
-            places = self.projection.longitudes(np.asarray(east)), self.projection.latitudes(np.asarray(north))
-            return np.round(places[0], DECIMALS), np.round(places[1], DECIMALS)
+            longitudes, latitudes = self.projection.degrees(east, north)
+            return np.round(longitudes, DECIMALS), np.round(latitudes, DECIMALS)
 
         area = make_valid(transform(degrees, shape)) if not shape.is_empty else shape
         return MultiPolygon(polygons_in(area))
@@ -114,17 +126,19 @@ def ground_of(stops: Stops, polygons: Mapping[str, Any]) -> AreaGround:
 
     if not stops.placed.any():
         raise BadInput(stops.path, "no stop has stop_lat and stop_lon, so there is nothing to draw")
-    projection = Projection(stops.latitudes, stops.longitudes)
-    east, north = projection.east(stops.longitudes), projection.north(stops.latitudes)
     halves = stops.sides() / 2000
+    is_square = stops.placed & ~np.isnan(halves[:, 0])
+    centre = is_square if is_square.any() else stops.placed
+    projection = Projection(stops.latitudes[centre], stops.longitudes[centre])
+    east, north = projection.kilometres(stops.longitudes, stops.latitudes)
     shapes: list[Any] = [None] * len(east)
-    for place in np.flatnonzero(stops.placed & ~np.isnan(halves[:, 0])).tolist():
+    for place in np.flatnonzero(is_square).tolist():
         x, y, (wide, high) = east[place], north[place], halves[place]
         shapes[place] = box(x - wide, y - high, x + wide, y + high)
 
     for identifier in polygons.keys() & stops.places.keys():
         shapes[stops.places[identifier]] = transform(projection.kilometres, polygons[identifier])
-    return AreaGround(projection, east, north, shapes, stops.placed)
+    return AreaGround(stops, projection, east, north, shapes, stops.placed)
 
 
 def along_streets(ground: AreaGround, stops: Stops, streets: str, walking: Walking, near: float) -> AreaGround:
@@ -165,7 +179,7 @@ class Bands:
 
 def isochrones_of(matrix: Matrix, ground: AreaGround, bands: Bands, counts: Counts | None) -> list[Isochrone]:
     """The isochrones of each scenario, share and band, in this order; ground and counts are of the matrix's stops."""
-    areas = []
+    areas, ground = list[Isochrone](), ground.around(bands.origin)
     for scenario, share in itertools.product(bands.scenarios, bands.shares):
         seconds = matrix.seconds(scenario, share, bands.origin).astype(np.float64)
         for minutes in bands.minutes:

@@ -6,7 +6,8 @@ from typing import Any
 import numpy as np
 
 from ..faults import BadInput, say
-from ..gtfs.stops import Projection, Stops
+from ..gtfs.projection import Projection
+from ..gtfs.stops import Stops
 from ..matrices import Matrix
 from ..records import shown
 from . import drawing, pictures
@@ -98,11 +99,11 @@ def figure_of_isochrones(matrix: Matrix, stops: Stops, folder: str, sheet: Sheet
     there, share = stops.of(matrix.stops), matrix.share(areas.options.share)
     scenario = matrix.scenario(areas.options.scenario or areas.options.base)
     seconds = matrix.seconds(scenario, share, areas.origin).astype(np.float64)
-    limits, ground = areas.options.breaks or BANDS, areas.ground
+    limits, ground = areas.options.breaks or BANDS, areas.ground.around(areas.origin)
     bands = [(minutes, ground.shape_within(seconds, 60 * minutes, areas.walking)) for minutes in limits]
     title = sheet.title or f"Areas reached from {stops.of([areas.origin]).name_of(areas.origin)}"
     subtitle = f"{bands[-1][1].area:,.1f} km² within {bands[-1][0]:g} minutes"
     source, place = pictures.source_of(shown(scenario), share, matrix), there.places.get(areas.origin)
     picture = Picture(title, subtitle, "Reached within", [], np.zeros(0, np.intp), source, place)
     lines, note = lines_below(folder, stops, ground.projection, sheet, None)
-    return draw_bands(picture, there, lines, note, sheet.width, bands)
+    return draw_bands(picture, ground, lines, note, sheet.width, bands)

@@ -5,7 +5,7 @@ from typing import Any
 import numpy as np
 
 from ..faults import BadInput
-from ..gtfs.stops import Projection
+from ..gtfs.projection import Projection
 from ..measures.service import Period, departures_by_piece
 from ..records import shown
 from .service import Day, period_shown
@@ -26,7 +26,7 @@ def figure_of(day: Day, scenario: str, period: Period) -> Any:
     if not stops.placed.any():
         raise BadInput(stops.path, "no stop has stop_lat and stop_lon, so there is nothing to draw")
     projection = Projection(stops.latitudes, stops.longitudes)
-    ends = np.stack([projection.east(stops.longitudes), projection.north(stops.latitudes)], axis=1)
+    ends = np.stack(projection.kilometres(stops.longitudes, stops.latitudes), axis=1)
     one, other, counts = departures_by_piece(day.running[scenario], period)
     kept = stops.placed[one] & stops.placed[other]
     segments = np.stack([ends[one[kept]], ends[other[kept]]], axis=1)

@@ -10,7 +10,8 @@ from typing import Any, Sequence
 import numpy as np
 
 from ..gtfs.fields import Floats
-from ..gtfs.stops import Projection, Stops
+from ..gtfs.projection import Projection
+from ..gtfs.stops import Stops
 from ..measures.equity import TENTHS, mean, part
 from ..records import shown
 from .equity import COLOURS
@@ -126,7 +127,7 @@ def figure_of_maps(columns: Sequence[WindowColumn], scenario: int, stops: Stops,
     """A small map for each window, with one scale of colours."""
     drawn, counts = columns[:MOST_MAPS], {len(own) for _, own in days_of(columns)}
     projection = Projection(stops.latitudes, stops.longitudes)
-    east, north = projection.east(stops.longitudes), projection.north(stops.latitudes)
+    east, north = projection.kilometres(stops.longitudes, stops.latitudes)
     across = max(counts) if len(counts) == 1 and max(counts) in range(2, MOST_ACROSS + 1) else min(ACROSS, len(drawn))
     rows = math.ceil(len(drawn) / across)
     figure = figure_with(f"{labels.kind}, by window", HEAD + 10.4 / across * rows + 0.3)

@@ -1,13 +1,12 @@
 """New lines, how long a vehicle takes along a way for which the feed has no times, and run times that change."""
 
-import math
 from dataclasses import replace
 from fractions import Fraction
 
 import numpy as np
 
-from ...gtfs.fields import Floats, Whole, clock
-from ...gtfs.stops import Projection
+from ...gtfs.fields import Whole, clock
+from ...gtfs.projection import metres_between
 from ...records import shown
 from ..base import NO_ROW
 from ..choice import chosen, stop_named, stop_shown, stops_named
@@ -79,15 +78,8 @@ def run_times(state: State, entry: Entry, way: Whole) -> tuple[Whole, int]:
     north, east = places.latitudes[way], places.longitudes[way]
     for stop in way[np.isnan(north)].tolist():
         raise entry.fault(f"needs coordinates, and stop {stop_shown(state, stop)} has none: give seconds", "speed")
-    metres = [straight(north[place : place + 2], east[place : place + 2]) for place in range(len(way) - 1)]
-    return np.ceil(np.round(np.array(metres) * 3.6 / kilometres_an_hour, 6)).astype(np.int64), dwell
-
-
-def straight(latitudes: Floats, longitudes: Floats) -> float:
-    """Metres between two places."""
-    projection = Projection(latitudes, longitudes)
-    east, north = projection.east(longitudes), projection.north(latitudes)
-    return 1000 * math.hypot(east[1] - east[0], north[1] - north[0])
+    metres = metres_between(east[:-1], north[:-1], east[1:], north[1:])
+    return np.ceil(np.round(metres * 3.6 / kilometres_an_hour, 6)).astype(np.int64), dwell
 
 
 def speed(state: State, entry: Entry) -> list[str]:

@@ -10,7 +10,8 @@ import numpy.typing as npt
 
 from ...faults import BadInput
 from ...gtfs.lines import GRID, Trips, lines_of, pieces, read_trips, removed_trips
-from ...gtfs.stops import Projection, Stops, has_file
+from ...gtfs.projection import Projection
+from ...gtfs.stops import Stops, has_file
 from ...matrices import TODAY
 from ...records import shown
 from .places import MICRO
@@ -120,7 +121,6 @@ def among(some: OnGrid, others: OnGrid) -> npt.NDArray[np.bool_]:
 def in_degrees(found: OnGrid, projection: Projection) -> Pieces:
     """Pieces on the grid in kilometres as pieces in degrees."""
     kilometres = found.reshape(-1, 2).astype(np.float64) * GRID
-    longitudes = kilometres[:, 0] / (projection.degree * projection.narrow) + projection.longitude
-    latitudes = kilometres[:, 1] / projection.degree + projection.latitude
+    longitudes, latitudes = projection.degrees(*kilometres.T)
     corners: Pieces = np.rint(np.stack([latitudes, longitudes], axis=1) * MICRO).astype(np.int32).reshape(-1, 4)
     return corners
