@@ -3,11 +3,12 @@
 import contextlib
 import csv
 import http.client
+import json
 import signal
 import subprocess
 import sys
 from pathlib import Path
-from typing import Iterator, Sequence
+from typing import Any, Iterator, Sequence
 from urllib.parse import urlsplit
 
 from asking import script
@@ -109,6 +110,13 @@ class Explored:
         """The status of a request whose body never comes."""
         with self.requested(path, None, method="POST", **headers) as connection:
             return connection.getresponse().status
+
+    def sent(self, path: str, body: object) -> dict[str, Any]:
+        """The answer in JSON to what the page sends."""
+        how = {"Origin": self.origin, "Content_Type": "application/json"}
+        with self.requested(path, json.dumps(body).encode(), **how) as connection:
+            response = connection.getresponse()
+            return {"status": response.status, **json.loads(response.read())}
 
     @contextlib.contextmanager
     def requested(

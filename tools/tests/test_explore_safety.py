@@ -5,8 +5,9 @@ import json
 import re
 import signal
 import socket
+from concurrent.futures import ThreadPoolExecutor
 from pathlib import Path
-from typing import Iterator
+from typing import Any, Iterator
 
 import pytest
 
@@ -196,6 +197,26 @@ def test_files_are_written_into_the_folder_that_is_named_alone(tmp_path: Path) -
             item.relative_to(tmp_path) for item in before
         }
     assert {str(item) for item in written} == {"saved", "saved/1", "saved/1/study.toml", "saved/1/origins.csv"}
+
+
+def test_studies_saved_at_once_by_two_servers_each_get_a_folder(tmp_path: Path) -> None:
+    """Twenty studies from four threads, ten by each of two servers with the same --out, from an origin of their own."""
+    feed, program, out = village(tmp_path), canned(tmp_path), str(tmp_path / "saved")
+    with explored(feed, program, "--out", out) as one, explored(feed, program, "--out", out) as other:
+
+        def save(number: int) -> dict[str, Any]:
+            body = {"first": "08:00", "last": "08:10", "trips": 1 + number % 8, "origin": number % 4}
+            server = (one, other)[number % 2]
+            return server.sent("study", body)
+
+        with ThreadPoolExecutor(4) as threads:
+            answers = list(threads.map(save, range(20)))
+    paths = [Path(str(answer["path"])) for answer in answers]
+    assert len(set(paths)) == 20 and {path.parent.name for path in paths} == {str(number) for number in range(1, 21)}
+    for number, path in enumerate(paths):
+        assert f"trips = {1 + number % 8}\n" in path.read_text()
+        assert len((path.parent / "origins.csv").read_text().split()) == 2
+    assert sorted(path.name for path in (tmp_path / "saved").iterdir()) == sorted(str(n) for n in range(1, 21))
 
 
 def test_names_are_text_and_nothing_else_is_fetched(tmp_path: Path, browser: Browser) -> None:
