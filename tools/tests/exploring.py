@@ -4,6 +4,7 @@ import contextlib
 import csv
 import http.client
 import json
+import os
 import signal
 import subprocess
 import sys
@@ -166,11 +167,12 @@ def state_of(thread: Path) -> str:
 
 
 @contextlib.contextmanager
-def explored(feed: Path, program: str, *words: str) -> Iterator[Explored]:
-    """Serves the page of a feed while the block runs."""
-    arguments = [str(feed), "--date", DATE, "--from", "08:00", "--to", "08:00", "--no-browser", "--program", program]
+def explored(feed: Path, program: str, *words: str, opens: str | None = None) -> Iterator[Explored]:
+    """Serves the page of a feed while the block runs, and opens it by a browser's command if one is named."""
+    arguments = [str(feed), "--date", DATE, "--from", "08:00", "--to", "08:00", "--program", program]
     process = subprocess.Popen(
-        [sys.executable, LAUNCHER, "explore", *arguments, *words],
+        [sys.executable, LAUNCHER, "explore", *arguments, *words, *(["--no-browser"] if opens is None else [])],
+        env=os.environ if opens is None else {**os.environ, "BROWSER": opens},
         stdout=subprocess.PIPE,
         stderr=subprocess.PIPE,
         preexec_fn=as_in_a_terminal,

@@ -11,6 +11,7 @@ from typing import Any, Iterator
 
 import pytest
 
+from asking import script
 from browser import Browser
 from exploring import Explored, canned, explored, village
 from helpers import LONGEST_WAIT, launched, wait_until
@@ -166,6 +167,36 @@ def test_it_ends_with_ctrl_c_and_its_program_ends_too(tmp_path: Path) -> None:
         served.process.send_signal(signal.SIGINT)
         assert served.process.wait(LONGEST_WAIT) == 130
     wait_until(lambda: not any(Path(f"/proc/{item}").exists() for item in begun))
+
+
+def test_the_browser_gets_no_token_that_other_users_can_see(tmp_path: Path, browser: Browser) -> None:
+    """What the browser is called with is visible to every user of the machine: a file, which this user alone reads."""
+    noted = tmp_path / "called"
+    program = script(tmp_path / "my-browser", f"#!/bin/sh\nprintf '%s' \"$1\" > {noted}.part; mv {noted}.part {noted}\n")
+    with explored(village(tmp_path), canned(tmp_path), opens=f"{program} %s") as served:
+        wait_until(noted.exists)
+        called = noted.read_text()
+        token = served.address.split("/")[3]
+        assert token not in called and called.startswith("file://")
+        path = Path(called.removeprefix("file://"))
+        assert path.stat().st_mode & 0o077 == 0 and path.parent.stat().st_mode & 0o077 == 0
+        lines = [Path(f"/proc/{item.name}/cmdline") for item in Path("/proc").glob("[0-9]*")]
+        assert not any(token.encode() in cmdline(line.parent) for line in lines)
+        browser.driver.get(called)
+        wait_until(lambda: browser.driver.current_url.startswith(served.address))
+        browser.settle()
+        assert browser.text("heading") != "" and browser.complaints() == []
+    wait_until(lambda: not path.exists())
+
+
+def test_a_page_of_another_site_may_lead_here_and_ask_nothing(served: Explored) -> None:
+    """A link with the token, such as that of the file, opens the page; nothing else is answered to another site."""
+    leads = {"Sec_Fetch_Site": "cross-site", "Sec_Fetch_Mode": "navigate", "Sec_Fetch_Dest": "document"}
+    assert served.status(**leads) == 200
+    assert [served.status(path, **leads) for path in (TIMES, "routes", "journey?origin=0")] == [403, 403, 403]
+    for name, value in (("Sec_Fetch_Mode", "no-cors"), ("Sec_Fetch_Dest", "iframe"), ("Sec_Fetch_Dest", "script")):
+        assert served.status(**{**leads, name: value}) == 403
+    assert served.status_of_head("", **leads) == 403
 
 
 def test_a_port_in_use_is_told_in_one_line(tmp_path: Path) -> None:
