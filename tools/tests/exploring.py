@@ -3,11 +3,13 @@
 import contextlib
 import csv
 import http.client
+import json
+import os
 import signal
 import subprocess
 import sys
 from pathlib import Path
-from typing import Iterator, Sequence
+from typing import Any, Iterator, Sequence
 from urllib.parse import urlsplit
 
 from asking import script
@@ -110,6 +112,13 @@ class Explored:
         with self.requested(path, None, method="POST", **headers) as connection:
             return connection.getresponse().status
 
+    def sent(self, path: str, body: object) -> dict[str, Any]:
+        """The answer in JSON to what the page sends."""
+        how = {"Origin": self.origin, "Content_Type": "application/json"}
+        with self.requested(path, json.dumps(body).encode(), **how) as connection:
+            response = connection.getresponse()
+            return {"status": response.status, **json.loads(response.read())}
+
     @contextlib.contextmanager
     def requested(
         self, path: str, body: bytes | None, method: str = "", **headers: str
@@ -158,11 +167,12 @@ def state_of(thread: Path) -> str:
 
 
 @contextlib.contextmanager
-def explored(feed: Path, program: str, *words: str) -> Iterator[Explored]:
-    """Serves the page of a feed while the block runs."""
-    arguments = [str(feed), "--date", DATE, "--from", "08:00", "--to", "08:00", "--no-browser", "--program", program]
+def explored(feed: Path, program: str, *words: str, opens: str | None = None) -> Iterator[Explored]:
+    """Serves the page of a feed while the block runs, and opens it by a browser's command if one is named."""
+    arguments = [str(feed), "--date", DATE, "--from", "08:00", "--to", "08:00", "--program", program]
     process = subprocess.Popen(
-        [sys.executable, LAUNCHER, "explore", *arguments, *words],
+        [sys.executable, LAUNCHER, "explore", *arguments, *words, *(["--no-browser"] if opens is None else [])],
+        env=os.environ if opens is None else {**os.environ, "BROWSER": opens},
         stdout=subprocess.PIPE,
         stderr=subprocess.PIPE,
         preexec_fn=as_in_a_terminal,

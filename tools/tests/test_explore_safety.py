@@ -5,11 +5,13 @@ import json
 import re
 import signal
 import socket
+from concurrent.futures import ThreadPoolExecutor
 from pathlib import Path
-from typing import Iterator
+from typing import Any, Iterator
 
 import pytest
 
+from asking import script
 from browser import Browser
 from exploring import Explored, canned, explored, village
 from helpers import LONGEST_WAIT, launched, wait_until
@@ -167,6 +169,36 @@ def test_it_ends_with_ctrl_c_and_its_program_ends_too(tmp_path: Path) -> None:
     wait_until(lambda: not any(Path(f"/proc/{item}").exists() for item in begun))
 
 
+def test_the_browser_gets_no_token_that_other_users_can_see(tmp_path: Path, browser: Browser) -> None:
+    """What the browser is called with is visible to every user of the machine: a file, which this user alone reads."""
+    noted = tmp_path / "called"
+    program = script(tmp_path / "my-browser", f"#!/bin/sh\nprintf '%s' \"$1\" > {noted}.part; mv {noted}.part {noted}\n")
+    with explored(village(tmp_path), canned(tmp_path), opens=f"{program} %s") as served:
+        wait_until(noted.exists)
+        called = noted.read_text()
+        token = served.address.split("/")[3]
+        assert token not in called and called.startswith("file://")
+        path = Path(called.removeprefix("file://"))
+        assert path.stat().st_mode & 0o077 == 0 and path.parent.stat().st_mode & 0o077 == 0
+        lines = [Path(f"/proc/{item.name}/cmdline") for item in Path("/proc").glob("[0-9]*")]
+        assert not any(token.encode() in cmdline(line.parent) for line in lines)
+        browser.driver.get(called)
+        wait_until(lambda: browser.driver.current_url.startswith(served.address))
+        browser.settle()
+        assert browser.text("heading") != "" and browser.complaints() == []
+    wait_until(lambda: not path.exists())
+
+
+def test_a_page_of_another_site_may_lead_here_and_ask_nothing(served: Explored) -> None:
+    """A link with the token, such as that of the file, opens the page; nothing else is answered to another site."""
+    leads = {"Sec_Fetch_Site": "cross-site", "Sec_Fetch_Mode": "navigate", "Sec_Fetch_Dest": "document"}
+    assert served.status(**leads) == 200
+    assert [served.status(path, **leads) for path in (TIMES, "routes", "journey?origin=0")] == [403, 403, 403]
+    for name, value in (("Sec_Fetch_Mode", "no-cors"), ("Sec_Fetch_Dest", "iframe"), ("Sec_Fetch_Dest", "script")):
+        assert served.status(**{**leads, name: value}) == 403
+    assert served.status_of_head("", **leads) == 403
+
+
 def test_a_port_in_use_is_told_in_one_line(tmp_path: Path) -> None:
     feed, program = str(village(tmp_path)), canned(tmp_path)
     with socket.socket() as other:
@@ -196,6 +228,26 @@ def test_files_are_written_into_the_folder_that_is_named_alone(tmp_path: Path) -
             item.relative_to(tmp_path) for item in before
         }
     assert {str(item) for item in written} == {"saved", "saved/1", "saved/1/study.toml", "saved/1/origins.csv"}
+
+
+def test_studies_saved_at_once_by_two_servers_each_get_a_folder(tmp_path: Path) -> None:
+    """Twenty studies from four threads, ten by each of two servers with the same --out, from an origin of their own."""
+    feed, program, out = village(tmp_path), canned(tmp_path), str(tmp_path / "saved")
+    with explored(feed, program, "--out", out) as one, explored(feed, program, "--out", out) as other:
+
+        def save(number: int) -> dict[str, Any]:
+            body = {"first": "08:00", "last": "08:10", "trips": 1 + number % 8, "origin": number % 4}
+            server = (one, other)[number % 2]
+            return server.sent("study", body)
+
+        with ThreadPoolExecutor(4) as threads:
+            answers = list(threads.map(save, range(20)))
+    paths = [Path(str(answer["path"])) for answer in answers]
+    assert len(set(paths)) == 20 and {path.parent.name for path in paths} == {str(number) for number in range(1, 21)}
+    for number, path in enumerate(paths):
+        assert f"trips = {1 + number % 8}\n" in path.read_text()
+        assert len((path.parent / "origins.csv").read_text().split()) == 2
+    assert sorted(path.name for path in (tmp_path / "saved").iterdir()) == sorted(str(n) for n in range(1, 21))
 
 
 def test_names_are_text_and_nothing_else_is_fetched(tmp_path: Path, browser: Browser) -> None:

@@ -6,19 +6,23 @@ import os
 import shutil
 import signal
 import subprocess
+import sys
 from pathlib import Path
-from typing import Any, Callable
+from typing import Any, Callable, Sequence
 
 import pytest
 
-from helpers import Room
+from helpers import LAUNCHER, Room
 from test_study import NO_MAPS, STOPS, STUDY, Place
+from ttm_tools.engine import Run
 from ttm_tools.faults import BadInput
 from ttm_tools.files import many_written_aside, sum_of
 from ttm_tools.naming import file_names
 from ttm_tools.study import counted, inputs as study_inputs, stages
+from ttm_tools.study.cutting import Part
 from ttm_tools.study.hosts import command
 from ttm_tools.study.study_file import read_study
+from ttm_tools.study.task import SCRIPT, write_task
 
 for _package in ("h5py", "pandas", "matplotlib"):
     pytest.importorskip(_package)
@@ -51,6 +55,39 @@ def bare(tmp_path: Path, capsysbinary: pytest.CaptureFixture[bytes]) -> Place:
 
 def contents(folder: Path) -> dict[str, bytes]:
     return {str(path.relative_to(folder)): path.read_bytes() for path in folder.rglob("*") if path.is_file()}
+
+
+PLANTED = ("csv.py", "numpy.py", "argparse.py", "ttm_tools.py", "tomllib/__init__.py")
+
+
+def plant(folder: Path, mark: Path, names: Sequence[str] = PLANTED) -> None:
+    """Writes Python modules into a folder, under names that the tools import, that leave a mark when they are run."""
+    for name in names:
+        (folder / name).parent.mkdir(exist_ok=True)
+        (folder / name).write_text(f"open({str(mark)!r}, 'a').write({name!r})\n")
+
+
+def test_a_part_runs_no_module_that_lies_in_the_folder_of_the_study(tmp_path: Path) -> None:
+    study, mark = tmp_path / "study", tmp_path / "ran"
+    (study / "parts").mkdir(parents=True)
+    plant(study, mark)
+    run = Run("feed", "2026-05-04", ("08:00", "08:00"), files={"origins": "origins.csv"}, program="/bin/false")
+    write_task(run, [Part(1, ["A"], "key", study=study)], "key", ["ttm 0.1.0"])
+    ran = subprocess.run(["sh", study / SCRIPT, "1"], cwd=study, capture_output=True, text=True)
+    assert not mark.exists(), mark.read_text()
+    assert (ran.returncode, ran.stdout) == (1, "") and "origins.csv: No such file" in ran.stderr, ran.stderr
+
+
+@pytest.mark.parametrize("words", [["walks", "."], ["prepare", "--check", "."], ["study", "study.toml"]])
+def test_the_module_runs_no_module_that_lies_in_the_working_directory(tmp_path: Path, words: list[str]) -> None:
+    folder, mark = tmp_path / "data", tmp_path / "ran"
+    folder.mkdir()
+    plant(folder, mark, [name for name in PLANTED if name != "ttm_tools.py"])  # -m itself finds that one
+    how = {**os.environ, "PYTHONPATH": str(Path(LAUNCHER).parent / "src")}
+    called = [sys.executable, "-m", "ttm_tools", *words]
+    ran = subprocess.run(called, cwd=folder, env=how, capture_output=True, text=True)
+    assert not mark.exists(), mark.read_text()
+    assert (ran.returncode, ran.stderr.count("\n")) == (1, 1), ran.stderr
 
 
 @pytest.mark.parametrize("name", ["maps/mine.png", "inputs/feed/stops.txt", "parts/0001/matrix.csv", "notes.txt"])

@@ -5,13 +5,16 @@ signal ends the run.
 import contextlib
 import errno
 import hashlib
+import itertools
 import os
 import re
+import secrets
 import shutil
 import signal
 import sys
 import tempfile
 import threading
+from dataclasses import dataclass
 from pathlib import Path
 from types import FrameType
 from typing import Any, BinaryIO, Callable, Iterator, NoReturn, Sequence
@@ -25,6 +28,7 @@ ENDING = [
 ]
 
 
+TAKEN = (errno.ENOTEMPTY, errno.EEXIST, errno.ENOTDIR)  # a name that another process has got meanwhile
 FULL = (errno.ENOSPC, errno.EDQUOT, errno.EFBIG)
 LONGEST_NAME = 200  # bytes of a file's name that its name aside repeats
 _inputs: set[tuple[int, int]] | None = None  # device and inode of the files that a command has read
@@ -213,6 +217,47 @@ def many_written_aside(folder: str | Path) -> Iterator[Path]:
                 os.replace(file, whole / file.name)
     finally:
         remove(aside)
+
+
+@dataclass
+class NewFolder:
+    """A folder that is being written: where its files are until it is complete, and its name afterwards."""
+
+    aside: Path
+    folder: Path
+
+
+@contextlib.contextmanager
+def numbered_folder(parent: str | Path) -> Iterator[NewFolder]:
+    """Yields a new folder inside `parent`. When the block ends well, it is named by the first free number from 1 on;
+    when several threads, processes or hosts do so at once, each gets a number of its own.
+    """
+    out = Path(parent)
+    out.mkdir(parents=True, exist_ok=True)
+    aside = out / f".part.{os.getpid()}.{secrets.token_hex(8)}"
+    new = NewFolder(aside, aside)
+    try:
+        aside.mkdir()
+        with writing_to(out):
+            yield new
+        new.folder = rename_to_free_number(aside, out)
+    finally:
+        remove(aside)
+
+
+def rename_to_free_number(aside: Path, out: Path) -> Path:
+    """Renames a folder that isn't empty. The system refuses to replace another folder that isn't, or a file."""
+    for number in itertools.count(1):
+        folder = out / str(number)
+        if not os.path.lexists(folder):
+            try:
+                os.rename(aside, folder)
+            except OSError as fault:
+                if fault.errno not in TAKEN:
+                    raise
+            else:
+                return folder
+    raise AssertionError("numbers do not end")
 
 
 @contextlib.contextmanager

@@ -90,6 +90,7 @@ def run(args: argparse.Namespace) -> None:
             say("The page is at the address below, for this machine alone, until Ctrl-C ends it.")
             print(guard.address, flush=True)
             exploration.read_ahead()
-            serve(application(exploration, guard), own, None if args.no_browser else guard.address)
+            opened = None if args.no_browser else guard.write_redirect(room / "explore.html")
+            serve(application(exploration, guard), own, opened)
         finally:
             exploration.close()

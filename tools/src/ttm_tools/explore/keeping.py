@@ -1,13 +1,12 @@
 """What is kept of an exploration: a study that computes all of it, in a folder of its own."""
 
-import itertools
 import os
 import shlex
 from pathlib import Path
 from typing import Any, Callable, Sequence
 
 from ..faults import WrongWords
-from ..files import many_written_aside
+from ..files import numbered_folder
 from ..parts import write_stops
 from .changes import in_toml, number
 from .making import copy_generated, copy_with_point
@@ -23,23 +22,22 @@ Walker = Callable[[Point], list[Walk]]
 
 
 def save(options: ExploreOptions, plan: Plan, columns: Sequence[str], body: Any, walker: Walker) -> dict[str, Any]:
-    """Writes a study of the network that answers, for a window, trips, and an origin or all; of a point that is no stop
-    with a copy of the feed that has it as one more stop.
+    """Writes a study of a network into a new folder, for a window, trips, and an origin or all. For a point that is no
+    stop, the study has a copy of the feed with the point as one more stop.
     """
     if not isinstance(body, dict) or not {"first", "last", "trips", "origin"} <= body.keys():
         raise WrongWords("a study needs first, last, trips and origin")
     window = window_of({key: str(body[key]) for key in ("first", "last")})
     trips, point = number(body["trips"], "trips", 1, 8), point_in(body["origin"])
     origin = -1 if point else number(body["origin"], "origin", -1, len(columns) - 1)
-    folders = (Path(options.out) / str(number) for number in itertools.count(1))
-    folder = next(folder for folder in folders if not folder.exists())
-    with many_written_aside(folder) as aside:
+    with numbered_folder(options.out) as new:
+        aside = new.aside
         named = columns[origin] if origin >= 0 else None
         if point is not None:
             named = copy_with_point(options, aside, point, walker(point))
         elif options.generated:
             copy_generated(options, aside)
-        tables = tables_of(options, plan, folder, aside, (window, trips))
+        tables = tables_of(options, plan, aside, (window, trips))
         if named is not None:
             tables["run"]["origins"] = ORIGINS
             with open(aside / ORIGINS, "wb") as file:
@@ -47,7 +45,7 @@ def save(options: ExploreOptions, plan: Plan, columns: Sequence[str], body: Any,
         (aside / STUDY).write_text(text_of(options, tables), encoding="utf-8")
         if plan.text:
             (aside / PLAN).write_text(plan.text, encoding="utf-8")
-    path = folder / STUDY
+    path = new.folder / STUDY
     return {"path": str(path), "command": f"ttm-tools study {shlex.quote(str(path))}"}
 
 
@@ -61,9 +59,9 @@ def point_in(origin: Any) -> Point | None:
 
 
 def tables_of(
-    options: ExploreOptions, plan: Plan, folder: Path, generated: Path, times: tuple[tuple[str, str], int]
+    options: ExploreOptions, plan: Plan, folder: Path, times: tuple[tuple[str, str], int]
 ) -> dict[str, dict[str, Any]]:
-    """The tables of the study's file; paths are from its folder on, where some files may have been made already."""
+    """The tables of the study's file. Paths are relative to its folder, which may already contain feed and walks."""
 
     def path(name: str) -> str:
         return os.path.relpath(name, folder)
@@ -71,8 +69,8 @@ def tables_of(
     window, trips = times
     run: dict[str, Any] = {"from": window[0], "to": window[1], "trips": trips, "walk": plan.walk}
     run |= {"shares": list(options.shares), "back": options.back, "ahead": options.ahead}
-    feed = FEED if (generated / FEED).exists() else path(options.feed)
-    table = WALKS if (generated / WALKS).exists() else options.footpaths and path(options.footpaths)
+    feed = FEED if (folder / FEED).exists() else path(options.feed)
+    table = WALKS if (folder / WALKS).exists() else options.footpaths and path(options.footpaths)
     walks: dict[str, Any] = {"none": True} if table is None else {"table": table}
     tables = {"feed": {"files": [feed], "ready": True}, "run": run, "walks": walks}
     if options.opportunities:

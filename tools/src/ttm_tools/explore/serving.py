@@ -38,14 +38,14 @@ def bound(port: int) -> socket.socket:
     return listening
 
 
-def serve(app: Flask, own: socket.socket, address: str | None) -> None:
-    """Answers requests until a signal comes; opens the address in a browser where one is given."""
+def serve(app: Flask, own: socket.socket, opened: str | None) -> None:
+    """Answers requests until a signal comes, and has a browser open an address if there is one: see `write_redirect`."""
     port = int(own.getsockname()[1])
     with own:
         server = make_server(HOST, port, app, threaded=True, request_handler=Quiet, fd=own.fileno())
         try:
-            if address is not None:
-                webbrowser.open(address)
+            if opened is not None:
+                webbrowser.open(opened)
             server.serve_forever(poll_interval=0.1)
         finally:
             server.server_close()

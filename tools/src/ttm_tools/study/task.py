@@ -29,7 +29,7 @@ def write_task(run: Run, parts: Sequence[Part], key: str, version: Sequence[str]
     write_settled(study / TASK, as_text(known))
     names = {"PYTHONPATH": str(PACKAGE.parent), "TTM_PROGRAM": os.path.abspath(program_at(run.program))}
     own = " ".join(f"{name}={shlex.quote(value)}" for name, value in names.items())
-    command = f"{shlex.quote(sys.executable)} -m ttm_tools study --part"
+    command = f"{shlex.quote(sys.executable)} -P -m ttm_tools study --part"  # -P: import nothing from the folder
     text = "#!/bin/sh\n# Computes a part of the study: one_part.sh NUMBER\n"
     text += f"cd {shlex.quote(str(study.resolve()))} || exit 1\n"
     text += f'number=${{1:-$SLURM_ARRAY_TASK_ID}}\nexec env {own} {command} "$number" .\n'
