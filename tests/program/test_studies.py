@@ -15,6 +15,7 @@ from run_cases import FEED
 from running import left, start
 from study_cases import Case
 
+PROOFS = Path(__file__).resolve().parents[2] / "docs/explanation/proofs.md"
 OWN = ("footpaths", "origins", "opportunities", "destinations")
 USUAL = {
     "date": "20260504",
@@ -54,3 +55,13 @@ def test_study(program: str, open_room: Path, case: Case) -> None:
         out, err, status = left(start(program, [*arguments, "--report"], open_room))
         assert (out, status) == ("", 2)
         assert err.endswith(case.tells + case.explains)
+
+
+def test_the_page_of_proofs_counts_these_studies() -> None:
+    cases = [*study_cases.CASES, *fault_cases.CASES]
+    refused = [case for case in cases if case.tells]
+    explained = [case for case in refused if case.explains]
+    text = " ".join(PROOFS.read_text().split())
+    assert f"{len(cases) - len(refused)} small studies print the matrix" in text
+    assert f" {len(refused)} with a wrong file, name or date are refused" in text
+    assert f" {len(explained)} of them with the right explanation" in text
