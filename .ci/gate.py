@@ -39,12 +39,7 @@ CLOSING = re.compile(r"(\d+) passed, (\d+) failed(?:, (\d+) skipped)?")
 CLOSING_OF_TESTS = re.compile(r"test result: \w+\. (\d+) passed; (\d+) failed()\b.*")
 WITHOUT_PROGRAM = [[".ci/tools_checks.py"], [".ci/names.py"], [".ci/same.py"], [".ci/lemmas.py"]]
 PROGRAM, TRIALS = "crates/ttm/out/ttm", "crates/growth_trials/out/growth_trials"
-HOSTILE = "tests/program/hostile.py"
-ON_PROGRAM = [
-    [".ci/tools_checks.py", PROGRAM],
-    [".ci/packaging_checks.py", PROGRAM],
-    [HOSTILE, PROGRAM, TRIALS],
-]
+ON_PROGRAM = [[".ci/tools_checks.py", PROGRAM, TRIALS]]
 
 
 def jobs() -> int:

@@ -128,10 +128,10 @@ def test_the_gate_says_how_long_it_takes_and_what_took_longest(small: Gate) -> N
 
 
 def test_scripts_are_counted_and_those_on_the_program_get_its_path(small: Gate) -> None:
-    for name in (".ci/names.py", ".ci/packaging_checks.py", gate.HOSTILE):
+    for name in (".ci/names.py", ".ci/tools_checks.py"):
         small.repository.write(name, SCRIPT)
     run = small.run()
-    assert (run.status, run.lines[-1]) == (0, f"{5 + 4 + 1 + 2 + 3} passed, 0 failed, 6 skipped")
+    assert (run.status, run.lines[-1]) == (0, f"{5 + 4 + 1 + 1 + 3} passed, 0 failed, 6 skipped")
 
 
 def test_scripts_run_when_everything_was_tried(small: Gate) -> None:
