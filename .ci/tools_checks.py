@@ -6,8 +6,8 @@
     tools_checks.py PROGRAM TRIALS   the tests of the tools that run the built `ttm`, and tests/program with the built
                                      `growth_trials`, too
 
-`black`, `flake8` and `mypy` read tools/pyproject.toml and .flake8; `pytest` runs the tests in as many processes as there
-are processors. What is missing is installed from Debian if that takes at most five minutes. A linter that can't be
+`black`, `flake8` and `mypy` read tools/pyproject.toml and .flake8; `pytest` runs the tests in one process for each
+processor. What is missing is installed from Debian if that takes at most five minutes. A linter that can't be
 installed, and each test that needs what is missing, counts as skipped. No test that fails is run again, except one in a
 browser, once, which is then listed with the reason. The last line is 'N passed, M failed, K skipped'.
 """
