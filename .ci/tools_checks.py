@@ -89,8 +89,9 @@ def test(built: list[str], is_quick: bool) -> Count:
         options = [f"--program={program}", f"--trials={trials}", f"--repeat={REPEATS}"]
         return count + tested(OF_PROGRAM, *options, *at_once)
     count = tested("tools", "-m", "not program", *at_once)
-    folders = [folder for folder in ("bench", ".ci") if any((ROOT / folder).glob("test_*.py"))]
-    return sum((tested(folder, *at_once) for folder in folders if folder != ".ci" or not is_quick), count)
+    for folder in ("bench", "tests/sources") if is_quick else ("bench", "tests/sources", ".ci"):
+        count += tested(folder, *at_once)
+    return count
 
 
 def main() -> int:
