@@ -37,14 +37,8 @@ MEMORY_OF_A_CHECK = 4_000_000  # kilobytes
 SECONDS_OF_TESTS = 900  # that those of a crate may take together
 CLOSING = re.compile(r"(\d+) passed, (\d+) failed(?:, (\d+) skipped)?")
 CLOSING_OF_TESTS = re.compile(r"test result: \w+\. (\d+) passed; (\d+) failed()\b.*")
-WITHOUT_PROGRAM = [[".ci/tools_checks.py"], [".ci/names.py"], [".ci/same.py"], [".ci/lemmas.py"]]
+CHECKS = ".ci/tools_checks.py"
 PROGRAM, TRIALS = "crates/ttm/out/ttm", "crates/growth_trials/out/growth_trials"
-HOSTILE = "tests/program/hostile.py"
-ON_PROGRAM = [
-    [".ci/tools_checks.py", PROGRAM],
-    [".ci/packaging_checks.py", PROGRAM],
-    [HOSTILE, PROGRAM, TRIALS],
-]
 
 
 def jobs() -> int:
@@ -122,7 +116,7 @@ def gate(root: Path, is_anew: bool) -> Count:
     else:
         count += planted.try_changed(root, is_anew, jobs())
     took: dict[str, float] = {}
-    for script in [*WITHOUT_PROGRAM, *ON_PROGRAM]:
+    for script in [[CHECKS], [CHECKS, PROGRAM, TRIALS]]:
         progress.report(" ".join(script))
         counted_here, took[" ".join(script)] = run_script(root, script)
         count += counted_here
@@ -134,14 +128,13 @@ def quick(root: Path) -> Count:
     """The tests and the program's main job by `rt try`, the tests of the tools that run no program, and the pages. The
     layout and types of the Python and tests in a browser take longer than they tell here, and are left out.
 
-    The scripts begin, since the first takes longest: it may have to install packages, which leaves processors free.
+    The script begins, since it takes longest: it may have to install packages, which leaves processors free.
     """
     trials = ["ttm", *(name for name in reversed(repository.crates_of(root)) if has_tests(root, name))]
-    scripts = [[*WITHOUT_PROGRAM[0], "--quick"], *WITHOUT_PROGRAM[1:]]
     with ThreadPoolExecutor(jobs()) as pool:
-        checked = pool.map(lambda script: run_script(root, script)[0], scripts)
+        checked = pool.submit(run_script, root, [CHECKS, "--quick"])
         tested = pool.map(lambda name: try_crate(root, name), trials)
-        return sum([*checked, *tested], Count())
+        return sum(tested, checked.result()[0])
 
 
 def try_crate(root: Path, name: str) -> Count:

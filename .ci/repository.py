@@ -4,7 +4,7 @@ from __future__ import annotations
 
 import re
 import subprocess
-from collections.abc import Iterable, Iterator
+from collections.abc import Iterator
 from dataclasses import dataclass
 from pathlib import Path
 from typing import Any
@@ -110,14 +110,3 @@ def test_modules(folder: Path) -> set[str]:
     """The files of a crate that are read for its tests alone."""
     root = "\n".join(item.read_text() for item in [folder / "lib.rt", folder / "main.rt"] if item.is_file())
     return {f"{name}.rt" for name in re.findall(r"#\[cfg\(test\)\]\s*(?:pub )?mod (\w+);", root)}
-
-
-def counted(judged: Iterable[tuple[str, bool]]) -> int:
-    """Prints what isn't as it should be, and how many are; the exit status, 1 also if nothing was looked at."""
-    count = Count()
-    for what, right in judged:
-        count += Count(right, not right)
-        if not right:
-            print(f"FAILED: {what}")
-    print(count)
-    return 0 if count.passed and not count.failed else 1

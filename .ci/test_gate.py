@@ -120,26 +120,25 @@ def test_anew_is_handed_to_rt_ci(small: Gate) -> None:
 
 
 def test_the_gate_says_how_long_it_takes_and_what_took_longest(small: Gate) -> None:
-    small.repository.write(".ci/names.py", SCRIPT)
+    small.repository.write(gate.CHECKS, SCRIPT)
     lines = small.run().lines
     assert re.fullmatch(r"expected on \d+ processors, if nothing else runs: \d+ min if nothing is kept, .*", lines[0])
-    assert any(re.fullmatch(r"-- 0 min of \d+ min at most: \.ci/names\.py", line) for line in lines)
-    assert any(re.fullmatch(r" +\d+ s  \.ci/names\.py", line) for line in lines[lines.index(SLOWEST) :])
+    assert any(re.fullmatch(r"-- 0 min of \d+ min at most: \.ci/tools_checks\.py", line) for line in lines)
+    assert any(re.fullmatch(r" +\d+ s  \.ci/tools_checks\.py", line) for line in lines[lines.index(SLOWEST) :])
 
 
-def test_scripts_are_counted_and_those_on_the_program_get_its_path(small: Gate) -> None:
-    for name in (".ci/names.py", ".ci/packaging_checks.py", gate.HOSTILE):
-        small.repository.write(name, SCRIPT)
+def test_the_script_is_counted_and_gets_the_built_programs_next(small: Gate) -> None:
+    small.repository.write(gate.CHECKS, SCRIPT)
     run = small.run()
-    assert (run.status, run.lines[-1]) == (0, f"{5 + 4 + 1 + 2 + 3} passed, 0 failed, 6 skipped")
+    assert (run.status, run.lines[-1]) == (0, f"{5 + 4 + 1 + 3} passed, 0 failed, 4 skipped")
 
 
-def test_scripts_run_when_everything_was_tried(small: Gate) -> None:
+def test_the_script_runs_when_everything_was_tried(small: Gate) -> None:
     """The script passes as often as `rt` was called before it."""
     script = "import os\nprint(f\"{len(open(os.environ['RT_LOG']).readlines())} passed, 0 failed\")\n"
-    small.repository.write(".ci/names.py", script)
+    small.repository.write(gate.CHECKS, script)
     run = small.run()
-    assert run.lines[-1] == f"{5 + 4 + len(run.calls)} passed, 0 failed"
+    assert run.lines[-1] == f"{5 + 4 + 2 * len(run.calls)} passed, 0 failed"
 
 
 @pytest.mark.parametrize(
@@ -158,18 +157,18 @@ def test_a_proof_that_fails_fails_the_gate(small: Gate, ending: str, closing: st
 
 
 def test_a_script_that_crashes_fails_the_gate(small: Gate) -> None:
-    small.repository.write(".ci/same.py", "raise ValueError\n")
+    small.repository.write(gate.CHECKS, "raise ValueError\n")
     run = small.run()
-    assert (run.status, run.lines[-1]) == (1, f"{5 + 4} passed, 1 failed")
+    assert (run.status, run.lines[-1]) == (1, f"{5 + 4} passed, 2 failed")
 
 
 def test_quick_proves_nothing_and_tries_every_test(small: Gate) -> None:
     for name in ("one", "two"):
         small.repository.write(f"crates/{name}/src/lib.rt", TESTED)
     small.repository.write("crates/ttm/src/lib.rt", LOWER)
-    small.repository.write(".ci/names.py", SCRIPT)
+    small.repository.write(gate.CHECKS, SCRIPT)
     run = small.run("--quick")
-    assert (run.status, run.lines[-1]) == (0, f"{1 + 3 + 3 + 1} passed, 0 failed, 2 skipped")
+    assert (run.status, run.lines[-1]) == (0, f"{1 + 3 + 3 + 2} passed, 0 failed, 2 skipped")
     assert sorted(run.calls) == ["try one", "try ttm", "try two"]
 
 

@@ -1,53 +1,62 @@
-"""What `tools_checks` does with tests that fail."""
+"""What `tools_checks` counts, and which tests that fail are run again."""
 
+from __future__ import annotations
+
+import os
 from pathlib import Path
 
 import pytest
 
 import tools_checks
-from installing import PYTHON
 from repository import Count
 
+TOOLS = Path(__file__).resolve().parent.parent / "tools"
 TESTS = """\
 from pathlib import Path
 import pytest
 
-@pytest.mark.parametrize("name", ["at - once", "later"])
-def test_fails_once(name):
+def is_there(name):
     seen = Path(__file__).parent / name
     was_there = seen.exists()
     seen.touch()
-    assert was_there
+    return was_there
 
-@pytest.fixture
+@pytest.fixture(scope="module")
 def browser():
-    test_fails_once("browser")
+    assert is_there("browser"), "no browser"
 
-def test_is_set_up_later(browser):
+def test_with_a_browser_that_starts_later(browser):
     pass
 
-def test_fails():
-    assert {fails}
+def test_with_a_browser_that_answers_later(browser):
+    assert is_there("answer"), "no answer"
+
+def test_fails_once():
+    assert is_there("once")
 
 def test_passes():
     pass
+
+def test_is_skipped():
+    pytest.skip("nothing to run")
 """
 
 
-def count_of(folder: Path, monkeypatch: pytest.MonkeyPatch, fails: bool) -> Count:
-    (folder / "tests").mkdir()
-    (folder / "tests" / "test_late.py").write_text(TESTS.replace("{fails}", str(not fails)))
-    monkeypatch.setattr(tools_checks, "ROOT", folder)
-    command = [PYTHON, "-m", "pytest", "-rfEs", "-p", "no:cacheprovider"]
-    return tools_checks.tested(command, [], "tests")
-
-
-def test_a_test_that_fails_once_is_named_and_passes(
+def test_only_tests_in_a_browser_are_run_again(
     tmp_path: Path, monkeypatch: pytest.MonkeyPatch, capsys: pytest.CaptureFixture[str]
 ) -> None:
-    assert count_of(tmp_path, monkeypatch, False) == Count(5, 0, 0)
-    assert "by themselves: test_late.py::test_fails_once[at - once], test_late.py" in capsys.readouterr()[0]
+    (tmp_path / "conftest.py").write_text((TOOLS / "tests/conftest.py").read_text())
+    (tmp_path / "test_late.py").write_text(TESTS)
+    monkeypatch.setenv("PYTHONPATH", os.pathsep.join([str(TOOLS / "tests"), str(TOOLS / "src")]))
+    monkeypatch.setattr(tools_checks, "ROOT", tmp_path)
+    assert tools_checks.tested(".", "-p", "no:cacheprovider") == Count(3, 1, 1)
+    lines = [line for line in capsys.readouterr().out.splitlines() if line.startswith("run again: ")]
+    assert lines == [
+        "run again: test_late.py::test_with_a_browser_that_starts_later (setup): AssertionError: no browser",
+        "run again: test_late.py::test_with_a_browser_that_answers_later (call): AssertionError: no answer",
+    ]
 
 
-def test_a_test_that_fails_again_fails(tmp_path: Path, monkeypatch: pytest.MonkeyPatch) -> None:
-    assert count_of(tmp_path, monkeypatch, True) == Count(4, 1, 0)
+def test_a_folder_without_a_report_fails(tmp_path: Path, monkeypatch: pytest.MonkeyPatch) -> None:
+    monkeypatch.setattr(tools_checks, "ROOT", tmp_path)
+    assert tools_checks.tested(".", "--no-such-option") == Count(0, 1, 0)

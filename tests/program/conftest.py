@@ -1,5 +1,5 @@
 """Runs of the built program: `pytest tests/program --program=PATH`, with `--trials=PATH` of the built `growth_trials`
-for refusals call by call.
+for refusals call by call; `-k hostile --repeat=20` hunts for races in runs with several threads.
 
 The other compiler's build, PATH.by-rattle, is run too where it is there.
 """
@@ -18,6 +18,7 @@ import pytest
 def pytest_addoption(parser: pytest.Parser) -> None:
     parser.addoption("--program", required=True, help="the built ttm")
     parser.addoption("--trials", help="the built growth_trials")
+    parser.addoption("--repeat", type=int, default=1, help="how many times each hostile run of threads is made")
 
 
 def pytest_generate_tests(metafunc: pytest.Metafunc) -> None:
@@ -25,6 +26,8 @@ def pytest_generate_tests(metafunc: pytest.Metafunc) -> None:
         named = str(metafunc.config.getoption("--program"))
         built = [named] + [item for item in [f"{named}.by-rattle"] if os.path.isfile(item)]
         metafunc.parametrize("program", built, ids=os.path.basename, indirect=True, scope="session")
+    if "repeated" in metafunc.fixturenames:
+        metafunc.parametrize("repeated", range(metafunc.config.getoption("--repeat")))
 
 
 @pytest.fixture(scope="session")

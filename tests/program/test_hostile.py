@@ -18,7 +18,7 @@ def trial(one_build: str, tmp_path: Path) -> hostile.Trial:
 
 @pytest.mark.parametrize("what", hostile.TOLD)
 @pytest.mark.parametrize("study", range(len(hostile.STUDIES)))
-def test_each_call_refused_in_turn(trial: hostile.Trial, study: int, what: str) -> None:
+def test_each_call_refused_in_turn(trial: hostile.Trial, study: int, what: str, repeated: int) -> None:
     refused = trial.refuse_each(hostile.STUDIES[study].split(), what)
     assert refused > 0 or what == "start"
     assert trial.failed == 0
@@ -32,7 +32,7 @@ def test_one_byte_at_a_time(trial: hostile.Trial, study: int, what: str) -> None
 
 
 @pytest.mark.parametrize("what", hostile.TOLD)
-def test_each_call_of_a_conversation_refused_in_turn(one_build: str, tmp_path: Path, what: str) -> None:
+def test_each_call_of_a_conversation_refused_in_turn(one_build: str, tmp_path: Path, what: str, repeated: int) -> None:
     talk = hostile.Talk(one_build, str(tmp_path))
     assert talk.refuse_each(hostile.TALK.split(), what) > 0
     assert talk.failed == 0

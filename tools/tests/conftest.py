@@ -1,12 +1,14 @@
 """Each test has a room of its own.
 
 `pytest --program=PATH`: with the built `ttm`, that it takes what the tools write, and they what it prints. `-m program`
-chooses the tests that run it. Where several processes share the tests (pytest-xdist), one has the browser.
+chooses the tests that run it. Where several processes share the tests (pytest-xdist), one has the browser. A test in a
+browser that fails is run once more (pytest-rerunfailures), since Chromium may start or answer late; no other test is.
 """
 
 from pathlib import Path
 
 import pytest
+from _pytest.terminal import TerminalReporter
 
 from helpers import Room, Town
 
@@ -25,7 +27,16 @@ def pytest_collection_modifyitems(items: list[pytest.Item]) -> None:
             item.add_marker("program")
         if "browser" in fixtures:
             item.add_marker(pytest.mark.xdist_group("browser"))
+            item.add_marker(pytest.mark.flaky(reruns=1))
     items.sort(key=lambda item: item.path.name not in LONGEST)
+
+
+def pytest_terminal_summary(terminalreporter: TerminalReporter) -> None:
+    """Lists each test that was run again, and why."""
+    for report in terminalreporter.stats.get("rerun", []):
+        crash = getattr(report.longrepr, "reprcrash", None)
+        reason = (crash.message if crash else report.longreprtext).strip().split("\n")[0]
+        terminalreporter.write_line(f"run again: {report.nodeid} ({report.when}): {reason}")
 
 
 @pytest.fixture

@@ -1,4 +1,4 @@
-"""What `.ci/lemmas.py` finds in proofs: lemmas that nothing cites, and those that are proved twice."""
+"""What `lemmas` finds in proofs: lemmas that nothing cites, and those that are proved twice."""
 
 from __future__ import annotations
 

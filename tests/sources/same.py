@@ -1,24 +1,18 @@
-#!/usr/bin/env python3
 """Looks that what several places say is the same in all of them.
 
-The small feed of `tests/program/small.py` is that of the crate `small_feed`; no two crates declare a limit, or the number of
-lanes, of one name; and the help states the limits that the code goes by. The last line is 'N passed, M failed'.
-Standard library only.
+The small feed of `tests/program/small.py` is that of the crate `small_feed`; no two crates declare a limit, or the
+number of lanes, of one name; and the help states the limits that the code goes by.
 """
 
 from __future__ import annotations
 
 import re
-import sys
 from collections.abc import Iterator
 from pathlib import Path
 
 import repository
+from small import FEED
 
-sys.path.insert(0, str(Path(__file__).resolve().parent.parent / "tests/program"))
-from small import FEED  # noqa: E402
-
-ROOT = Path(__file__).resolve().parent.parent
 BYTES = re.compile(r'b"((?:[^"\\]|\\.)*)"', re.DOTALL)
 LIMIT = re.compile(r"(?m)^(?:pub )?const (MOST_\w+|LANES): \w+ = ([\d_]+);")
 
@@ -51,7 +45,3 @@ def judged(root: Path) -> Iterator[tuple[str, bool]]:
     files = FILES_STATED.format(limits.get("MOST_SCENARIOS", 0) - 1)
     for text in [text.format(limits.get(name)) for text, name in STATED] + [files]:
         yield f"help: '{text}'", bool(re.search(re.escape(text) + r"(?!\d)", sources["command_line"]))
-
-
-if __name__ == "__main__":
-    sys.exit(repository.counted(judged(ROOT)))

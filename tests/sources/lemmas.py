@@ -1,10 +1,9 @@
-#!/usr/bin/env python3
 """Looks in the proofs for lemmas that nothing cites, and for those that are stated and proved twice.
 
 A lemma is what a file of `crates/NAME/proofs` states and proves: not an answer to a goal of the prover, and no
 invariant. It is cited where its name stands in another lemma of its file, in a file that imports it, or in a function's
 `using`. It stands twice where its statement and proof begin with the same 4 lines as another's, whatever the names of
-the two. The last line is 'N passed, M failed'. Standard library only.
+the two.
 
 A promised theorem that supports no other proof is a law: a public function with an empty body, whose contract says it.
 So its lemma is cited by that law's answer.
@@ -13,14 +12,11 @@ So its lemma is cited by that law's answer.
 from __future__ import annotations
 
 import re
-import sys
 from collections.abc import Iterator
 from dataclasses import dataclass, field
 from pathlib import Path
 
-import repository
 
-ROOT = Path(__file__).resolve().parent.parent
 LINES_ALIKE = 4
 FOR_THE_PROVER = ("Answers.antt", "Invariants.antt")
 NAME = r"[^\s(){};,.:=\\→λ]+"
@@ -178,7 +174,3 @@ def judged(root: Path) -> Iterator[tuple[str, bool]]:
     proofs = [proof_at(root, path) for path in paths if path.name not in ("Goals.antt", "Lib.antt")]
     yield from uncited(root, proofs)
     yield from doubled(root, proofs)
-
-
-if __name__ == "__main__":
-    sys.exit(repository.counted(judged(ROOT)))

@@ -5,13 +5,11 @@ import os
 import subprocess
 from pathlib import Path
 
-PACKAGING = Path(__file__).resolve().parent.parent / "packaging"
+import pytest
+
+PACKAGING = Path(__file__).resolve().parents[2] / "packaging"
 NO_ROOM = 75
 SECONDS = 1800
-
-
-class Skipped(Exception):
-    """What can't be tried on this machine."""
 
 
 class Packages:
@@ -50,5 +48,5 @@ class Packages:
         command = [str(PACKAGING / "try.sh"), "--room", kind, str(self.deb)]
         ran = subprocess.run(command, capture_output=True, text=True, timeout=SECONDS)
         if ran.returncode == NO_ROOM:
-            raise Skipped(ran.stderr.strip())
+            pytest.skip(ran.stderr.strip())
         assert ran.returncode == 0, ran.stderr + ran.stdout

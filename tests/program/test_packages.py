@@ -1,32 +1,39 @@
-#!/usr/bin/env python3
-"""Makes the tar file, the Debian package and the wheel of a built program, twice, looks at what is in them, installs
-them, and runs the worked example of README.
+"""The tar file, the Debian package and the wheel of the built program, each built twice: what is in them, whether they
+install, and that they run the worked example of README.
 
-    packaging_checks.py PROGRAM
-
-The package is installed by `dpkg` into an empty room, and into a Debian 12 of its own where mmdebstrap and a mirror
-can be had: else that is skipped, and so is what wants root, or `man`. Where root runs this on Debian, both are
-installed first. The last line is 'N passed, M failed', with ', K skipped' behind it where something was.
+`dpkg` installs the package into an empty room, and into a Debian 12 of its own where mmdebstrap and a mirror are there:
+otherwise that test is skipped, and so is one that needs root or `man`.
 """
+
+from __future__ import annotations
+
 import os
 import re
 import shutil
 import subprocess
 import sys
 import tempfile
+from collections.abc import Iterator
 from pathlib import Path
-from typing import Callable, Iterator
 
-from installing import PYTHON, install, lacking
-from packed import Packages, Skipped
-from repository import Count
+import pytest
 
-ROOT = Path(__file__).resolve().parent.parent
+from packed import Packages
+
+ROOT = Path(__file__).resolve().parents[2]
+PYTHON = "/usr/bin/python3"  # that of Debian's packages
 COMMANDS = ("ttm", "ttm-tools")
-NEEDED = {"mmdebstrap": "mmdebstrap", "man": "man-db", "twine": "twine"}  # packages by the command that they have
-MODULES = {"sphinx": "python3-sphinx", "myst_parser": "python3-myst-parser"}  # of Python, for the HTML
 PATH = os.environ["PATH"] + ":/usr/sbin"
 BASH = """source "$1"; COMP_WORDS=("${@:3}"); COMP_CWORD=$(($# - 3)); "$2"; echo "${COMPREPLY[*]}" """
+
+pytestmark = pytest.mark.xdist_group("packages")  # built once
+
+
+@pytest.fixture(scope="module")
+def of(one_build: str) -> Iterator[Packages]:
+    """The packages, unpacked."""
+    with tempfile.TemporaryDirectory(prefix="ttm-packages-") as folder:
+        yield Packages(Path(one_build), Path(folder))
 
 
 def example() -> str:
@@ -36,13 +43,13 @@ def example() -> str:
     return re.sub("^    ", "", found[1], flags=re.M)
 
 
-def same_bytes_again(of: Packages) -> None:
+def test_same_bytes_again(of: Packages) -> None:
     """the same commit and program give the same bytes"""
     for first, second in zip((of.deb, of.tar, of.wheel), of.made("again")):
         assert (first.name, first.read_bytes()) == (second.name, second.read_bytes()), f"{first.name} differs"
 
 
-def program_is_the_built_one(of: Packages) -> None:
+def test_program_is_the_built_one(of: Packages) -> None:
     """both have the program byte for byte, but for its symbols"""
     bare = of.room / "stripped"
     shutil.copy(of.program, bare)
@@ -52,30 +59,30 @@ def program_is_the_built_one(of: Packages) -> None:
         assert item.read_bytes() == bare.read_bytes(), f"{item} differs"
 
 
-def every_file_in_both(of: Packages) -> None:
+def test_every_file_in_both(of: Packages) -> None:
     """the tar file has what the package has"""
     names = [sorted(str(path.relative_to(top)) for path in top.rglob("*")) for top in (of.tree / "usr", of.folder)]
     assert names[0] == names[1], set(names[0]) ^ set(names[1])
 
 
-def toolchain_is_named(of: Packages) -> None:
+def test_toolchain_is_named(of: Packages) -> None:
     """the package names the toolchain that proved the program, as README does"""
     named = re.search(r"^    (rattle-kit-\S+ logic \S+)$", (ROOT / "README.md").read_text(), re.M)
     proved = of.share("doc/ttm/PROVED")
     assert named and f"proved with {named[1]}\n" in proved and "\ncommit " in proved, proved
 
 
-def documents_are_there(of: Packages) -> None:
+def test_documents_are_there(of: Packages) -> None:
     """the changelog and the pages of docs are there"""
     for item in (ROOT / "README.md", ROOT / "CHANGELOG.md", *(ROOT / "docs").rglob("*.md")):
         name = item.relative_to(ROOT)
         assert of.share(f"doc/ttm/{name}") == item.read_text(), f"{name} differs"
 
 
-def html_needs_no_network(of: Packages) -> None:
+def test_html_needs_no_network(of: Packages) -> None:
     """the pages are there as HTML, which loads nothing from elsewhere, and the tools find it"""
-    if lacking(MODULES):
-        raise Skipped("no Sphinx or no MyST on this machine")
+    pytest.importorskip("sphinx")
+    pytest.importorskip("myst_parser")
     folder = of.tree / "usr/share/doc/ttm/html"
     names = [path.relative_to(ROOT).with_suffix(".html") for path in (ROOT / "docs").rglob("*.md")]
     assert [name for name in names if not (folder / name).is_file()] == []
@@ -87,7 +94,7 @@ def html_needs_no_network(of: Packages) -> None:
     assert found == str(of.folder / "share/doc/ttm/html/docs/README.html"), found
 
 
-def licence_and_changes_are_said(of: Packages) -> None:
+def test_licence_and_changes_are_said(of: Packages) -> None:
     """the package says which licence it has, who keeps it, and of which commit it is"""
     assert "No licence was chosen yet" in of.share("doc/ttm/copyright")
     version = of.output("dpkg-deb", "--field", of.deb, "Version").strip()
@@ -96,22 +103,22 @@ def licence_and_changes_are_said(of: Packages) -> None:
     assert re.fullmatch(r"[^<>]+ <[^<>@ ]+@[^<>@ ]+\.[^<>@ ]+>\n", keeper), keeper
 
 
-def lintian_finds_no_error(of: Packages) -> None:
+def test_lintian_finds_no_error(of: Packages) -> None:
     """lintian finds no error in the package"""
     if shutil.which("lintian", path=PATH) is None:
-        raise Skipped("no lintian on this machine")
+        pytest.skip("no lintian on this machine")
     ran = subprocess.run(["lintian", "--fail-on", "error", str(of.deb)], capture_output=True, text=True)
     assert ran.returncode == 0, ran.stdout + ran.stderr
 
 
-def sample_feed_is_taken(of: Packages) -> None:
+def test_sample_feed_is_taken(of: Packages) -> None:
     """the sample feed has less than a megabyte, and no fault"""
     feed = of.tree / "usr/share/doc/ttm/examples/town.zip"
     assert feed.stat().st_size < 1_000_000 and (feed.parent / "jobs.csv").is_file()
     assert "no errors" in of.output(PYTHON, of.folder / "bin/ttm-tools", "prepare", "--check", feed)
 
 
-def tools_say_that_python_is_not_there(of: Packages) -> None:
+def test_tools_say_that_python_is_not_there(of: Packages) -> None:
     """where there is no Python, the tools say so in a line"""
     room = of.room / "bare"
     room.mkdir()
@@ -121,24 +128,24 @@ def tools_say_that_python_is_not_there(of: Packages) -> None:
     assert ran.returncode == 1 and ran.stderr.startswith("ttm-tools: no Python 3.11 or later here"), ran.stderr
 
 
-def folder_gives_the_example(of: Packages) -> None:
+def test_folder_gives_the_example(of: Packages) -> None:
     """the program of the tar file gives the worked example"""
     assert of.output(of.folder / "bin/ttm") == example()
 
 
-def tools_of_the_folder_run(of: Packages) -> None:
+def test_tools_of_the_folder_run(of: Packages) -> None:
     """the tools of the tar file say what they take"""
     assert "usage: ttm-tools" in of.output(sys.executable, of.folder / "bin/ttm-tools", "--help")
 
 
-def control_says_what_is_needed(of: Packages) -> None:
+def test_control_says_what_is_needed(of: Packages) -> None:
     """the package depends on the libraries of C alone, and recommends what the tools stand on"""
     depends, recommends = (of.output("dpkg-deb", "--field", of.deb, name) for name in ("Depends", "Recommends"))
     assert re.fullmatch(r"libc6( \(>= 2\.\d+\))?(, libgcc-s1)?\n", depends), depends
     assert "python3-numpy" in recommends and "python3-pandas" in recommends, recommends
 
 
-def manuals_have_every_option(of: Packages) -> None:
+def test_manuals_have_every_option(of: Packages) -> None:
     """the manual pages have each option of the helps"""
     programs: tuple[list[object], ...] = ([of.program], [sys.executable, of.folder / "bin/ttm-tools"])
     for name, program in zip(COMMANDS, programs):
@@ -148,10 +155,10 @@ def manuals_have_every_option(of: Packages) -> None:
         assert not missing, f"{name}.1: {missing}"
 
 
-def manuals_are_read_without_warnings(of: Packages) -> None:
+def test_manuals_are_read_without_warnings(of: Packages) -> None:
     """man reads the manual pages without a warning"""
     if not shutil.which("man"):
-        raise Skipped("no man on this machine")
+        pytest.skip("no man on this machine")
     for name in COMMANDS:
         page = of.tree / f"usr/share/man/man1/{name}.1.gz"
         command = ["man", "--warnings", "-E", "UTF-8", "-l", "-Tutf8", "-Z", str(page)]
@@ -160,7 +167,7 @@ def manuals_are_read_without_warnings(of: Packages) -> None:
         assert (ran.returncode, ran.stderr) == (0, ""), ran.stderr
 
 
-def words_are_completed(of: Packages) -> None:
+def test_words_are_completed(of: Packages) -> None:
     """bash completes options, commands and files"""
     completions = of.tree / "usr/share/bash-completion/completions"
     wanted = [
@@ -178,23 +185,23 @@ def words_are_completed(of: Packages) -> None:
         assert completed == found + "\n", f"{typed}: {completed}"
 
 
-def wheel_says_what_an_index_asks(of: Packages) -> None:
+def test_wheel_says_what_an_index_asks(of: Packages) -> None:
     """twine takes the wheel's metadata, and its name says the least glibc that the program needs"""
     minors = [int(match) for match in re.findall(rb"GLIBC_2\.(\d+)", of.program.read_bytes())]
     assert f"-py3-none-manylinux_2_{max([17, *minors])}_x86_64.whl" in of.wheel.name, of.wheel.name
     if not shutil.which("twine"):
-        raise Skipped("no twine on this machine")
+        pytest.skip("no twine on this machine")
     said = of.output("twine", "check", "--strict", of.wheel)
     assert "PASSED" in said, said
 
 
-def wheel_is_installed_by_pip(of: Packages) -> None:
+def test_wheel_is_installed_by_pip(of: Packages) -> None:
     """installed by pip from the file alone, the program gives the worked example, and the tools find it"""
     venv = of.room / "venv"
     try:
         of.output(PYTHON, "-m", "venv", "--system-site-packages", venv)
     except AssertionError as why:
-        raise Skipped(f"no virtual environment can be made: {why}") from None
+        pytest.skip(f"no virtual environment can be made: {why}")
     of.output(venv / "bin/pip", "install", "--no-index", "--no-deps", of.wheel, PIP_DISABLE_PIP_VERSION_CHECK="1")
     assert of.output(venv / "bin/ttm") == example()
     assert (venv / "share/ttm/PROVED").read_text() == of.share("doc/ttm/PROVED")
@@ -203,53 +210,13 @@ def wheel_is_installed_by_pip(of: Packages) -> None:
     assert of.output(venv / "bin/python", "-c", found) == f"{venv}/bin/ttm\n"
 
 
-def installed_by_dpkg(of: Packages) -> None:
+def test_installed_by_dpkg(of: Packages) -> None:
     """installed by dpkg into an empty room, it gives the worked example, and is removed whole"""
     of.install("dpkg")
 
 
-def installed_in_debian(of: Packages) -> None:
+def test_installed_in_debian(of: Packages) -> None:
     """installed in a Debian 12 of its own, it gives the worked example, and is removed whole"""
     if not any(shutil.which(name, path=PATH) for name in ("mmdebstrap", "debootstrap")):
-        raise Skipped("neither mmdebstrap nor debootstrap on this machine")
+        pytest.skip("neither mmdebstrap nor debootstrap on this machine")
     of.install("debian")
-
-
-def checks() -> list[Callable[[Packages], None]]:
-    """The functions above that look at the packages, in their order."""
-    taken = {"of": Packages, "return": None}
-    return [item for item in list(globals().values()) if getattr(item, "__annotations__", None) == taken]
-
-
-def results(program: Path) -> Iterator[str]:
-    """How each check ended: passed, failed or skipped."""
-    with tempfile.TemporaryDirectory(prefix="ttm-packaging-") as folder:
-        of = Packages(program, Path(folder))
-        for check in checks():
-            try:
-                check(of)
-                yield "passed"
-            except Skipped as why:
-                print(f"skipped: {check.__doc__}: {why}", flush=True)
-                yield "skipped"
-            except (AssertionError, OSError, subprocess.SubprocessError) as fault:
-                print(f"wrong: {check.__doc__}: {fault}", flush=True)
-                yield "failed"
-
-
-def main() -> int:
-    if len(sys.argv) != 2:
-        sys.exit("usage: packaging_checks.py PROGRAM")
-    install([package for command, package in NEEDED.items() if not shutil.which(command, path=PATH)], lacking(MODULES))
-    try:
-        ended = list(results(Path(sys.argv[1]).resolve()))
-    except (AssertionError, OSError, subprocess.SubprocessError) as fault:
-        print(f"wrong: both packages are made: {fault}", flush=True)
-        ended = ["failed"]
-    count = Count(*map(ended.count, ("passed", "failed", "skipped")))
-    print(count)
-    return 1 if count.failed else 0
-
-
-if __name__ == "__main__":
-    sys.exit(main())

@@ -1,21 +1,17 @@
-#!/usr/bin/env python3
 """Checks that the pages name only what exists.
 
 - architecture.md: each function that its tables name exists in its crate, and the program's `main` reaches those of
-  *Where is it decided* (`calls.py` says what that walk misses); each crate is named; each source file and module exists.
+  *Where is it decided* (`calls.py` says what that walk misses); each crate is named; source files and modules exist.
 - proofs.md: each promise names functions that have contracts, and each edit exists. Its numbers are right
   (`stated.py`).
 - definitions.md, how-it-is-computed.md and architecture.md: each spec that they name is a file.
 - The functions, types and constants on architecture.md, proofs.md, how-it-is-computed.md and the glossary exist.
 - Each planted bug can be planted, and a test or a planted bug names each public function (`public.py`).
-
-The last line is 'N passed, M failed'. Standard library only.
 """
 
 from __future__ import annotations
 
 import re
-import sys
 from collections.abc import Iterator
 from dataclasses import dataclass
 from pathlib import Path
@@ -26,7 +22,6 @@ import repository
 import stated
 import tables
 
-ROOT = Path(__file__).resolve().parent.parent
 PROGRAM = "ttm"
 ARCHITECTURE = "docs/explanation/architecture.md"
 PROOFS = "docs/explanation/proofs.md"
@@ -201,7 +196,3 @@ def judged(root: Path) -> Iterator[tuple[str, bool]]:
     yield from judged_tools(root, architecture)
     yield from stated.judged(root, text_of(root, PROOFS))
     yield from public.judged(root)
-
-
-if __name__ == "__main__":
-    sys.exit(repository.counted(judged(ROOT)))
