@@ -26,8 +26,7 @@ trap 'rm -rf "$room"' EXIT
 trap 'exit 1' HUP INT TERM
 
 # What it is: the version, the commit and its time.
-said=$("$program" --version)
-version=$(echo "$said" | sed -n '1s/^ttm //p')
+version=$("$program" --version | sed -n '1s/^ttm //p')
 commit=$(git -C "$here" rev-parse HEAD 2> /dev/null || echo unknown)
 [ -z "$(git -C "$here" status --porcelain 2> /dev/null)" ] || commit="$commit, with changes"
 SOURCE_DATE_EPOCH=${SOURCE_DATE_EPOCH:-$(git -C "$here" log -1 --format=%ct)}
@@ -75,8 +74,8 @@ END
 cp "$here/README.md" "$here/CHANGELOG.md" "$docs"
 cp -r "$here/docs" "$docs/docs"
 {
-    echo "$said"
-    ! at_hand=$(rt version 2> /dev/null) || echo "packed beside $at_hand"
+    echo "ttm $version"
+    echo "proved with $(rt version 2> /dev/null || echo "a toolchain that isn't on this machine")"
     echo "commit $commit"
     echo "sha256 of the program $(sha256sum < "$program" | cut -d ' ' -f 1)"
     echo "sha256 of the packaged program, without its symbols $(sha256sum < "$usr/bin/ttm" | cut -d ' ' -f 1)"

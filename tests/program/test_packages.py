@@ -66,10 +66,12 @@ def test_every_file_in_both(of: Packages) -> None:
 
 
 def test_toolchain_is_named(of: Packages) -> None:
-    """the package names the toolchain that proved the program, as README does"""
-    named = re.search(r"^    (rattle-kit-\S+ logic \S+)$", (ROOT / "README.md").read_text(), re.M)
+    """the package names the toolchain at hand, and README lists one of the same logic"""
+    at_hand = of.output("rt", "version").strip()
     proved = of.share("doc/ttm/PROVED")
-    assert named and f"proved with {named[1]}\n" in proved and "\ncommit " in proved, proved
+    assert f"\nproved with {at_hand}\n" in proved and "\ncommit " in proved, proved
+    logics = re.findall(r"^    rattle-kit-\S+ logic (\S+)$", (ROOT / "README.md").read_text(), re.M)
+    assert at_hand.split()[-1] in logics, f"README.md lists no toolchain of {at_hand}"
 
 
 def test_documents_are_there(of: Packages) -> None:

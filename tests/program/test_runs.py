@@ -19,7 +19,7 @@ from run_cases import ASKED, FEED, HOUR, OWN_WORDS, REFUSED, REPORTS, RUNS, VARY
 from running import SECONDS, Left, Words, in_a_room, left_by, start
 
 README = Path(__file__).resolve().parents[2] / "README.md"
-TOOLCHAIN = re.compile(r"    (rattle-kit-\S+ logic (\S+))\n")
+TOOLCHAIN = re.compile(r"^    rattle-kit-\S+ logic (\S+)$", re.M)
 FEW = 6  # files that may be open at once: three are before the first is read
 NO_OPTION = """error: unexpected argument '--nothing' found
 
@@ -83,13 +83,13 @@ def test_help_is_a_success_on_the_standard_output_alone(program: str) -> None:
     assert "--report explains it" in out.splitlines()[-1]
 
 
-def test_the_version_names_the_toolchain_that_readme_does_of_the_logic_at_hand(program: str) -> None:
-    found = TOOLCHAIN.search(README.read_text())
-    assert found, "README.md names no toolchain"
-    named, logic = found.groups()
+def test_the_version_is_told_alone(program: str) -> None:
+    assert left_by(program, ["--version"]) == ("ttm 2.0.0\n", "", 0)
+
+
+def test_readme_lists_a_toolchain_of_the_logic_at_hand() -> None:
     at_hand = subprocess.run(["rt", "version"], stdout=subprocess.PIPE, text=True, check=True).stdout.split()[-1]
-    version = left_by(program, ["--version"])
-    assert (*version, at_hand) == (f"ttm 2.0.0\nproved with {named}\n", "", 0, logic)
+    assert at_hand in TOOLCHAIN.findall(README.read_text())
 
 
 def test_wrong_arguments_are_told_with_the_name_that_the_program_was_called_by(program: str) -> None:

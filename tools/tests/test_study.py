@@ -27,7 +27,7 @@ from ttm_tools.study.study_file import read_study
 from ttm_tools.study.task import write_task
 from ttm_tools.study import result_list
 from ttm_tools.study.template import template
-from ttm_tools.study.ttm import fault_of, version_of
+from ttm_tools.study.ttm import fault_of, toolchain_of, version_of
 from ttm_tools.study.settings import PartSettings
 from ttm_tools.study.work import make_study
 
@@ -179,10 +179,19 @@ def test_the_notes_say_what_was_run_from_what_and_by_which_versions(place: Place
     assert {name for name in files if not name.startswith((".lock", "stages/", "study.json"))} == set(known)
     assert known == {name: sum_of(folder / name) for name in known}
     assert notes["sources"]["jobs.csv"] == sum_of(place.path("jobs.csv"))
-    assert [notes["versions"]["ttm"], notes["versions"]["toolchain"]] == version_of(program)
+    assert [notes["versions"]["ttm"], notes["versions"]["toolchain"]] == [*version_of(program), ""][:2]
     assert (notes["versions"]["ttm_sha256"], notes["parts"]) == (sum_of(program), 4)
     assert notes["study_file"] == STUDY and notes["question"] == "Who loses if Q goes?"
     assert set(notes["times"]["seconds"]) == set(notes["stages"])
+
+
+def test_the_toolchain_of_a_program_is_named_by_its_package_alone(tmp_path: Path) -> None:
+    program = tmp_path / "bin/ttm"
+    assert toolchain_of(str(program)) == []
+    proved = tmp_path / "share/doc/ttm/PROVED"
+    proved.parent.mkdir(parents=True)
+    proved.write_text("ttm 2.0.0\nproved with kit-1 logic a1\ncommit 12\n")
+    assert toolchain_of(str(program)) == ["proved with kit-1 logic a1"]
 
 
 def test_parts_of_any_number_and_processes_give_the_same_results(place: Place) -> None:

@@ -39,11 +39,20 @@ def found_program() -> str:
 
 
 def version_of(program: str) -> list[str]:
-    """What a program says of itself: its version, and the line of the toolchain that proved it."""
+    """What is known of a program: its version and, of a package's, the line of the toolchain that proved it."""
     ran = subprocess.run([program, "--version"], capture_output=True, text=True)
     if ran.returncode != 0:
         raise EngineFault(one_line(ran.stderr), ran.returncode)
-    return ran.stdout.splitlines()
+    return [*ran.stdout.splitlines()[:1], *toolchain_of(program)]
+
+
+def toolchain_of(program: str) -> list[str]:
+    """The line of the toolchain in the file `PROVED` of a program's package; none if there is no such file."""
+    share = Path(program).resolve().parent.parent / "share"
+    for file in (share / "doc/ttm/PROVED", share / "ttm/PROVED"):
+        if file.is_file():
+            return [line for line in file.read_text().splitlines() if line.startswith("proved with ")][:1]
+    return []
 
 
 def with_origins(run: Run, origins: str, threads: int) -> Run:

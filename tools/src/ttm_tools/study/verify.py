@@ -42,9 +42,10 @@ def verify(folder: Path, seed: int | None, workers: int) -> None:
             refuse_changed(study, files)
             say(f"checksums: {len(files)} files are as {NOTES} says", *unstated(study, files))
             refuse_changed_sources(study, sources)
-            own, was = version_of(program), [notes["versions"]["ttm"], notes["versions"]["toolchain"]]
-            if own[: len(was)] != was:
-                say(f"ttm here is {own[0]}, {own[-1]}; that of the study was {was[0]}, {was[1]}")
+            own = version_of(program)
+            was = [text for text in (notes["versions"]["ttm"], notes["versions"]["toolchain"]) if text]
+            if own != was:
+                say(f"ttm here is {', '.join(own)}; that of the study was {', '.join(was)}")
             given = {MATRIX: notes["run"], **(notes.get("windows") or {})}
             how: dict[str, Any] = {"program": program, "workers": workers}
             runs = {name: run_of(study, Run(**{**facts, **how})) for name, facts in given.items()}
