@@ -140,7 +140,10 @@ OF_GAPS = (
     "median and greatest time between successive departures in the period, at the stop where most runs of the direction"
     " call (of several, the first on the way)"
 )
-OF_WAYS = "from each run's first departure to its last arrival; along straight lines from stop to stop, on the ellipsoid WGS 84"
+OF_WAYS = (
+    "from each run's first departure to its last arrival; along straight lines from stop to stop, on the ellipsoid"
+    " WGS 84"
+)
 
 
 @dataclass(frozen=True)
