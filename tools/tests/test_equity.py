@@ -160,3 +160,20 @@ def test_tenths_of_the_people_change_by_hand() -> None:
     """Ten people at each of two points: the five tenths with less access gain 1, the others lose 4."""
     result = changes_by_tenth(numbers([3, 9]), numbers([4, 5]), numbers([10, 10]))
     assert result.tolist() == pytest.approx([1] * 5 + [-4] * 5)
+
+
+def test_small_numbers_keep_their_digits(room: Room) -> None:
+    header = "scenario,id,opportunity,percentile,cutoff,accessibility"
+    rows = [["base", "A", "jobs", 50, 30, 0.00002], ["base", "B", "jobs", 50, 30, 0.00006]]
+    rows += [["cut", "A", "jobs", 50, 30, 0.00001], ["cut", "B", "jobs", 50, 30, 0.00006]]
+    access, people = room.write("a.csv", header, rows), room.write("p.csv", "id,people", [["A", 1], ["B", 3]])
+    base, cut = read(room.ran("equity", access, "--people", people)[0])
+    # (2 + 3 * 6) / 4 hundred thousandths, and then (1 + 3 * 6) / 4; A alone is the least tenth
+    assert (base["mean"], base["median"], base["least_tenth"], base["least_tenth_change"]) == (
+        "0.00005",
+        "0.00006",
+        "0.00002",
+        "0",
+    )
+    assert (cut["mean"], cut["least_tenth"], cut["least_tenth_change"]) == ("0.0000475", "0.00001", "-0.00001")
+    assert (base["losers_percent"], cut["losers_percent"]) == ("0", "25")

@@ -173,3 +173,46 @@ def test_vehicles_are_those_that_a_count_by_the_second_finds(seed: int) -> None:
         for second in range(period.start, period.end)
     )
     assert vehicles_in(running, chosen, period) == most
+
+
+def test_a_run_of_a_loop_counts_once_for_the_headway(room: Room) -> None:
+    room.stops(*[(name, 0, 1000 * place) for place, name in enumerate("ABCD")])
+    room.write("routes.txt", "route_id", [["R"]])
+    room.write("calendar.txt", *CALENDAR)
+    trips = {"T0": 480, "T1": 510, "T2": 540, "T3": 570}  # every 30 minutes, A-B-C-B-D with 5 minutes between two calls
+    room.write("trips.txt", "route_id,service_id,trip_id", [["R", "M", trip] for trip in trips])
+    times = [
+        (trip, begin + 5 * number, stop, number) for trip, begin in trips.items() for number, stop in enumerate("ABCBD")
+    ]
+    calls = [[trip, *[f"{time // 60:02}:{time % 60:02}:00"] * 2, stop, number] for trip, time, stop, number in times]
+    room.write("stop_times.txt", STOP_TIMES, calls)
+    (row,) = service(room)
+    assert (row["departures"], row["headway_minutes"], row["greatest_gap_minutes"]) == ("4", "30", "30")
+    # B is left eight times: departures of vehicles, not of runs
+    assert {row["stop_id"]: row["departures"] for row in service(room, "--by", "stop")} == {
+        "A": "4",
+        "B": "8",
+        "C": "4",
+    }
+
+
+def test_a_day_without_periods_has_24_hours(line: Room, monkeypatch: pytest.MonkeyPatch) -> None:
+    # A is left at 8:00, 8:10, 8:30 and 24:10; B at 8:02, 8:12, 8:32 and 8:24
+    rates = {row["stop_id"]: row["departures_an_hour"] for row in service(line, "--by", "stop")}
+    assert rates["A"] == rates["B"] == "0.1667"
+    rates = {
+        row["stop_id"]: row["departures_an_hour"] for row in service(line, "--by", "stop", "--periods", "00:00,12:00")
+    }
+    assert (rates["A"], rates["B"]) == ("0.25", "0.3333")
+
+
+def test_the_scenarios_of_a_plan_have_its_order(line: Room) -> None:
+    (line.folder / "scenarios").mkdir()
+    names = ["today", "zebra", "more", "alpha"]
+    for name in reversed(names):
+        line.write(f"scenarios/{name}.csv", "action,id,seconds", [])
+    words = " ".join(["--feed planned", *(f"planned/scenarios/{name}.csv" for name in names)])
+    Path(line.path("scenarios.words")).write_text(f"{words}\n")
+    assert [row["scenario"] for row in service(line, "--by", "all")] == names
+    Path(line.path("scenarios.words")).unlink()
+    assert [row["scenario"] for row in service(line, "--by", "all")] == ["today", "alpha", "more", "zebra"]

@@ -17,8 +17,9 @@ empty for both directions together), first departure, last arrival, kilometres a
 under way at once, vehicle hours and vehicle kilometres (in straight lines from stop to stop). A departure counts in the
 period in which it leaves its first stop, with its whole time and distance; trips after midnight belong to the day of
 their service. --by chooses what a line stands for: a direction of a route, a route, everything, or a stop with its
-departures an hour. For a feed of ttm-tools scenarios, its own scenario files are the default. A line on standard error
-compares the totals of each scenario with those of the first.
+departures an hour: of the period, or of 24 hours if it is longer. For a feed of ttm-tools scenarios, its own scenario
+files are the default, in the plan's order. A line on standard error compares the totals of each scenario with those of
+the first.
 
 --page writes an HTML page like a timetable at a stop: minutes of departure by hour, scenarios side by side. --picture
 draws a map on which a wider line has more vehicles an hour; needs matplotlib. docs/reference/measures.md defines each
@@ -82,10 +83,10 @@ def day_of(args: argparse.Namespace) -> "Day":
     from ..matrices import BASE, TODAY
     from ..measures.service import periods_of, running_on, straight_lengths
     from ..gtfs.timetable import read_edits, read_timetable
+    from ..plans.make import files_in_order
     from ..views.service import Day
 
-    folder = Path(args.feed) / "scenarios"
-    files = args.scenarios or sorted(map(str, folder.glob("*.csv")), key=lambda path: Path(path).stem != TODAY)
+    files = args.scenarios or files_in_order(args.feed)
     names = [Path(path).name.removesuffix(".csv") for path in files]
     if len(set(names)) < len(names) or BASE in names:
         raise BadInput(", ".join(files), "two scenario files have the same name, or one is called base")

@@ -2,7 +2,8 @@
 
 A run belongs to the period in which it leaves its first stop, with all its time and way. Headways are the times between
 departures that follow one another, both in the period, at the stop at which most runs of the direction call; of several
-such stops the first on the way. Vehicles are the most runs under way at once, without any time to turn.
+such stops the first on the way. A run that calls there several times counts with its first call. Vehicles are the most
+runs under way at once, without any time to turn.
 """
 
 import datetime
@@ -26,6 +27,11 @@ class Period:
 
     start: int
     end: int
+
+    @property
+    def hours(self) -> float:
+        """The hours by which departures are divided: 24 at most, since service past midnight belongs to the day."""
+        return min((self.end - self.start) / HOUR, 24.0)
 
     def has(self, times: Whole) -> Mask:
         inside: Mask = (times >= self.start) & (times < self.end)
@@ -53,6 +59,14 @@ class ServiceRuns:
     kilometres: Floats
     calls: ServiceCalls
 
+    @functools.cached_property
+    def first_calls(self) -> Whole:
+        """The places of the calls that are a run's first at their stop; later ones are those of loops."""
+        calls = self.calls
+        _, places = np.unique(np.stack([calls.run, calls.stop], axis=1), axis=0, return_index=True)
+        found: Whole = np.sort(places)
+        return found
+
 
 def running_on(timetable: Timetable, date: datetime.date, edits: Edits, lengths: Floats) -> ServiceRuns:
     """The runs of the service day itself; lengths are the kilometres of each trip."""
@@ -77,10 +91,11 @@ def running_on(timetable: Timetable, date: datetime.date, edits: Edits, lengths:
 
 def headway_stops(running: ServiceRuns, group: Whole, groups: int, stops: int) -> Whole:
     """For each group of runs the stop at which most of them call; of several the first on the way; -1 for none."""
-    calls = running.calls
-    key, run_once = np.unique(group[calls.run] * stops + calls.stop, return_inverse=True)
+    calls, first_calls = running.calls, running.first_calls
+    run, stop, position = calls.run[first_calls], calls.stop[first_calls], calls.position[first_calls]
+    key, run_once = np.unique(group[run] * stops + stop, return_inverse=True)
     counts = np.bincount(run_once, minlength=len(key))
-    means = np.bincount(run_once, calls.position, len(key)) / np.maximum(counts, 1)
+    means = np.bincount(run_once, position, len(key)) / np.maximum(counts, 1)
     stop_of_group = np.full(groups, -1, dtype=np.int64)
     order = np.lexsort([means, -counts, key // stops])
     first = np.ones(len(order), dtype=np.bool_)
@@ -106,8 +121,9 @@ class PeriodRuns:
     @functools.cached_property
     def gaps(self) -> Floats:
         """Minutes between departures from the stop that follow one another."""
-        calls = self.running.calls
-        here = self.chosen[calls.run] & (calls.stop == self.stop) & self.period.has(calls.depart)
+        calls, first_calls = self.running.calls, self.running.first_calls
+        at_stop = first_calls[calls.stop[first_calls] == self.stop]
+        here = at_stop[self.chosen[calls.run[at_stop]] & self.period.has(calls.depart[at_stop])]
         return np.diff(np.sort(calls.depart[here])) / 60
 
     @property
@@ -138,9 +154,12 @@ def greatest(numbers: "Floats | Whole") -> float:
 
 OF_GAPS = (
     "median and greatest time between successive departures in the period, at the stop where most runs of the direction"
-    " call (of several, the first on the way)"
+    " call (of several, the first on the way); a run that calls there several times counts with its first call"
 )
-OF_WAYS = "from each run's first departure to its last arrival; along straight lines from stop to stop, on the ellipsoid WGS 84"
+OF_WAYS = (
+    "from each run's first departure to its last arrival; along straight lines from stop to stop, on the ellipsoid"
+    " WGS 84"
+)
 
 
 @dataclass(frozen=True)

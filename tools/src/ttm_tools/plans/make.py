@@ -10,9 +10,10 @@ from .base import read_base
 from .carrying_out import Finished, carried_out
 from .limits import refuse_limits, sentences_on_days
 from ..opening.kinds import near
+from ..opening.paths import as_one_line
 from .plan_file import PlanFile, read_plan
 from .report import sentences, unused, write_lists
-from .scenario_files import write_scenarios
+from .scenario_files import TODAY, write_scenarios
 from .writing import Written, write_all, written_of
 
 FOLDER, WORDS, REPORT = "scenarios", "scenarios.words", "scenarios.md"
@@ -45,6 +46,20 @@ def write_arguments(written: Written, folder: Path, out: str) -> str:
     text = " ".join(map(shlex.quote, arguments))
     (folder / WORDS).write_text(text + "\n", encoding="utf-8", errors="surrogateescape")
     return text
+
+
+def files_in_order(folder: str) -> list[str]:
+    """Return the scenario files in the folder of a plan's feed, in the plan's order; by name where none is stated."""
+    files = {path.name: str(path) for path in sorted((Path(folder) / FOLDER).glob("*.csv"))}
+    words = Path(folder) / WORDS
+    stated = list[str]()
+    if words.is_file():
+        with as_one_line(words, "is not the arguments of ttm-tools scenarios"):
+            text = words.read_text(encoding="utf-8", errors="surrogateescape")
+            stated = [Path(word).name for word in shlex.split(text)]
+    first = [f"{TODAY}.csv", *stated]
+    names = dict.fromkeys([*(name for name in first if name in files), *files])
+    return [files[name] for name in names]
 
 
 def write_report(plan: PlanFile, finished: list[Finished], lines: list[str], folder: Path) -> None:

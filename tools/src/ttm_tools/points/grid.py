@@ -16,11 +16,11 @@ from ..gtfs.fields import Floats
 from ..gtfs.projection import Projection
 from ..gtfs.stops import Stops
 from ..records import shown
-from .table import AREAS, Points, plain, read_frame, read_points, text_of
+from .features import POLYGONS, RECORD, checked, number_columns, numbers_of, read_features
+from .table import AREAS, Points, plain, read_points
 
 MOST_CELLS = 65_535  # stops and points that `ttm` takes
 MOST_TRIED = 2_000_000  # squares of a bounding box
-POLYGONS = ("Polygon", "MultiPolygon")
 OUTSIDE = "outside all cells"
 PATH = "grid"  # what faults name in place of a file
 Squares = npt.NDArray[np.int64]
@@ -35,6 +35,7 @@ class Grid:
     south: float  # of the first row, kilometres north of the centre of the projection
     west: float  # of the first column
     squares: Squares
+    notes: tuple[str, ...] = ()  # what was repaired of the area
 
     def places(self) -> dict[tuple[int, int], int]:
         return {(row, column): place for place, (row, column) in enumerate(self.squares.tolist())}
@@ -84,7 +85,8 @@ def grid_over(path: str, side: float) -> Grid:
     from shapely.ops import transform, unary_union
     from shapely.prepared import prep
 
-    shapes = [shape for shape in areas_of(path).geometry if shape.geom_type in POLYGONS]
+    frame, notes = checked(path, read_features(path))
+    shapes = [shape for shape in frame.geometry if shape.geom_type in POLYGONS]
     if not shapes:
         raise BadInput(path, "no polygon")
     bounds = np.array([shape.bounds for shape in shapes])
@@ -103,7 +105,7 @@ def grid_over(path: str, side: float) -> Grid:
         parts = ((column, area.intersection(grid.square(row, column)).area) for column in near)
         found += [(row, column) for column, part in parts if part > 1e-9 * side**2]
         refuse_cells(len(found))
-    return whole(Grid(projection, side, south, west, np.array(found, np.int64).reshape(-1, 2)))
+    return whole(Grid(projection, side, south, west, np.array(found, np.int64).reshape(-1, 2), tuple(notes)))
 
 
 def band(grid: Grid, row: int, count: int) -> Any:
@@ -131,22 +133,16 @@ def refuse_cells(count: int) -> None:
         raise BadInput(PATH, f"more than {MOST_CELLS:,} cells, which is more than ttm takes: use larger cells")
 
 
-def areas_of(path: str) -> Any:
-    """The shapes of a file in degrees."""
-    if Path(path).suffix.lower() not in AREAS:
-        raise BadInput(path, f"areas are read from {', '.join(AREAS)}")
-    frame = read_frame(path)
-    if frame.crs is None:
-        raise BadInput(path, "it names no coordinate reference system")
-    return frame[~(frame.geometry.isna() | frame.geometry.is_empty)].to_crs(4326)
-
-
 def filled(grid: Grid, paths: Sequence[str]) -> tuple[Points, list[str]]:
     """The cells with the numbers of some files, and what is reported of numbers outside of all cells."""
-    columns, found, sentences = list[str](), [np.zeros((len(grid.squares), 0))], list[str]()
+    columns, found, sentences = list[str](), [np.zeros((len(grid.squares), 0))], list(grid.notes)
     for path in paths:
-        is_polygons = Path(path).suffix.lower() in AREAS and any(areas_of(path).geom_type.isin(POLYGONS))
-        names, numbers, totals = from_polygons(grid, path) if is_polygons else from_points(grid, path)
+        frame = read_features(path) if Path(path).suffix.lower() in AREAS else None
+        if frame is not None and any(frame.geom_type.isin(POLYGONS)):
+            names, numbers, totals, notes = from_polygons(grid, path, frame)
+            sentences += notes
+        else:
+            names, numbers, totals = from_points(grid, path)
         twice = next((name for name in names if name in columns), None)
         if twice is not None:
             raise BadInput(path, f"a column {shown(twice)} is in another file too")
@@ -177,21 +173,23 @@ def from_points(grid: Grid, path: str) -> tuple[list[str], Floats, Floats]:
     return points.columns, sums, points.numbers.sum(axis=0)
 
 
-def from_polygons(grid: Grid, path: str) -> tuple[list[str], Floats, Floats]:
-    """The same of a file of polygons: a cell gets as much of a polygon's numbers as it has of its area."""
+def from_polygons(grid: Grid, path: str, frame: Any) -> tuple[list[str], Floats, Floats, list[str]]:
+    """The same of a file of polygons: a cell gets as much of a polygon's numbers as it has of its area. And sentences
+    on what was repaired or isn't summed.
+    """
     from shapely.ops import transform
 
-    frame = areas_of(path)
-    others = [column for column in frame.columns if column not in ("id", "width", "height")]
-    names = [column for column in others if frame[column].dtype.kind in "iuf"]
+    others = [column for column in frame.columns if column not in ("id", "width", "height", RECORD, "geometry")]
+    names, notes = number_columns(path, frame, others)
     refuse_none(path, names)
+    frame, repaired = checked(path, frame, names)
     numbers = numbers_of(path, frame, names)
     places, sums = grid.places(), np.zeros((len(grid.squares), len(names)))
     for record, shape in enumerate(frame.geometry):
         own = transform(grid.projection.kilometres, shape)
         for place, part in shares_of(grid, places, own):
             sums[place] += numbers[record] * part
-    return list(map(str, names)), sums, numbers.sum(axis=0)
+    return list(map(str, names)), sums, numbers.sum(axis=0), [*notes, *repaired]
 
 
 def shares_of(grid: Grid, places: dict[tuple[int, int], int], shape: Any) -> list[tuple[int, float]]:
@@ -216,18 +214,6 @@ def shares_of(grid: Grid, places: dict[tuple[int, int], int], shape: Any) -> lis
         for place, square in squares
         if inside.intersects(square)
     ]
-
-
-def numbers_of(path: str, frame: Any, names: Sequence[str]) -> Floats:
-    """The columns of a frame; nothing counts as 0, and no number is negative."""
-    numbers: Floats = np.nan_to_num(frame[list(names)].to_numpy(dtype=np.float64), nan=0.0, posinf=-1.0)
-    bad = np.argwhere(numbers < 0)
-    if len(bad):
-        record, column = bad[0].tolist()
-        value = text_of(frame[names[column]].iat[record])
-        allowed = "a number from 0 on"
-        raise BadInput(path, "is invalid", record=record + 1, column=names[column], value=value, allowed=allowed)
-    return numbers
 
 
 def refuse_none(path: str, names: Sequence[str]) -> None:

@@ -156,6 +156,8 @@ def read_table(path: str, called: Columns) -> Points:
 
 def read_areas(path: str, called: Columns) -> Points:
     """A point inside each area of a file, with the area, or each of its points; columns of text have labels."""
+    from .features import number_columns, valid
+
     frame = read_frame(path)
     twice = next((name for name in frame.columns if list(frame.columns).count(name) > 1), None)
     if twice is not None:
@@ -168,9 +170,12 @@ def read_areas(path: str, called: Columns) -> Points:
     empty = np.flatnonzero((frame.geometry.isna() | frame.geometry.is_empty).to_numpy())
     if len(empty):
         raise BadInput(path, "no area", record=int(empty[0]) + 1)
+    frame = frame.set_geometry([valid(path, place + 1, shape) for place, shape in enumerate(frame.geometry)])
     inside = frame.geometry.representative_point().to_crs(4326)
-    kept = [name for name in frame.columns if frame[name].dtype.kind in "iufb" and name not in (*NEEDED, *WANTED)]
-    texts = [name for name in frame.columns if frame[name].dtype.kind == "O" and name not in (*NEEDED, *WANTED)]
+    others = [name for name in frame.columns if frame[name].dtype.kind in "iufbO" and name not in (*NEEDED, *WANTED)]
+    counted, _ = number_columns(path, frame, others)
+    kept = [name for name in others if frame[name].dtype.kind == "b" or name in counted]
+    texts = [name for name in others if name not in kept]
     taken = Taken(path, kept)
     names = frame["name"] if "name" in frame.columns else frame["id"]
     sides = [frame[column] if column in frame.columns else [None] * len(frame) for column in WANTED[1:]]

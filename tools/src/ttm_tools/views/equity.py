@@ -1,5 +1,6 @@
 """What is shown of equity: a table, as CSV or Markdown, and a picture of Lorenz curves and of changes by tenths."""
 
+import math
 from dataclasses import astuple, dataclass
 from typing import Any, BinaryIO, Callable, Iterable, Iterator, Sequence
 
@@ -19,6 +20,7 @@ from .texts import figure_with, text_alone
 
 COLOURS = ("#000000", "#0072b2", "#d55e00", "#009e73", "#cc79a7", "#e69f00", "#56b4e9")  # after Okabe and Ito
 HIGH = 0.72  # of the picture
+NOISE = 1e-13  # smaller numbers are differences of equal ones
 Line = tuple[AccessKind, str, str, Equity | Nearness]  # group and scenario are the texts
 
 
@@ -64,8 +66,13 @@ def measured(table: AccessTable, people: Counts, options: EquityOptions) -> Iter
 
 
 def significant(number: float) -> str:
-    """A number to four decimals at most; nothing for NaN."""
-    return "" if np.isnan(number) else f"{number:.4f}".rstrip("0").rstrip(".")
+    """Return a number to four decimals, or below 0.01 to four significant digits; nothing for NaN."""
+    if np.isnan(number):
+        return ""
+    size = abs(number)
+    decimals = 4 if size >= 0.01 or size < NOISE else 3 - math.floor(math.log10(size))
+    text = f"{number:.{decimals}f}".rstrip("0").rstrip(".")
+    return "0" if text == "-0" else text
 
 
 def rows_of(lines: Iterable[Line]) -> list[list[str]]:

@@ -18,6 +18,7 @@ from ..gtfs.projection import Projection
 from ..gtfs.stops import Stops
 from ..matrices import Matrix, Share
 from ..measures.opportunities import Counts
+from ..points.features import POLYGONS, valid
 from ..points.table import AREAS, read_frame, text_of
 from ..records import shown
 from ..walks import Pace
@@ -162,8 +163,10 @@ def polygons_of(path: str | None) -> dict[str, Any]:
     if path is None or Path(path).suffix.lower() not in AREAS:
         return {}
     frame = read_frame(path).to_crs(4326)
-    shapes = zip(frame["id"], frame.geometry)
-    return {text_of(own): shape for own, shape in shapes if shape.geom_type in ("Polygon", "MultiPolygon")}
+    shapes = enumerate(zip(frame["id"], frame.geometry))
+    return {
+        text_of(own): valid(path, place + 1, shape) for place, (own, shape) in shapes if shape.geom_type in POLYGONS
+    }
 
 
 @dataclass(frozen=True)

@@ -124,13 +124,12 @@ def write_stops(out: BinaryIO, day: Day) -> None:
 def stop_fields(day: Day) -> Iterator[list[str]]:
     all_stops, stops = day.timetable.all_stops, day.timetable.stops
     for period in day.periods:
-        hours = (period.end - period.start) / 3600
         found = {name: departures_by_stop(runs, period, len(stops)) for name, runs in day.running.items()}
         for place, stop in enumerate(stops):
             counts = {name: int(counts[place]) for name, counts in found.items()}
             for name, count in counts.items() if any(counts.values()) else ():
                 known = all_stops.names[all_stops.places[stop]]
-                yield [name, stop, known, period_shown(period), str(count), significant(count / hours)]
+                yield [name, stop, known, period_shown(period), str(count), significant(count / period.hours)]
 
 
 def costs_stated(day: Day) -> list[str]:

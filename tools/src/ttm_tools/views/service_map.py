@@ -30,7 +30,7 @@ def figure_of(day: Day, scenario: str, period: Period) -> Any:
     one, other, counts = departures_by_piece(day.running[scenario], period)
     kept = stops.placed[one] & stops.placed[other]
     segments = np.stack([ends[one[kept]], ends[other[kept]]], axis=1)
-    rates = counts[kept] / ((period.end - period.start) / 3600)
+    rates = counts[kept] / period.hours
     classes = np.searchsorted(np.array(CLASSES), rates, side="right")
     order = np.argsort(classes, kind="stable")
     figure = Figure(figsize=(INCHES, INCHES), dpi=135, facecolor="white")

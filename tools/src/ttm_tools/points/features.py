@@ -1,0 +1,149 @@
+"""The features of a file of areas, checked one by one: what cannot be used is refused, so that no number gets lost."""
+
+from pathlib import Path
+from typing import Any, Iterator, Sequence
+
+import numpy as np
+
+from ..faults import BadInput, quantity, some
+from ..gtfs.fields import Floats
+from ..opening.texts import MOST_JSON, read_json
+from ..records import number_of, shown
+from .table import AREAS, NUMBER, read_frame, text_of
+
+POLYGONS = ("Polygon", "MultiPolygon")
+JSON = (".geojson", ".json")
+RECORD = "record of the file"  # a column of the tables that `read_features` returns
+MOSTLY = 0.9  # of a column of texts, from which on those that are no numbers are an error
+
+
+def read_features(path: str) -> Any:
+    """Read a GeoJSON file or a GeoPackage as a table of geopandas in degrees, with the numbers of its records.
+
+    Raises
+    ------
+    BadInput
+        The file is of another kind, can't be read, or names no coordinate reference system.
+    """
+    if Path(path).suffix.lower() not in AREAS:
+        raise BadInput(path, f"areas are read from {', '.join(AREAS)}")
+    frame = read_frame(path)
+    if frame.crs is None:
+        raise BadInput(path, "it names no coordinate reference system")
+    return frame.to_crs(4326).assign(**{RECORD: range(1, len(frame) + 1)})
+
+
+def checked(path: str, frame: Any, columns: Sequence[str] | None = None) -> tuple[Any, list[str]]:
+    """Return the records that have a shape, each with a valid one, and sentences on what was repaired.
+
+    Raises
+    ------
+    BadInput
+        A record has no shape and a number above 0 in one of the columns, or no columns are given; or a polygon has no
+        area.
+    """
+    missing = (frame.geometry.isna() | frame.geometry.is_empty).to_numpy()
+    for place in np.flatnonzero(missing).tolist():
+        stated = ((text_of(frame[name].iat[place]), name) for name in columns or ())
+        found = [f"{text} {shown(str(name))}" for text, name in stated if number_of(text or "0") != 0]
+        if found or columns is None:
+            raise BadInput(path, f"no shape{f', and {found[0]}' if found else ''}", record=place + 1)
+    frame = frame[~missing]
+    pairs = list(zip(frame[RECORD].tolist(), frame.geometry))
+    shapes = [valid(path, record, shape) for record, shape in pairs]
+    repaired = [f"record {record} ({reason(old)})" for (record, old), new in zip(pairs, shapes) if new is not old]
+    sentence = f"{path}: {quantity(len(repaired), 'invalid shape')} repaired: {some(repaired)}"
+    return frame.set_geometry(shapes, crs=4326), [sentence] * bool(repaired)
+
+
+def reason(shape: Any) -> str:
+    """Why a shape is invalid."""
+    from shapely.validation import explain_validity
+
+    return str(explain_validity(shape)).partition("[")[0].lower()
+
+
+def valid(path: str, record: int, shape: Any) -> Any:
+    """Return a shape that is valid: itself, or for a polygon the ground that its rings enclose."""
+    from shapely.ops import unary_union
+    from shapely.validation import make_valid
+
+    if shape.geom_type not in POLYGONS:
+        return shape
+    if not shape.is_valid:
+        parts = [make_valid(part) for part in getattr(shape, "geoms", [shape])]
+        pieces = [piece for part in parts for piece in getattr(part, "geoms", [part]) if piece.geom_type in POLYGONS]
+        shape = unary_union(pieces)
+    if not shape.area:
+        raise BadInput(path, "a polygon without area", record=record)
+    return shape
+
+
+def number_columns(path: str, frame: Any, others: Sequence[str]) -> tuple[list[str], list[str]]:
+    """Return which of some columns have numbers, and sentences on those that might.
+
+    A column of texts counts if the file states a number in it, as only GeoJSON can; each of its texts must then be a
+    number. Other columns of texts are labels, but refused if nearly all of their texts are numbers and some are not.
+
+    Raises
+    ------
+    BadInput
+        A text of a column of numbers is no number.
+    """
+    columns, sentences = list[str](), list[str]()
+    mixed = frozenset[str]()
+    texts = [name for name in others if frame[name].dtype.kind == "O" and any(map(is_number, frame[name]))]
+    if texts and path.lower().endswith(JSON) and Path(path).stat().st_size <= MOST_JSON:
+        mixed = frozenset(name for name in texts if states_numbers(path, name))
+    for name in others:
+        if frame[name].dtype.kind in "iuf":
+            columns.append(name)
+        elif name in texts:
+            stated = [
+                (place, text_of(value).strip()) for place, value in enumerate(frame[name]) if text_of(value).strip()
+            ]
+            wrong = [(place, text) for place, text in stated if not is_number(text)]
+            share = 1 - len(wrong) / len(stated)
+            if wrong and (name in mixed or share >= MOSTLY):
+                place, text = wrong[0]
+                allowed = f"{NUMBER[2]}, or nothing"
+                raise BadInput(path, "is invalid", record=place + 1, column=name, value=text, allowed=allowed)
+            if name in mixed:
+                columns.append(name)
+            elif share >= MOSTLY:
+                sentences.append(f"{path}: the column {shown(name)} is text, so its numbers are not summed")
+    return columns, sentences
+
+
+def is_number(value: Any) -> bool:
+    """Whether a field, or its text, is a number."""
+    return not np.isnan(number_of(text_of(value).strip()))
+
+
+def states_numbers(path: str, column: str) -> bool:
+    """Whether some feature of a GeoJSON file has a number, not a text, as a property."""
+    properties: Iterator[Any] = (
+        item.get("properties") or {} for item in read_json(path, "GeoJSON").get("features", [])
+    )
+    return any(isinstance(own.get(column), (int, float)) for own in properties if isinstance(own, dict))
+
+
+def numbers_of(path: str, frame: Any, names: Sequence[str]) -> Floats:
+    """Return the columns of a frame as numbers, in which a missing one counts as 0.
+
+    Raises
+    ------
+    BadInput
+        A number is negative or infinite.
+    """
+    numbers: Floats = np.zeros((len(frame), len(names)))
+    for column, name in enumerate(names):
+        texts = (text_of(value).strip() for value in frame[name])
+        numbers[:, column] = [number_of(text) if text else 0.0 for text in texts]
+    bad = np.argwhere(~((numbers >= 0) & np.isfinite(numbers)))
+    if len(bad):
+        row, column = bad[0].tolist()
+        record, name = int(frame[RECORD].iat[row]), names[column]
+        value = text_of(frame[name].iat[row])
+        raise BadInput(path, "is invalid", record=record, column=name, value=value, allowed=NUMBER[2])
+    return numbers
