@@ -23,7 +23,7 @@ from ttm_tools.explore.point import Point, streets_around, walks_from  # noqa: E
 from ttm_tools.gtfs.stops import read_stops  # noqa: E402
 from ttm_tools.walks import Pace  # noqa: E402
 
-TIMES = "times?first=08:00&last=08:00&trips=4&tab=a&turn=1"
+TIMES = "times?first=08:00&last=08:00&trips=4&tab=a&turn=1&version=1"
 MINUTES = "Object.fromEntries(Array.from(numbers.columns, (it, at) => [head.identifiers[it], current.now[at]]))"
 
 

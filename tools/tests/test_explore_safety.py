@@ -22,7 +22,8 @@ pytest.importorskip("pandas")
 
 from ttm_tools.explore.guard import Guard  # noqa: E402
 
-TIMES = "times?origin=0&first=08:00&last=08:00&trips=4&tab=a&turn=1"
+TIMES = "times?origin=0&first=08:00&last=08:00&trips=4&tab=a&turn=1&version=1"
+OF_TAB = {"version": 1, "tab": "a"}
 HOSTILE = [
     '<script>document.title = "run"</script>',
     '"><img src=x onerror="document.title=1">',
@@ -68,7 +69,7 @@ def test_another_page_is_refused(served: Explored) -> None:
         assert served.status(Origin=origin) == served.status(TIMES, Origin=origin) == 403
     for site in ("cross-site", "same-site", "x"):
         assert served.status(TIMES, Sec_Fetch_Site=site) == 403
-    body = json.dumps({"actions": [], "walk": 600}).encode()
+    body = json.dumps({"actions": [], "walk": 600, "tab": "a"}).encode()
     kind = {"Content_Type": "application/json"}
     assert served.status("changes", body, **kind) == 403  # no browser sends this without its origin
     assert served.status("changes", body, Origin="http://evil.example", **kind) == 403
@@ -110,6 +111,8 @@ def test_no_file_and_nothing_else_is_served(served: Explored, path: str) -> None
         "tab=",
         "tab=%2Fetc",
         "turn=x",
+        "version=2",
+        "version=x",
     ],
 )
 def test_bad_questions_are_told(served: Explored, change: str) -> None:
@@ -146,6 +149,14 @@ def test_bad_changes_are_told_and_change_nothing(served: Explored, body: object)
     assert served.children() == before
 
 
+@pytest.mark.parametrize(
+    "text", ["[" * 300_000, '{"a":' * 100_000, '{"actions": ' + "[" * 900 + "]" * 900 + ', "walk": 600}']
+)
+def test_what_is_nested_deeply_is_refused(served: Explored, text: str) -> None:
+    how = {"Origin": served.origin, "Content_Type": "application/json"}
+    assert [served.status(path, text.encode(), **how) for path in ("changes", "study")] == [422, 422]
+
+
 def test_a_long_body_is_refused_before_it_is_read(served: Explored) -> None:
     how = {"Origin": served.origin, "Content_Type": "application/json"}
     assert served.status_of_head("changes", Content_Length=str((1 << 20) + 1), **how) == 413
@@ -172,7 +183,9 @@ def test_it_ends_with_ctrl_c_and_its_program_ends_too(tmp_path: Path) -> None:
 def test_the_browser_gets_no_token_that_other_users_can_see(tmp_path: Path, browser: Browser) -> None:
     """What the browser is called with is visible to every user of the machine: a file, which this user alone reads."""
     noted = tmp_path / "called"
-    program = script(tmp_path / "my-browser", f"#!/bin/sh\nprintf '%s' \"$1\" > {noted}.part; mv {noted}.part {noted}\n")
+    program = script(
+        tmp_path / "my-browser", f"#!/bin/sh\nprintf '%s' \"$1\" > {noted}.part; mv {noted}.part {noted}\n"
+    )
     with explored(village(tmp_path), canned(tmp_path), opens=f"{program} %s") as served:
         wait_until(noted.exists)
         called = noted.read_text()
@@ -220,6 +233,7 @@ def test_files_are_written_into_the_folder_that_is_named_alone(tmp_path: Path) -
                 "last": "08:10",
                 "trips": 4,
                 "origin": origin,
+                **OF_TAB,
                 "out": "/tmp/other",
                 "path": "../y",
             }
@@ -236,7 +250,7 @@ def test_studies_saved_at_once_by_two_servers_each_get_a_folder(tmp_path: Path) 
     with explored(feed, program, "--out", out) as one, explored(feed, program, "--out", out) as other:
 
         def save(number: int) -> dict[str, Any]:
-            body = {"first": "08:00", "last": "08:10", "trips": 1 + number % 8, "origin": number % 4}
+            body = {"first": "08:00", "last": "08:10", "trips": 1 + number % 8, "origin": number % 4, **OF_TAB}
             server = (one, other)[number % 2]
             return server.sent("study", body)
 

@@ -17,7 +17,7 @@ from ttm_tools.files import aside_name, many_written_aside, output, sum_of, writ
 def test_a_file_gets_its_name_when_it_is_whole(room: Room) -> None:
     with written_aside(room.path("a.csv")) as aside:
         aside.write_text("whole")
-        assert room.names() == {aside.name}
+        assert room.names() == {aside.name, ".part.lock.a.csv"}
     assert (room.names(), (room.folder / "a.csv").read_text()) == ({"a.csv"}, "whole")
     assert sum_of(room.path("a.csv")).startswith("5d57")
 

@@ -1,6 +1,5 @@
 """What a person's inputs never do: run in a page, become mathematics of a picture, or get lost without a line."""
 
-import os
 import random
 import subprocess
 import sys
@@ -112,13 +111,14 @@ def test_dollars_are_no_mathematics(town: Town, text: str, monkeypatch: pytest.M
     access = town.write("access.csv", "scenario,id,opportunity,percentile,cutoff,accessibility", spread)
     places = [[stop, text, number / 100, 9] for number, stop in enumerate("ABCD")]
     town.write("stops.txt", "stop_id,stop_name,stop_lat,stop_lon", places)
-    out, table = ["--out", town.path("made.png"), "--feed", town.feed], ["--out", town.path("made.csv")]
+    out = ["--out", town.path("made.png"), "--feed", town.feed]
+    table, picture = ["--out", town.path("made.csv"), "--force"], ["--picture", town.path("made.png")]
     for arguments in (
         ["map", "access", "--unit", text, "--title", text, "--scenario", text, *out, town.file],
         ["map", "difference", "--unit", text, *out, town.file],
         ["map", "times", "--origin", "A", *out, town.file],
-        ["equity", access, "--people", jobs, *table, "--picture", town.path("made.png")],
-        ["bands", access, "--people", jobs, *table, "--bands", "10,20", "--picture", town.path("made.png")],
+        ["equity", access, "--people", jobs, *table, *picture],
+        ["bands", access, "--people", jobs, *table, *picture, "--bands", "10,20"],
     ):
         _, said, status = town.ran(*arguments)
         assert status == 0, said
@@ -136,19 +136,6 @@ def test_old_parts_are_told_and_not_left_for_a_glob(town: Town) -> None:
     line = f"{town.path('parts')}/part_0003.csv: belongs to another split: name another folder, or remove it"
     assert town.ran(*arguments, "--parts", "2") == ("", f"ttm-tools split: {line}\n", 1)
     assert town.ran(*arguments, "--parts", "4")[2] == 0
-
-
-def test_what_a_killed_command_left_in_the_temporary_folder_goes(room: Room, monkeypatch: pytest.MonkeyPatch) -> None:
-    feed = small_feed(room)
-    (room.folder / "tmp").mkdir()
-    monkeypatch.setattr("tempfile.tempdir", room.path("tmp"))
-    ended = subprocess.Popen([sys.executable, "-c", ""])
-    ended.wait()
-    for name in (f"ttm-tools-feed.{ended.pid}.x", f"ttm-tools-feed.{os.getpid()}.x", f"mine.{ended.pid}.x"):
-        (room.folder / "tmp" / name).mkdir()
-    assert room.ran("prepare", "--check", feed)[2] == 0
-    left = sorted(path.name for path in (room.folder / "tmp").iterdir())
-    assert left == [f"mine.{ended.pid}.x", f"ttm-tools-feed.{os.getpid()}.x"]
 
 
 def test_a_full_disk_names_what_is_written(room: Room) -> None:

@@ -15,7 +15,8 @@ import numpy as np
 
 from .dates import as_ttm_reads
 from .faults import BadInput, Lacking, WrongWords
-from .files import output, scratch
+from .files import output
+from .folders import scratch
 from .matrices import BASE, TODAY, Matrix, Seconds, Sums, open_matrix
 from .plans.nearness import sentences_on_nearer
 from .records import Rounded, write_rows

@@ -14,7 +14,7 @@ from typing import IO, Iterator, Sequence
 from .engine import EngineFault, Pathlike, Run, files_of, nearer_by_plan, program_at, refusal_of
 from .faults import BadInput, say
 from .gtfs.stops import Stops, read_stops
-from .files import scratch
+from .folders import scratch
 from .matrices import BASE, TODAY, Matrix, open_matrix
 from .measures.journeys import Search, cell, durations, journey
 from .measures.search_network import Schedule

@@ -5,21 +5,23 @@ signal ends the run.
 import contextlib
 import errno
 import hashlib
-import itertools
 import os
 import re
-import secrets
 import shutil
 import signal
+import socket
+import stat
 import sys
 import tempfile
 import threading
-from dataclasses import dataclass
+from functools import cache
 from pathlib import Path
 from types import FrameType
 from typing import Any, BinaryIO, Callable, Iterator, NoReturn, Sequence
 
 from .faults import BadInput
+from .locks import lock_file, locked
+from .provenance import is_command, note_output, refuse_foreign, refuse_input
 
 ENDING = [
     getattr(signal, name)
@@ -28,10 +30,8 @@ ENDING = [
 ]
 
 
-TAKEN = (errno.ENOTEMPTY, errno.EEXIST, errno.ENOTDIR)  # a name that another process has got meanwhile
 FULL = (errno.ENOSPC, errno.EDQUOT, errno.EFBIG)
 LONGEST_NAME = 200  # bytes of a file's name that its name aside repeats
-_inputs: set[tuple[int, int]] | None = None  # device and inode of the files that a command has read
 Note = Callable[[Sequence[Path]], None]
 _outputs: Note | None = None  # called with the files of a folder before they get their names
 
@@ -72,31 +72,6 @@ def no_signals() -> Iterator[None]:
         yield
     finally:
         signal.pthread_sigmask(signal.SIG_SETMASK, before)
-
-
-@contextlib.contextmanager
-def inputs_noted() -> Iterator[None]:
-    """Keeps the files that are opened to read from being replaced, as long as a command runs."""
-    global _inputs
-    before, _inputs = _inputs, set()
-    try:
-        yield
-    finally:
-        _inputs = before
-
-
-def note_input(found: os.stat_result) -> None:
-    """Notes a file that is opened to read."""
-    if _inputs is not None:
-        _inputs.add((found.st_dev, found.st_ino))
-
-
-def refuse_input(path: Path) -> None:
-    """Refuses an output that the command reads as well."""
-    with contextlib.suppress(OSError):
-        found = os.stat(path)
-        if _inputs is not None and (found.st_dev, found.st_ino) in _inputs:
-            raise BadInput(path, "is an input as well: name another output")
 
 
 @contextlib.contextmanager
@@ -145,12 +120,69 @@ def short_name(name: str) -> str:
     return name if len(written) <= LONGEST_NAME else hashlib.sha256(written).hexdigest()
 
 
+@cache
+def this_machine() -> str:
+    """Eight digits that name this machine since its start, and the room of process numbers that a container has."""
+    facts = [socket.gethostname()]
+    with contextlib.suppress(OSError):
+        facts.append(Path("/proc/sys/kernel/random/boot_id").read_text(encoding="ascii"))
+        facts.append(str(os.stat("/proc/self/ns/pid").st_ino))
+    return hashlib.sha256(" ".join(facts).encode()).hexdigest()[:8]
+
+
 def aside_name(path: Path) -> Path:
-    """Where a file is written until it is complete: next to it, under a name with this process' number."""
-    return path.with_name(f".part.{os.getpid()}.{short_name(path.name)}")
+    """Where a file is written until it is complete: next to it, under a name with this process and machine."""
+    return path.with_name(f".part.{os.getpid()}-{this_machine()}.{short_name(path.name)}")
+
+
+def place_of(path: Path) -> Path:
+    """Where the name of an output is, or will be: in the nearest folder above it that exists."""
+    whole = Path(os.path.abspath(path))
+    return next((parent for parent in whole.parents if parent.is_dir()), whole) / (whole.name or "files")
+
+
+@contextlib.contextmanager
+def outputs_locked(paths: Sequence[str]) -> Iterator[None]:
+    """Locks the outputs of a command from its start on, and refuses those that it may not replace."""
+    with contextlib.ExitStack() as locks:
+        for path in map(target_of, paths):
+            if not is_stream(path):
+                locks.enter_context(output_locked(path))
+                refuse_foreign(path)
+        yield
+
+
+def output_locked(path: Path) -> contextlib.AbstractContextManager[bool]:
+    """Locks an output: a command is refused if another one has it; within a study it waits."""
+    place = place_of(path)
+    return locked(place, lock_file(place, short_name(place.name)), waits=not is_command())
+
+
+def target_of(path: str | Path) -> Path:
+    """The file that a command writes: where a link leads."""
+    return Path(path) if not is_command() or is_stream(path) else Path(os.path.realpath(path))
+
+
+def is_stream(path: str | Path) -> bool:
+    """Whether a command writes to a pipe or a device such as /dev/null, which stays what it is."""
+    with contextlib.suppress(OSError):
+        kind = os.stat(path).st_mode
+        return is_command() and (stat.S_ISFIFO(kind) or stat.S_ISCHR(kind))
+    return False
+
+
+@contextlib.contextmanager
+def written_to_stream(path: Path) -> Iterator[Path]:
+    """Yields a path to write to; what is written there is copied to a pipe or device when the block ends well."""
+    with tempfile.TemporaryDirectory(prefix="ttm-tools-out.") as folder:
+        aside = Path(folder) / path.name
+        yield aside
+        with writing_to(path), open(aside, "rb") as file, open(path, "wb") as stream:
+            shutil.copyfileobj(file, stream)
 
 
 def is_running(process: int) -> bool:
+    """Whether a process of this machine runs."""
     try:
         os.kill(process, 0)
     except ProcessLookupError:
@@ -168,109 +200,73 @@ def remove(path: Path) -> None:
 
 
 def remove_leavings(path: Path) -> None:
-    """Removes what runs that were killed at once (SIGKILL, a power cut) left next to a file."""
-    form = re.compile(r"\.part\.([0-9]+)\." + re.escape(short_name(path.name)))
+    """Removes what killed runs (SIGKILL, a power cut) of any machine left next to a file, which is locked."""
+    form = re.compile(r"\.part\.[0-9]+(-[0-9a-f]{8})?\." + re.escape(short_name(path.name)))
     for other in path.parent.iterdir() if path.parent.is_dir() else ():
-        found = form.fullmatch(other.name)
-        if found and not is_running(int(found[1])):
+        if form.fullmatch(other.name) and other != aside_name(path):
             remove(other)
 
 
 @contextlib.contextmanager
 def written_aside(path: str | Path) -> Iterator[Path]:
-    """Gives a path to write to; what is written there is named `path` when the block ends well, and removed when it
-    doesn't.
+    """Yields a path to write to. What is written there gets the name `path` when the block ends well, and is removed
+    when it doesn't.
     """
-    whole = Path(path)
-    refuse_input(whole)
-    remove_leavings(whole)
-    aside = aside_name(whole)
-    try:
-        with writing_to(whole):
+    whole = target_of(path)
+    if is_stream(whole):
+        with written_to_stream(whole) as aside:
             yield aside
-        refuse_input(whole)
-        with no_signals():
-            os.replace(aside, whole)
-    finally:
-        remove(aside)
+        return
+    refuse_input(whole)
+    refuse_foreign(whole)
+    with output_locked(whole) as has_lock:
+        if has_lock:
+            remove_leavings(whole)
+        aside = aside_name(whole)
+        try:
+            with writing_to(whole):
+                yield aside
+            refuse_input(whole)
+            refuse_foreign(whole, aside)
+            note_output(aside)
+            with no_signals():
+                os.replace(aside, whole)
+        finally:
+            remove(aside)
 
 
 @contextlib.contextmanager
 def many_written_aside(folder: str | Path) -> Iterator[Path]:
-    """Gives an empty folder to write to; its files are moved to `folder`, all at once, when the block ends well."""
+    """Yields an empty folder to write to; its files are moved to `folder`, all at once, when the block ends well."""
     whole = Path(folder)
     found = next(parent for parent in (whole, *whole.parents) if parent.exists())
     aside = aside_name(found / (whole.name or "files"))
-    remove_leavings(found / (whole.name or "files"))
-    try:
-        aside.mkdir()
-        with writing_to(whole):
-            yield aside
-        files = sorted(aside.iterdir())
+    with output_locked(whole) as has_lock:
+        if has_lock:
+            remove_leavings(found / (whole.name or "files"))
+        try:
+            aside.mkdir()
+            with writing_to(whole):
+                yield aside
+            move_all(aside, whole)
+        finally:
+            remove(aside)
+
+
+def move_all(aside: Path, whole: Path) -> None:
+    """Moves the files of a folder to another one, or none of them if one may not be replaced."""
+    files = sorted(aside.iterdir())
+    for file in files:
+        refuse_input(whole / file.name)
+        refuse_foreign(whole / file.name, file)
+    for file in all_in(aside):
+        note_output(file)
+    if _outputs is not None:
+        _outputs([whole / path.relative_to(aside) for path in all_in(aside)])
+    with no_signals():
+        whole.mkdir(parents=True, exist_ok=True)
         for file in files:
-            refuse_input(whole / file.name)
-        if _outputs is not None:
-            _outputs([whole / path.relative_to(aside) for path in all_in(aside)])
-        with no_signals():
-            whole.mkdir(parents=True, exist_ok=True)
-            for file in files:
-                os.replace(file, whole / file.name)
-    finally:
-        remove(aside)
-
-
-@dataclass
-class NewFolder:
-    """A folder that is being written: where its files are until it is complete, and its name afterwards."""
-
-    aside: Path
-    folder: Path
-
-
-@contextlib.contextmanager
-def numbered_folder(parent: str | Path) -> Iterator[NewFolder]:
-    """Yields a new folder inside `parent`. When the block ends well, it is named by the first free number from 1 on;
-    when several threads, processes or hosts do so at once, each gets a number of its own.
-    """
-    out = Path(parent)
-    out.mkdir(parents=True, exist_ok=True)
-    aside = out / f".part.{os.getpid()}.{secrets.token_hex(8)}"
-    new = NewFolder(aside, aside)
-    try:
-        aside.mkdir()
-        with writing_to(out):
-            yield new
-        new.folder = rename_to_free_number(aside, out)
-    finally:
-        remove(aside)
-
-
-def rename_to_free_number(aside: Path, out: Path) -> Path:
-    """Renames a folder that isn't empty. The system refuses to replace another folder that isn't, or a file."""
-    for number in itertools.count(1):
-        folder = out / str(number)
-        if not os.path.lexists(folder):
-            try:
-                os.rename(aside, folder)
-            except OSError as fault:
-                if fault.errno not in TAKEN:
-                    raise
-            else:
-                return folder
-    raise AssertionError("numbers do not end")
-
-
-@contextlib.contextmanager
-def scratch(what: str) -> Iterator[Path]:
-    """A folder of this process for a while; those that killed ones of this user left are removed."""
-    room, form = Path(tempfile.gettempdir()), re.compile(r"ttm-tools-[a-z]+\.([0-9]+)\..*")
-    for other in room.glob("ttm-tools-*.*"):
-        found = form.fullmatch(other.name)
-        with contextlib.suppress(OSError):
-            if found and other.is_dir() and other.stat().st_uid == os.getuid() and not is_running(int(found[1])):
-                remove(other)
-    with tempfile.TemporaryDirectory(prefix=f"ttm-tools-{what}.{os.getpid()}.") as folder:
-        yield Path(folder)
+            os.replace(file, whole / file.name)
 
 
 def is_free(out: Path) -> None:

@@ -12,11 +12,12 @@ import sys
 import tempfile
 import traceback
 import warnings
-from typing import Sequence
+from typing import Iterator, Sequence
 
 from .. import __version__
 from ..faults import BadInput, Lacking, WrongWords, one_line
-from ..files import Interrupted, inputs_noted, is_full, unwind_on_signals
+from ..files import Interrupted, is_full, outputs_locked, unwind_on_signals
+from ..provenance import command_runs
 from .options import Parser
 
 COMMANDS = (
@@ -24,6 +25,7 @@ COMMANDS = (
     "isochrones study explore docs"
 ).split()
 NO_MEMORY, OF_ITS_OWN = 3, 70
+OUTPUTS = ("out", "picture", "page", "faults")  # options that name a file or folder to write
 NEGATIVE = re.compile(r"-[0-9.][-+0-9.,e]*")
 
 
@@ -39,6 +41,8 @@ def parser_of() -> Parser:
         module.describe(command)
         setattr(command, "_negative_number_matcher", NEGATIVE)  # a value such as -0.1,51.5,0.1,51.6 is no option
         command.set_defaults(run=module.run, command=name, parser=command)
+        if hasattr(module, "outputs"):
+            command.set_defaults(outputs=module.outputs)
     return parser
 
 
@@ -46,7 +50,7 @@ def status_of(args: argparse.Namespace) -> int:
     """Runs a command. An error is reported in one line, and has a status of its own."""
     begin = f"ttm-tools {args.command}: "
     try:
-        with contextlib.nullcontext() if args.command == "study" else inputs_noted():  # it locks its own folder
+        with protected(args):
             status = args.run(args) or 0
         sys.stdout.flush()
         return status
@@ -66,6 +70,23 @@ def status_of(args: argparse.Namespace) -> int:
         line, status = begin + one_line(of_its_own(fault)), OF_ITS_OWN
     print(line, file=sys.stderr)
     return status
+
+
+@contextlib.contextmanager
+def protected(args: argparse.Namespace) -> Iterator[None]:
+    """Protects files while a command runs: its inputs, and those that it didn't write; its outputs are locked."""
+    if args.command in ("study", "explore"):  # they lock and number their own folders
+        yield
+        return
+    with command_runs(args.command, getattr(args, "force", False)):
+        outputs = getattr(args, "outputs", outputs_named)
+        with outputs_locked(outputs(args)):
+            yield
+
+
+def outputs_named(args: argparse.Namespace) -> list[str]:
+    """The files and folders that a command's options name to be written."""
+    return [path for path in (getattr(args, name, None) for name in OUTPUTS) if path]
 
 
 def of_its_own(fault: Exception) -> str:

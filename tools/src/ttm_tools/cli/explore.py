@@ -2,7 +2,7 @@ import argparse
 from typing import TYPE_CHECKING
 
 from ..faults import WrongWords, needs, say
-from ..files import scratch
+from ..folders import scratch
 from .options import Parser, Range, decimals
 
 if TYPE_CHECKING:

@@ -178,6 +178,11 @@ class Parser(argparse.ArgumentParser):
     def add_out(self, what: str, without: str = "standard output", default: str | None = None) -> None:
         what = f"{what}, which appears only when it is complete"
         self.add_text("--out", "FILE", what, default, without)
+        self.add_force()
+
+    def add_force(self) -> None:
+        what = "replace files even if this command did not write them, or they were changed since"
+        self.add_flag("--force", what, "such files are an error")
 
     def add_points(self, without: str = "") -> None:
         what = "a file of points (id, lat, lon, name, width): the command shows only those of the matrix"

@@ -2,7 +2,8 @@ import argparse
 import datetime
 
 from ..faults import WrongWords, as_line, needs, say
-from ..files import output, scratch
+from ..files import output
+from ..folders import scratch
 from ..prepare.rules import help_table
 from .options import Parser, Range, day
 
@@ -47,6 +48,7 @@ def describe(parser: Parser) -> None:
     parser.add_flag("--check", "report errors, and write no folder", "--out is needed")
     parser.add_text("--faults", "FILE", "with --check, a line for each single error, as CSV", without="none")
     parser.add_text("--out", "FOLDER", "the folder to write; it must be new or empty", without="--check is needed")
+    parser.add_force()
     parser.add_flag("--repair", "repair errors", "they are reported and nothing is written")
     what = "write the feed even if a repair removes much of a file, or if no trip runs"
     parser.add_flag("--allow-loss", what, "an error")

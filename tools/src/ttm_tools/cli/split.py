@@ -18,6 +18,7 @@ def describe(parser: Parser) -> None:
     whole.add_argument("--feed", metavar="FOLDER", help=what)
     parser.add_number("--parts", "the number of parts", Range("parts", 1, 9999), without="1 part")
     parser.add_text("--out", "FOLDER", "the folder of the parts", default=".")
+    parser.add_force()
 
 
 def run(args: argparse.Namespace) -> None:

@@ -37,6 +37,16 @@ def describe(parser: Parser) -> None:
     parser.add_argument("folder", metavar="FOLDER", help="an unpacked feed")
 
 
+def file_of(args: argparse.Namespace) -> str:
+    """The file that is written."""
+    return args.out or os.path.join(args.folder, "footpaths.csv")
+
+
+def outputs(args: argparse.Namespace) -> list[str]:
+    """The files that the command writes."""
+    return [file_of(args)]
+
+
 def run(args: argparse.Namespace) -> None:
     if args.table and args.streets:
         raise WrongWords("--table and --streets are two sources of walks: choose one")
@@ -46,8 +56,8 @@ def run(args: argparse.Namespace) -> None:
     from ..records import write_rows
     from ..walks import Pace, footpaths_of
 
+    out = file_of(args)
     pace, stops = Pace(args.limit, args.speed, args.detour), read_stops(args.folder)
-    out = args.out or os.path.join(args.folder, "footpaths.csv")
     rows, sentence = footpaths_of(stops, args.table, pace, args.streets, args.near)
     with output(out) as file:
         write_rows(file, ["from_stop_id", "to_stop_id", "seconds"], rows)

@@ -13,12 +13,13 @@ from .exploration import Exploration
 from .guard import HEADERS, Guard
 from .journeys import JourneyQuestion
 from .keeping import save
-from .question import question_of, whole, window_of
+from .question import question_of, tab_of, version_of, whole, window_of
 from .turnstile import Overtaken
 
 MOST_BYTES = 1 << 20  # of what the page sends
 NUMBERS, REFUSED, OF_ITS_OWN = "application/octet-stream", 422, 500
 LONGEST = 300  # letters of an error of its own
+MOST_SCENARIOS = 65534
 Answer = Response | tuple[dict[str, Any], int]
 
 
@@ -58,6 +59,8 @@ def answered(answer: Callable[[Exploration], Answer], exploration: Exploration, 
         return {"fault": one_line(fault)}, REFUSED
     except MemoryError:
         return {"fault": "out of memory"}, REFUSED
+    except RecursionError:
+        return {"fault": "what the page sends is nested too deeply"}, REFUSED
     except Exception as fault:  # an error of its own ends no other answer
         message = one_line(f"internal error, {type(fault).__name__}: {fault}")[:LONGEST]
         say(f"ttm-tools explore: {message}")
@@ -72,18 +75,18 @@ def page(exploration: Exploration) -> Answer:
 
 def times(exploration: Exploration) -> Answer:
     """Seconds as int32, for each scenario, share and column; -1 where it isn't reached."""
-    version, seconds = exploration.times(question_of(request.args, len(exploration.ground.columns)))
-    response = Response(seconds.tobytes(), mimetype=NUMBERS)
-    response.headers["X-Version"] = str(version)
+    question = question_of(request.args, len(exploration.ground.columns))
+    response = Response(exploration.times(question).tobytes(), mimetype=NUMBERS)
+    response.headers["X-Version"] = str(question.version)
     return response
 
 
 def journey(exploration: Exploration) -> Answer:
     args, columns = request.args, exploration.ground.columns
     origin, end = (columns[whole(args, name, 0, len(columns) - 1)] for name in ("origin", "end"))
-    scenario = whole(args, "scenario", 0, len(exploration.standing.scenarios) - 1)
+    scenario, version, tab = whole(args, "scenario", 0, MOST_SCENARIOS), version_of(args), tab_of(args)
     window, trips, share = window_of(args), whole(args, "trips", 1, 8), whole(args, "share", 1, 100)
-    return exploration.journey(JourneyQuestion((origin, end), scenario, window, trips, share)), 200
+    return exploration.journey(JourneyQuestion((origin, end), scenario, window, trips, share), version, tab), 200
 
 
 def routes(exploration: Exploration) -> Answer:
@@ -91,11 +94,25 @@ def routes(exploration: Exploration) -> Answer:
 
 
 def changes(exploration: Exploration) -> Answer:
-    """Begins a network with other changes, or another longest walk; the one before answers until it is there."""
-    body = request.get_json(silent=True)
-    return exploration.change(actions_of(body), walk_of(body)), 200
+    """Begins the network of a tab's changes, or of another longest walk."""
+    body = body_sent()
+    return exploration.change(tab_of(texts_of(body, "tab")), actions_of(body), walk_of(body)), 200
 
 
 def study(exploration: Exploration) -> Answer:
-    plan, body = exploration.standing.plan, request.get_json(silent=True)
-    return save(exploration.options, plan, exploration.ground.columns, body, exploration.walks_from), 200
+    """Saves a study of a tab's network."""
+    body = body_sent()
+    sent = texts_of(body, "version", "tab")
+    with exploration.network(version_of(sent), tab_of(sent)) as standing:
+        walker = functools.partial(exploration.walks_from, standing.plan)
+        return save(exploration.options, standing.plan, exploration.ground.columns, body, walker), 200
+
+
+def body_sent() -> Any:
+    """What the page sends as JSON; None where it is none."""
+    return request.get_json(silent=True)
+
+
+def texts_of(body: Any, *names: str) -> dict[str, str]:
+    """Some values of what the page sends, as texts."""
+    return {name: str(body[name]) for name in names if name in body} if isinstance(body, dict) else {}

@@ -10,6 +10,7 @@ from ..views.page import document as page
 from ..views.page import sources
 from ..views.page.content import Content
 from .exploration import Exploration
+from .networks import FIRST
 
 ASSETS = Path(__file__).resolve().parent / "assets"
 # in place of the page's cells
@@ -29,22 +30,22 @@ def kind_of(exploration: Exploration) -> page.PageKind:
 
 def beginning_of(exploration: Exploration) -> dict[str, Any]:
     """With what the page begins."""
-    options, standing = exploration.options, exploration.standing
-    (first, last), plan = options.window, standing.plan
-    known = {"version": standing.version, "first": first, "last": last, "trips": options.trips, "walk": plan.walk}
+    options, plan = exploration.options, exploration.first
+    first, last = options.window
+    known = {"version": FIRST, "first": first, "last": last, "trips": options.trips, "walk": plan.walk}
     known |= {"most_walk": options.most_walk, "actions": plan.actions, "told": plan.sentences}
     return {**known, "date": options.date.isoformat()}
 
 
 def frame_of(exploration: Exploration) -> page.Frame:
     """What stands around the numbers."""
-    options, standing = exploration.options, exploration.standing
+    options = exploration.options
     arguments = sources.RunArguments(f"--date {options.date:%Y%m%d}")
     name = shown(options.name or os.path.basename(os.path.abspath(options.feed)))
     return page.Frame(
         options.title or f"Explore: {name}",
         "",
-        standing.scenarios,
+        exploration.first.scenarios,
         list(options.shares),
         [sources.meaning(share, arguments) for share in options.shares],
         [("Feed", name), ("Date", options.date.isoformat()), ("Written by", "ttm-tools explore")],
@@ -57,5 +58,5 @@ def frame_of(exploration: Exploration) -> page.Frame:
 def write_document(out: BinaryIO, exploration: Exploration) -> None:
     """Writes the page of the network that answers now."""
     content = Content(exploration.ground, exploration.counts, 0, [], [], [], [])
-    lines = replace(exploration.feed_lines.whole, changes=exploration.standing.plan.changes)
+    lines = replace(exploration.feed_lines.whole, changes=exploration.first.changes)
     page.write_page(out, content, lines, frame_of(exploration), kind_of(exploration))

@@ -1,12 +1,14 @@
 """All that is known while somebody explores: the places, the network that answers, and how another takes its place."""
 
+import contextlib
 import json
 import tempfile
 import threading
 from functools import cached_property
 from pathlib import Path
-from typing import Any
+from typing import Any, Iterator
 
+from ..engine import Result
 from ..faults import BadInput, WrongWords
 from ..gtfs.stops import Stops, read_stops
 from ..measures.opportunities import Counts, read_counts
@@ -23,6 +25,7 @@ from . import planning
 from .changes import Namer, Values
 from .journeys import JourneyQuestion, Journeys
 from .lines import FeedLines
+from .networks import FIRST, Networks
 from .point import Point, Walk, walks_from
 from .question import Question
 from .routes import Route, routes_of
@@ -37,12 +40,13 @@ class Exploration:
 
     def __init__(self, options: ExploreOptions, room: Path) -> None:
         self.options, self.room = options, room
-        self.turnstile, self.changing, self.reading = Turnstile(), threading.Lock(), threading.RLock()
+        self.turnstile, self.reading = Turnstile(), threading.RLock()
         self.plan_text = Path(options.plan).read_text(encoding="utf-8") if options.plan is not None else ""
         if self.plan_text:
             self.begun(0, self.of_feed(options.walk)).close()  # reports what is wrong with the feed
-        self.standing = self.begun(1, self.planned([], options.walk))
-        stops, points = read_stops(self.standing.plan.folder), points_in(options.feed)
+        self.networks = Networks(self.begun_changed, options.walk)
+        self.first = self.networks.start(FIRST).plan  # what a new page shows
+        stops, points = read_stops(self.first.folder), points_in(options.feed)
         self.ground = ground_of(stops if points is None else with_points(stops, read_points(points)))
         self.counts: Counts = read_counts(options.opportunities, self.ground.places.identifiers, "stop of the feed")
 
@@ -86,6 +90,9 @@ class Exploration:
             raise
         return standing
 
+    def begun_changed(self, version: int, actions: list[Values], walk: int) -> Standing:
+        return self.begun(version, self.planned(actions, walk))
+
     def of_feed(self, walk: int) -> Plan:
         return Plan(self.options.feed, [], walk, [], "", [], None)
 
@@ -98,38 +105,63 @@ class Exploration:
             text = planning.text_of(self.plan_text, named)
             return planning.written(self.base, self.feed_lines, text, self.room, walk, actions)
 
-    def times(self, question: Question) -> tuple[int, Seconds]:
-        """Which network answers, and travel times from a place; `Overtaken` by a later question of the same tab."""
-        with self.turnstile.turn(question.tab, question.turn):
-            standing, origin = self.standing, question.origin
-            if isinstance(origin, Point):
-                with tempfile.TemporaryDirectory(prefix="point.", dir=self.room) as folder:
-                    result = standing.ask_from(origin, self.walks_from(origin), Path(folder), question)
-            else:
-                result = standing.ask(self.ground.columns[origin], question.window, question.trips, self.options.shares)
-            return standing.version, standing.seconds(result, self.ground.columns)
+    def times(self, question: Question) -> Seconds:
+        """Travel times from a place in a network; `Overtaken` by a later question of the same tab."""
+        while True:
+            self.networks.start(question.version, question.tab)
+            with self.turnstile.turn(question.tab, question.turn):
+                standing = self.networks.find(question.version)
+                if standing is not None:  # else it was given up while the question waited for its turn
+                    seconds = standing.seconds(self.asked(standing, question), self.ground.columns)
+                    self.end(self.networks.give_up(question.tab, question.version))
+                    return seconds
 
-    def walks_from(self, point: Point) -> list[Walk]:
-        """The walks from a point to the stops of the network that answers."""
-        plan = self.standing.plan
+    def asked(self, standing: Standing, question: Question) -> Result:
+        """The answer of a network."""
+        origin = question.origin
+        if isinstance(origin, Point):
+            with tempfile.TemporaryDirectory(prefix="point.", dir=self.room) as folder:
+                return standing.ask_from(origin, self.walks_from(standing.plan, origin), Path(folder), question)
+        return standing.ask(self.ground.columns[origin], question.window, question.trips, self.options.shares)
+
+    def end(self, networks: list[Standing]) -> None:
+        """Ends networks that no tab needs, once no journey is searched in one of them."""
+
+        def close() -> None:
+            with self.reading:
+                for standing in networks:
+                    standing.close()
+            give_back()
+
+        if networks:
+            threading.Thread(target=close).start()
+
+    @contextlib.contextmanager
+    def network(self, version: int, tab: str) -> Iterator[Standing]:
+        """The network of a number, which goes on as long as the block."""
+        while True:
+            self.networks.start(version, tab)
+            with self.reading:
+                standing = self.networks.find(version)
+                if standing is not None:
+                    yield standing
+                    return
+
+    def walks_from(self, plan: Plan, point: Point) -> list[Walk]:
+        """The walks from a point to the stops of a network."""
         return walks_from(point, read_stops(plan.folder), Pace(plan.walk), self.streets)
 
-    def change(self, actions: list[Values], walk: int) -> dict[str, Any]:
-        """Begins another network, which answers from the moment on at which it can."""
+    def change(self, tab: str, actions: list[Values], walk: int) -> dict[str, Any]:
+        """Begins the network of a tab's changes; the one that the tab has answers until then."""
         if self.options.generated and walk > self.options.most_walk:
             raise WrongWords(f"walk is {walk}; walks were computed up to {self.options.most_walk} seconds")
-        with self.changing:
-            version = self.standing.version + 1
-            standing = self.begun(version, self.planned(actions, walk))
-            with self.turnstile.passing:
-                before, self.standing = self.standing, standing
-            threading.Thread(target=before.close).start()
-            give_back()
-            # what the map draws of each scenario: pieces in millionths of a degree
-            kinds, changes = ("taken", "changed", "added"), standing.plan.changes
-            lines = [{kind: getattr(change, kind).ravel().tolist() for kind in kinds} for change in changes]
-            told = standing.plan.sentences
-            return {"version": version, "scenarios": standing.scenarios, "told": told, "lines": lines}
+        standing = self.networks.start_changed(tab, actions, walk)
+        give_back()
+        # what the map draws of each scenario: pieces in millionths of a degree
+        kinds, changes = ("taken", "changed", "added"), standing.plan.changes
+        lines = [{kind: getattr(change, kind).ravel().tolist() for kind in kinds} for change in changes]
+        told = standing.plan.sentences
+        return {"version": standing.version, "scenarios": standing.scenarios, "told": told, "lines": lines}
 
     @cached_property
     def routes(self) -> bytes:
@@ -147,13 +179,14 @@ class Exploration:
     def journeys(self) -> Journeys:
         return Journeys(self.options, timetable_of(self.base, self.feed_lines.stops))
 
-    def journey(self, question: JourneyQuestion) -> dict[str, Any]:
-        """The journey from one place to another, leg by leg, and all departures."""
-        with self.reading:
-            return self.journeys.journey(self.standing, self.ground.columns, question)
+    def journey(self, question: JourneyQuestion, version: int, tab: str) -> dict[str, Any]:
+        """The journey from one place to another in a network, leg by leg, and all departures."""
+        with self.network(version, tab) as standing:
+            return self.journeys.journey(standing, self.ground.columns, question)
 
     def close(self) -> None:
-        self.standing.close()
+        for standing in list(self.networks.running.values()):
+            standing.close()
 
 
 def ground_of(stops: Stops) -> Ground:

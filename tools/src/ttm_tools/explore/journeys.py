@@ -6,6 +6,7 @@ from typing import Any, Sequence
 
 from ..engine import Run
 from ..explanation import found_by, tell_difference, told_of
+from ..faults import WrongWords
 from ..gtfs.timetable import DAY, Runs, Timetable, read_edits, runs_of
 from ..measures.journeys import Leg
 from ..measures.search_network import Schedule
@@ -54,6 +55,8 @@ class Journeys:
         run = Run(plan.folder, options.date, question.window, question.trips, plan.walk, (question.share,))
         asked = told_of(replace(run, back=options.back, ahead=options.ahead), options.date)
         explain_options = ExplainOptions(self.feed, begin, end, departures, options.back, question.share, asked)
+        if question.scenario >= len(standing.scenarios):
+            raise WrongWords(f"the network has no scenario {question.scenario}")
         scenario = standing.scenarios[question.scenario]
         path = next((path for path in plan.files if path.endswith(f"/{scenario}.csv")), None)
         edits, days = read_edits(path), (options.back, options.ahead)

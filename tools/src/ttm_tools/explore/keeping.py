@@ -6,7 +6,7 @@ from pathlib import Path
 from typing import Any, Callable, Sequence
 
 from ..faults import WrongWords
-from ..files import numbered_folder
+from ..folders import numbered_folder
 from ..parts import write_stops
 from .changes import in_toml, number
 from .making import copy_generated, copy_with_point

@@ -7,7 +7,8 @@ from pathlib import Path
 
 from ..faults import WrongWords
 from ..gtfs.stops import Stops, read_stops
-from ..files import copy_file, scratch, writing_to
+from ..files import copy_file, writing_to
+from ..folders import scratch
 from ..points import grid, study
 from ..records import write_rows
 from ..walks import NEAR, Pace, Walks, summary, walks_of

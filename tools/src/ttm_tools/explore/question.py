@@ -20,6 +20,7 @@ class Question:
     trips: int
     tab: str  # of the browser, which sends one question after another
     turn: int  # the number of the question in this tab
+    version: int  # the number of the network that the tab shows
 
 
 def whole(args: Mapping[str, str], name: str, least: int, most: int) -> int:
@@ -57,8 +58,17 @@ def origin_of(args: Mapping[str, str], places: int) -> int | Point:
 
 
 def question_of(args: Mapping[str, str], places: int) -> Question:
+    tab, turn, version = tab_of(args), whole(args, "turn", 0, 1 << 53), version_of(args)
+    origin, trips = origin_of(args, places), whole(args, "trips", 1, 8)
+    return Question(origin, window_of(args), trips, tab, turn, version)
+
+
+def tab_of(args: Mapping[str, str]) -> str:
     tab = args.get("tab", "")
     if not TAB.fullmatch(tab):
         raise WrongWords("tab is not the name of a tab")
-    origin, trips = origin_of(args, places), whole(args, "trips", 1, 8)
-    return Question(origin, window_of(args), trips, tab, whole(args, "turn", 0, 1 << 53))
+    return tab
+
+
+def version_of(args: Mapping[str, str]) -> int:
+    return whole(args, "version", 1, 1 << 53)

@@ -39,7 +39,7 @@ def bound(port: int) -> socket.socket:
 
 
 def serve(app: Flask, own: socket.socket, opened: str | None) -> None:
-    """Answers requests until a signal comes, and has a browser open an address if there is one: see `write_redirect`."""
+    """Answers requests until a signal comes; opens an address in a browser if there is one (see `write_redirect`)."""
     port = int(own.getsockname()[1])
     with own:
         server = make_server(HOST, port, app, threaded=True, request_handler=Quiet, fd=own.fileno())

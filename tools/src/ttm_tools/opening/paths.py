@@ -7,7 +7,8 @@ from pathlib import Path
 from typing import Iterator
 
 from ..faults import BadInput, Lacking, WrongWords
-from ..files import is_full, note_input
+from ..files import is_full
+from ..provenance import note_input
 
 KINDS = (
     (stat.S_ISFIFO, "a pipe"),

@@ -12,6 +12,7 @@ from typing import Callable, Iterable
 
 from .. import __version__
 from ..files import aside_name, remove, remove_leavings, sum_of
+from ..locks import lock_file, locked
 from ..opening.paths import regular
 
 FORM = "1"  # changes where what is kept has another form
@@ -50,8 +51,11 @@ def kept(kind: str, key: str, make: Callable[[Path], None]) -> Path:
     if entry.is_dir():
         return entry
     room.mkdir(parents=True, exist_ok=True)
-    with MAKING:
-        remove_leavings(entry)
+    with MAKING, locked(entry, lock_file(entry, entry.name), waits=True) as has_lock:
+        if entry.is_dir():  # another process has made it meanwhile
+            return entry
+        if has_lock:
+            remove_leavings(entry)
         aside = aside_name(entry)
         try:
             remove(aside)
@@ -60,7 +64,7 @@ def kept(kind: str, key: str, make: Callable[[Path], None]) -> Path:
             try:
                 os.replace(aside, entry)
             except OSError:
-                if not entry.is_dir():  # else another process has made it meanwhile
+                if not entry.is_dir():  # else another process has made it, on a disk without locks
                     raise
         finally:
             remove(aside)

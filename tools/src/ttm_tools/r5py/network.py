@@ -12,7 +12,7 @@ import numpy as np
 
 from ..engine import Pathlike
 from ..faults import needs
-from ..files import scratch
+from ..folders import scratch
 from ..network import Network
 from ..prepare.clip import Clip
 from ..prepare.make import PREPARED, PrepareOptions, make

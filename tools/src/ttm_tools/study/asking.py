@@ -10,11 +10,12 @@ from typing import Callable, Sequence
 
 from ..conversation import Answer
 from ..engine import EngineFault, Run, program_at
+from ..files import aside_name
 from ..network import MIDNIGHT, Processes, command_of
 from .cutting import Part, Shape
 from .running import Failed, Pool, failed_of, missing_of
 from .stages import settle
-from .ttm import aside_of, fault_of, with_origins
+from .ttm import fault_of, with_origins
 
 OF_THE_NETWORK = ("--feed", "--date", "--walk", "--back", "--ahead", "--footpaths")  # the others are of a question
 
@@ -56,7 +57,7 @@ class Asked:
             answer = Answer(fault.ended, fault.line.encode("utf-8", "replace"))
         if answer.status != 0:
             return fault_of(answer.body, answer.status)
-        aside = aside_of(self.part.matrix)
+        aside = aside_name(self.part.matrix)
         aside.write_bytes(answer.body)
         settle(aside)
         os.replace(aside, self.part.matrix)

@@ -4,12 +4,11 @@ import contextlib
 import math
 import re
 import resource
-import socket
 from dataclasses import asdict, dataclass, replace
 from pathlib import Path
 from typing import Collection, Sequence
 
-from ..files import is_running, output, remove, sum_of
+from ..files import is_running, output, remove, sum_of, this_machine
 from ..parts import parts_of, write_stops
 from .counted import ORIGINS
 from .inputs import Inputs
@@ -25,7 +24,7 @@ OF_THE_FREE = 0.8  # of the machine's memory
 MB = 1_000_000
 FIRST = ""  # window, whose parts lie in no folder of their own
 OWN_FOLDER, OF_A_WINDOW = re.compile("[0-9]{4}"), re.compile("[0-9]{8}_.+")
-ASIDE = r"\.part\.[0-9]+\..*"
+ASIDE = r"\.part\.(?:lock|[0-9]+(?:-[0-9a-f]{8})?)\..*"
 OF_A_PART = re.compile(rf"key|matrix\.csv|origins\.csv|told\.txt|{ASIDE}")
 OF_ALL = re.compile(rf"run\.json|one_part\.sh|job|log|hosts\.txt|slurm_[0-9]+\.txt|{ASIDE}")
 
@@ -83,8 +82,8 @@ class Part:
         self.folder.mkdir(parents=True, exist_ok=True)
         for path in (self.folder / "key", self.errors_file, self.matrix):
             remove(path)
-        for path in self.folder.glob(f".part.*.{socket.gethostname()}.*"):
-            if not is_running(int(path.name.split(".")[2])):
+        for path in self.folder.glob(f".part.*-{this_machine()}.*"):
+            if not is_running(int(path.name.split(".")[2].split("-")[0])):
                 remove(path)
         with output(str(self.study / self.origins_name)) as file:
             write_stops(file, self.origins)

@@ -7,7 +7,6 @@ import os
 import re
 import shutil
 import signal
-import socket
 import subprocess
 import sys
 import tempfile
@@ -18,7 +17,7 @@ from typing import Any
 
 from ..engine import EngineFault, Run, program_at, refusal_of
 from ..faults import one_line
-from ..files import remove
+from ..files import aside_name, remove
 from .stages import settle
 
 DIES = 1  # PR_SET_PDEATHSIG of Linux
@@ -99,11 +98,6 @@ def fault_of(errors: bytes, status: int) -> str:
     return one_line("; ".join(refusal_of(errors, status)))
 
 
-def aside_of(path: Path) -> Path:
-    """Where a file is written until it is whole: by this process of this host, since hosts may share the folder."""
-    return path.with_name(f".part.{os.getpid()}.{socket.gethostname()}.{path.name}")
-
-
 class Running:
     """A run that goes on in a folder: its matrix is written aside, and gets its name when `end` finds it whole. It has
     a session of its own, so that Ctrl-C reaches this process alone, which decides what becomes of the run.
@@ -111,7 +105,7 @@ class Running:
 
     def __init__(self, run: Run, out: Path, folder: Path) -> None:
         self.out, self.begin = out, time.monotonic()
-        self.aside = aside_of(out)
+        self.aside = aside_name(out)
         self.errors = tempfile.TemporaryFile()
         with open(self.aside, "wb") as matrix:
             how: dict[str, Any] = {"cwd": folder, "preexec_fn": die_with_parent, "start_new_session": True}

@@ -6,7 +6,8 @@ from pathlib import Path
 
 from ..faults import BadInput, needs, say
 from ..gtfs.stops import read_stops
-from ..files import is_running, remove, sum_of
+from ..files import remove, sum_of
+from ..locks import is_locked, lock_file
 from ..matrices import BASE, TODAY, open_matrix
 from ..naming import sentences_on_names
 from ..views.page.document import LEAFLET, leaflet_files
@@ -27,7 +28,7 @@ from .settings import Study
 
 OF_ONE_ORIGIN = ("origins: ", "rows: ", "cells: ", "bytes of ")  # what the report of a trial says of itself
 RUNS_IN, NO_CHANGE = "runs in scenario ", "warning: this scenario changes nothing on the days of the study"
-ASIDE = re.compile(r"\.part\.([0-9]+)\..*")
+ASIDE = re.compile(r"\.part\.(?:lock|[0-9]+(?:-[0-9a-f]{8})?)\.(.*)", re.DOTALL)  # as `aside_name` and locks
 
 
 def make_study(study: Study, out: Path, means: Means) -> None:
@@ -136,10 +137,10 @@ def beside_today(inputs: Inputs, lines: list[str]) -> list[str]:
 
 
 def sweep(folder: Path, inside_parts: bool) -> None:
-    """Removes what commands that were killed left aside; that of parts when all are done, since other hosts may be at
-    work on some.
+    """Removes what killed commands of any machine left aside, unless another command has its output locked; what is in
+    parts when all are done, since other hosts may be at work on some.
     """
     for path in sorted(folder.rglob(".part.*")):
         found, is_of_parts = ASIDE.fullmatch(path.name), PARTS in path.relative_to(folder).parts
-        if found and (inside_parts if is_of_parts else not is_running(int(found[1]))):
+        if found and (inside_parts if is_of_parts else not is_locked(lock_file(path, found[1]))):
             remove(path)

@@ -44,7 +44,7 @@ const journey = {
     fill("departures");
     if (key !== "") {
       element("journey-title").textContent = `Journey to ${nameOf(end)}: searching`;
-      const found = await answerOf("journey", words).then((it) => it.json()).catch((fault) => tellFault(fault));
+      const found = await answerOf("journey", { ...words, version, tab: live.tab }).then((it) => it.json()).catch((fault) => tellFault(fault));
       if (key === this.key && found !== undefined) {
         this.found = found;
         this.tell();

@@ -69,9 +69,9 @@ const keep = {
   },
 
   async study() {
-    const { first, last, trips } = live;
+    const { first, last, trips, version, tab } = live;
     const origin = point.isChosen() ? point.originOf(state.place) : state.place;
-    const answer = await answerOf("study", {}, { first, last, trips, origin });
+    const answer = await answerOf("study", {}, { first, last, trips, origin, version, tab });
     const { command } = await answer.json();
     fill("kept", "Saved. To compute all of it, run: ", made("code", command));
   },

@@ -4,8 +4,9 @@
 
 const asked = JSON.parse(document.getElementById("asked").textContent);
 const ANSWERS_KEPT = 30; // by question
+const RELOAD_AFTER = 3000; // milliseconds, for the message to be read
 const live = {
-  version: asked.version, // of the network that answers
+  version: asked.version, // the number of this tab's network; other tabs may have others
   first: asked.first, last: asked.last, // departures, HH:MM
   trips: asked.trips, walk: asked.walk, // vehicles at most, seconds at most
   actions: asked.actions, // changes of the network
@@ -80,13 +81,14 @@ class Asker {
 
   async fetched(key, { version, ...words }) {
     live.turn++;
-    const response = await answerOf("times", { ...words, tab: live.tab, turn: live.turn });
+    const response = await answerOf("times", { ...words, version, tab: live.tab, turn: live.turn });
     if (response.status === 204) {
       return null;
     }
     const seconds = new Int32Array(await response.arrayBuffer());
     if (Number(response.headers.get("X-Version")) !== version) {
-      return seconds; // of another network, which answers meanwhile
+      setTimeout(() => location.reload(), RELOAD_AFTER);
+      throw new Error("The server answered for another network: the page reloads.");
     }
     this.answers.set(key, seconds);
     if (this.answers.size > ANSWERS_KEPT) {

@@ -164,7 +164,7 @@ const routes = {
   async changed(wanted) {
     document.body.dataset.busy = "1";
     element("changing").textContent = "The changed network is starting; until then the previous one answers.";
-    const found = await answerOf("changes", {}, wanted).then((it) => it.json()).catch((fault) => tellFault(fault));
+    const found = await answerOf("changes", {}, { ...wanted, tab: live.tab }).then((it) => it.json()).catch((fault) => tellFault(fault));
     document.body.dataset.busy = "0";
     element("changing").textContent = "";
     if (found !== undefined) {
