@@ -55,6 +55,11 @@ def test_the_index_lists_every_page() -> None:
     assert [page for page in pages if f"]({page})" not in index] == []
 
 
+def test_every_picture_is_shown() -> None:
+    links = "\n".join(page.read_text() for page in PAGES)
+    assert [path.name for path in (DOCS / "images").iterdir() if f"images/{path.name})" not in links] == []
+
+
 def test_files_that_sources_and_pages_mention_exist() -> None:
     files = [
         path for folder in SOURCES for path in (ROOT / folder).rglob("*") if path.is_file() and path.suffix in KINDS
