@@ -1,11 +1,12 @@
 #!/usr/bin/env python3
-"""Makes the README's film strip of `ttm-tools explore`, by clicks in headless Chromium with the real program: travel
-times before a change, the route that is changed, and what becomes faster.
+"""Makes the pictures of `ttm-tools explore`, by clicks in headless Chromium with the real program: what a stop reaches,
+with a journey; the same before a change, the route that is changed, and what becomes faster; both networks side by
+side; and cells.
 
     explore_pictures.py TOWN [--out FOLDER] [--program PATH]
 
-TOWN is the folder that `feedgen.py town TOWN` writes. The pictures are explore_before.png, explore_route.png and
-explore_after.png; without --out they go to docs/images. Needs selenium, Chromium, Pillow, flask and jinja2.
+TOWN is the folder that `feedgen.py town TOWN` writes. Without --out the pictures go to docs/images. Needs selenium,
+Chromium, Pillow, flask and jinja2.
 """
 
 import contextlib
@@ -17,17 +18,32 @@ from shared import parser_of
 from explore_times import ROOT, served  # sets the path of the next one
 from browser import Browser
 
-START, ROUTE, EVERY = "B00170S", "0013 (L0013)", "6"  # minutes
+START, END, CELL = "B00170S", "B00088N", "r10c07"
+ROUTE, EVERY = "0013 (L0013)", "6"  # minutes
+GRID = "300"  # metres
 SIZE = 1120, 760
 COLOURS = 256
 IDLE = "while (document.body.dataset.busy === '1') await new Promise((it) => setTimeout(it, 20)); await show();"
-NAMES = ("explore_before.png", "explore_route.png", "explore_after.png")
+NAMES = (
+    "explore_look.png",
+    "explore_before.png",
+    "explore_route.png",
+    "explore_after.png",
+    "explore_both.png",
+    "explore_cells.png",
+)
 
 
-def pictures(browser: Browser) -> Iterator[bytes]:
-    """The window before a change, with the route that is changed, and afterwards."""
+def pictures_of_stops(browser: Browser) -> Iterator[bytes]:
+    """What a stop reaches, with a journey and without; the route that is changed; and the change in two ways."""
     browser.click(START)
     browser.press("#areas")
+    browser.press("#clicks [value=end]")
+    browser.click(END)
+    browser.press("#clicks [value=start]")
+    browser.awaited("while (journey.found === null) await new Promise((it) => setTimeout(it, 20));")
+    yield picture_of(browser, "#clicks")
+    browser.run("journey.end = -1")
     yield picture_of(browser, "#clicks")
     browser.press("#areas")
     browser.awaited("await routes.read_;")
@@ -39,6 +55,14 @@ def pictures(browser: Browser) -> Iterator[bytes]:
     browser.awaited(IDLE)
     browser.run("document.getElementById('change-part').open = false")
     yield picture_of(browser, "#heading")
+    browser.press("#beside")
+    yield picture_of(browser, "#clicks")
+
+
+def pictures_of_cells(browser: Browser) -> Iterator[bytes]:
+    """What a cell reaches."""
+    browser.click(CELL)
+    yield picture_of(browser, "#clicks")
 
 
 def picture_of(browser: Browser, selector: str) -> bytes:
@@ -58,13 +82,19 @@ def fewer_colours(picture: bytes) -> bytes:
     return out.getvalue()
 
 
+def pictures(town: Path, program: str | None) -> Iterator[bytes]:
+    """The pictures, in the order of their names."""
+    for make, words in ((pictures_of_stops, []), (pictures_of_cells, ["--grid", GRID])):
+        with served(town, program, *words) as (_, address), contextlib.closing(Browser()) as browser:
+            browser.size(*SIZE)
+            browser.visit(address)
+            yield from make(browser)
+
+
 def make(town: Path, out: Path, program: str | None) -> None:
     """Writes the pictures into a folder."""
-    with served(town, program) as (_, address), contextlib.closing(Browser()) as browser:
-        browser.size(*SIZE)
-        browser.visit(address)
-        for name, picture in zip(NAMES, pictures(browser)):
-            (out / name).write_bytes(fewer_colours(picture))
+    for name, picture in zip(NAMES, pictures(town, program), strict=True):
+        (out / name).write_bytes(fewer_colours(picture))
 
 
 def main() -> None:

@@ -1,4 +1,4 @@
-"""The script that makes the pictures of a change for the page of `explore`, with the real program in a real browser."""
+"""The script that makes the pictures of `explore`, with the real program in a real browser."""
 
 import struct
 from pathlib import Path
@@ -17,10 +17,9 @@ import explore_pictures  # noqa: E402
 ROOT = Path(__file__).resolve().parents[2]
 
 
-def test_the_page_shows_the_pictures_in_their_order() -> None:
+def test_the_page_shows_the_pictures() -> None:
     text = (ROOT / "docs" / "howto" / "explore.md").read_text()
-    places = [text.index(f"](../images/{name})") for name in explore_pictures.NAMES]
-    assert places == sorted(places)
+    assert [name for name in explore_pictures.NAMES if f"](../images/{name})" not in text] == []
 
 
 def test_each_picture_is_another_one_of_the_whole_window(program: str, tmp_path: Path) -> None:
@@ -30,5 +29,5 @@ def test_each_picture_is_another_one_of_the_whole_window(program: str, tmp_path:
     (tmp_path / "out").mkdir()
     explore_pictures.make(tmp_path, tmp_path / "out", program)
     found = [(tmp_path / "out" / name).read_bytes() for name in explore_pictures.NAMES]
-    assert [struct.unpack(">II", item[16:24]) for item in found] == [explore_pictures.SIZE] * 3
-    assert len(set(found)) == 3
+    assert [struct.unpack(">II", item[16:24]) for item in found] == [explore_pictures.SIZE] * len(found)
+    assert len(set(found)) == len(explore_pictures.NAMES)
