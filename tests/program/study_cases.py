@@ -10,6 +10,8 @@ from __future__ import annotations
 from collections.abc import Mapping, Sequence
 from dataclasses import dataclass, field
 
+import small
+
 Files = Mapping[str, str | None]  # their texts by their names; none where there is no such file
 Asked = Mapping[str, str | int]  # texts of options by their names
 
@@ -56,6 +58,12 @@ HEAD = "scenario,origin,share,access_1800,A,B,C\n"
 ALL = HEAD + "base,A,50,3,0,600,1800\n"
 NO_C = HEAD + "base,A,50,2,0,600,\n"
 NOTHING = HEAD + "base,A,50,1,0,,\n"
+
+
+# each file with a byte-order mark, and lines that end in CR LF
+WINDOWS = {
+    name: "\ufeff" + text.replace("\n", "\r\n") for name, text in {**small.FEED, "origins.csv": "stop_id\nA\n"}.items()
+}
 
 
 def fourth(row: str) -> str:
@@ -283,9 +291,11 @@ ROWS = [
         {},
         "scenario,origin,share,access_1800\nbase,A,50,15\n",
     ),
+    Case("marks and Windows line ends change nothing", WINDOWS, {}, ALL),
     Case("a change in time", change_at_b("B,B,2,300\n"), {}, ALL),
     Case("a change that takes a second too long", change_at_b("B,B,2,301\n"), {}, NO_C),
-    Case("the greatest change time counts", change_at_b("B,B,2,301\nB,B,2,200\n"), {}, NO_C),
+    Case("the greatest change time counts, first", change_at_b("B,B,2,301\nB,B,2,200\n"), {}, NO_C),
+    Case("the greatest change time counts, last", change_at_b("B,B,2,200\nB,B,2,301\n"), {}, NO_C),
     Case("other types state no change time", change_at_b("B,B,0,301\n"), {}, ALL),
     Case(
         "nobody changes at the start",

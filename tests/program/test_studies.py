@@ -40,7 +40,7 @@ def lay_out(case: Case, room: Path) -> list[str]:
         if text is None:
             continue
         path.parent.mkdir(parents=True, exist_ok=True)
-        path.write_text(text, newline="")
+        path.write_text(text, encoding="utf-8", newline="")
         if path.suffix == ".csv":
             arguments += ([f"--{path.stem}"] if path.stem in OWN else []) + [name]
     return arguments

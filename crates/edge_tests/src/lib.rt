@@ -9,7 +9,6 @@
 //!   `told_options`, `told_folders`: of options that are refused, and of folders in which a file is missing.
 //!   `small_study` and `pages`: the feed, and consoles that keep what is told.
 //! - `minute_lines`: the line for one minute of the small feed.
-//! - `worked_rows`: whole studies of the small feed, with one thing changed in its files.
 //! - `watched_studies`: by how many workers a study is run, how often each row is begun, and in which order a watch is
 //!   told; `gated_studies`: whole texts where leases are lost or repeated.
 #![tactic(auto)]
@@ -44,5 +43,3 @@ mod told_studies;
 mod watched_studies;
 #[cfg(test)]
 mod words;
-#[cfg(test)]
-mod worked_rows;

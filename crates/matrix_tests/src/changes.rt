@@ -39,33 +39,6 @@ fn a_change_needs_its_time(rt: HostRuntime) -> Result<(), Fail> {
 
 /// `Search::durations`.
 #[test]
-fn no_time_at_the_start(rt: HostRuntime) -> Result<(), Fail> {
-    let alloc = rt.alloc();
-    let trip = [at(0, 29_700, 29_700), at(1, 30_600, 30_600)];
-    let found = durations(alloc, &[301, 301], &[], &[&trip], (0, 29_700))?;
-    assert!(rt; are(&found, &[0, 900]));
-    Ok(())
-}
-
-/// `Search::durations`.
-#[test]
-fn no_time_after_a_walk(rt: HostRuntime) -> Result<(), Fail> {
-    let alloc = rt.alloc();
-    let first = [at(0, 100, 100), at(1, 200, 200)];
-    let second = [at(2, 260, 260), at(3, 400, 400)];
-    let found = durations(
-        alloc,
-        &[0, 301, 301, 301],
-        &[(1, 2, 60)],
-        &[&first, &second],
-        (0, 100),
-    )?;
-    assert!(rt; are(&found, &[0, 100, 160, 300]));
-    Ok(())
-}
-
-/// `Search::durations`.
-#[test]
 fn a_stop_reached_by_a_ride_and_by_a_walk(rt: HostRuntime) -> Result<(), Fail> {
     let alloc = rt.alloc();
 

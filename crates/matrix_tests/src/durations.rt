@@ -30,40 +30,6 @@ fn two_trips_with_a_change(rt: HostRuntime) -> Result<(), Fail> {
 
 /// `Search::durations`.
 #[test]
-fn no_two_walks_follow_one_another(rt: HostRuntime) -> Result<(), Fail> {
-    let alloc = rt.alloc();
-    let closed = [(0, 1, 60), (0, 2, 120), (1, 2, 60)];
-    let bare = [(0, 1, 60), (1, 2, 60)];
-    for (footpaths, expected) in &[
-        (closed.as_slice(), [0, 60, 120]),
-        (bare.as_slice(), [0, 60, NEVER]),
-    ] {
-        let network = network_of(alloc, 3, footpaths, &[])?;
-        let found = of_minute(alloc, &network, 0, 32_400, 1)?;
-        assert!(rt; are(&found, expected.as_slice()));
-    }
-    Ok(())
-}
-
-/// `Search::durations`.
-#[test]
-fn walks_come_first_and_last(rt: HostRuntime) -> Result<(), Fail> {
-    let alloc = rt.alloc();
-    let first = [at(0, 28_800, 28_800), at(1, 29_400, 29_400)];
-    let second = [at(1, 29_700, 29_700), at(2, 30_600, 30_600)];
-    let network = network_of(alloc, 5, &[(2, 4, 90), (3, 0, 120)], &[&first, &second])?;
-    for (depart, expected) in &[
-        (28_680, [120, 720, 1_920, 0, 2_010]),
-        (28_740, [120, NEVER, NEVER, 0, NEVER]),
-    ] {
-        let found = of_minute(alloc, &network, 3, *depart, 2)?;
-        assert!(rt; are(&found, expected.as_slice()), "at {depart}");
-    }
-    Ok(())
-}
-
-/// `Search::durations`.
-#[test]
 fn odd_trips(rt: HostRuntime) -> Result<(), Fail> {
     let alloc = rt.alloc();
 
@@ -98,25 +64,6 @@ fn odd_trips(rt: HostRuntime) -> Result<(), Fail> {
             are(&found, expected.as_slice()),
             "from {origin} at {depart}"
         );
-    }
-    Ok(())
-}
-
-/// `Search::durations`.
-#[test]
-fn the_faster_of_two_trips(rt: HostRuntime) -> Result<(), Fail> {
-    let alloc = rt.alloc();
-    let slow = [at(0, 1_000, 1_000), at(1, 5_000, 5_000)];
-    let fast = [at(0, 2_000, 2_000), at(1, 3_000, 3_000)];
-    let last = [at(1, 3_000, 3_000), at(2, 3_100, 3_100)];
-    let network = network_of(alloc, 3, &[], &[&slow, &last, &fast])?;
-    for (depart, expected) in &[
-        (1_000, [0, 2_000, 2_100]),
-        (2_000, [0, 1_000, 1_100]),
-        (2_001, [0, NEVER, NEVER]),
-    ] {
-        let found = of_minute(alloc, &network, 0, *depart, 2)?;
-        assert!(rt; are(&found, expected.as_slice()), "at {depart}");
     }
     Ok(())
 }
