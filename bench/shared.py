@@ -1,4 +1,4 @@
-"""What several scripts of this folder do: read and write files of feeds, run and time programs, print tables."""
+"""What several scripts of this folder do: read and write files of feeds, run and time programs."""
 import argparse
 import csv
 import hashlib
@@ -8,12 +8,10 @@ import sys
 import time
 from dataclasses import dataclass
 from pathlib import Path
-from typing import Any, Callable, Collection, Iterable, Sequence
+from typing import Any, Iterable, Sequence
 
-HERE = os.path.dirname(os.path.abspath(__file__))
-TOOLS = os.path.join(os.path.dirname(HERE), "tools", "ttm-tools")
+TOOLS = str(Path(__file__).resolve().parent.parent / "tools" / "ttm-tools")
 PYTHON = "/usr/bin/python3" if os.path.exists("/usr/bin/python3") else sys.executable  # that of Debian's packages
-PROGRAM = os.environ.get("TTM_PROGRAM", os.path.join(os.path.dirname(HERE), "crates", "ttm", "out", "ttm"))
 DATE = "20260504"  # a Monday on which all trips of the made feeds run
 
 
@@ -27,30 +25,6 @@ def parser_of(text: str | None, *names: str, **numbers: int) -> argparse.Argumen
     for name, usual in numbers.items():
         parser.add_argument(f"--{name}", type=int, default=usual, help=f"(default: {usual})")
     return parser
-
-
-def numbers(text: str) -> list[int]:
-    """The numbers of an option, divided by commas."""
-    return [int(number) for number in text.split(",")]
-
-
-def parts_among(known: Collection[str]) -> Callable[[str], list[str]]:
-    """How --parts is read, whose parts are divided by commas."""
-
-    def parts(text: str) -> list[str]:
-        if unknown := [name for name in text.split(",") if name not in known]:
-            raise argparse.ArgumentTypeError(f"no such part: {', '.join(unknown)}")
-        return text.split(",")
-
-    return parts
-
-
-def built(crate: str) -> str:
-    """The path of a crate's program; ends the script where `rt run` didn't build it yet."""
-    program = os.path.join(HERE, "..", "crates", crate, "out", crate)
-    if not os.path.exists(program):
-        sys.exit(f"{os.path.normpath(program)} is not built: run 'rt run' in crates/{crate} first")
-    return program
 
 
 # Files of a feed.
@@ -81,11 +55,10 @@ def stops_of(path: str) -> list[str]:
     return [row["stop_id"] for row in records_of(path) if (row.get("location_type") or "").strip() in ("", "0")]
 
 
-def first_origins(folder: str, count: int, all_of_them: bool = False) -> list[str]:
-    """The first of the folder's `origins.csv`, or else of its stops; with `all_of_them` also where it has too few."""
+def first_origins(folder: str, count: int) -> list[str]:
+    """The first of the folder's `origins.csv`, or of its stops if it lists too few."""
     own = stops_of(os.path.join(folder, "origins.csv"))
-    enough = len(own) >= (count if all_of_them else 1)
-    return (own if enough else stops_of(os.path.join(folder, "stops.txt")))[:count]
+    return (own if len(own) >= count else stops_of(os.path.join(folder, "stops.txt")))[:count]
 
 
 def write_origins(path: str, stops: Sequence[str]) -> None:
@@ -98,11 +71,6 @@ def there(folder: str, *names: str) -> list[str]:
     return [path for path in (os.path.join(folder, name) for name in names) if os.path.exists(path)]
 
 
-def name_of(folder: str) -> str:
-    """What a feed is called in a table."""
-    return os.path.basename(os.path.abspath(folder))
-
-
 # Runs of a program.
 
 
@@ -111,8 +79,6 @@ class Study:
     """What is asked of `ttm`: departures each minute from 07:00. Origins and workers come beside it."""
 
     minutes: int = 120
-    trips: int = 4
-    walk: int = 600  # seconds
     shares: Sequence[int] = (50,)
     limits: Sequence[int] = (3600,)  # seconds
     more: Sequence[str] = ()  # further arguments
@@ -121,7 +87,7 @@ class Study:
         """The arguments; the folder's `footpaths.csv` is taken where it has one."""
         hours, minutes = divmod(7 * 60 + self.minutes - 1, 60)
         arguments = ["--feed", folder, "--date", DATE, "--from", "07:00", "--to", f"{hours:02}:{minutes:02}"]
-        arguments += ["--trips", str(self.trips), "--walk", str(self.walk)]
+        arguments += ["--trips", "4", "--walk", "600"]
         arguments += ["--share", ",".join(map(str, self.shares)), "--within", ",".join(map(str, self.limits))]
         arguments += ["--back", "0", "--ahead", "0", "--origins", origins, "--workers", str(workers), "--tries", "1"]
         footpaths = [word for path in there(folder, "footpaths.csv") for word in ("--footpaths", path)]
@@ -136,10 +102,6 @@ class Ran:
     seconds: float  # from start to end, by the clock
     busy: float  # seconds of processors
     kilobytes: int  # most memory held
-
-    def __str__(self) -> str:
-        memory = f"{self.kilobytes // 1000} MB"
-        return f"{self.seconds:.1f} s, {self.busy:.1f} s of processor time, {memory}"
 
 
 def run(arguments: Sequence[str], **how: Any) -> Ran:
@@ -160,12 +122,6 @@ def run_into(arguments: Sequence[str], path: str) -> Ran:
     return ran
 
 
-def timed(*words: str, **how: Any) -> str:
-    """Runs a command of the tools, ten minutes at most, and says what it took."""
-    ran = run(["timeout", "-s", "KILL", "600", PYTHON, TOOLS, *words], **how)
-    return str(ran) if ran.status == 0 else f"{ran}, status {ran.status}"
-
-
 def sum_of(path: str) -> str:
     """A sum of a file's bytes."""
     with open(path, "rb") as file:
@@ -176,16 +132,3 @@ def kilobytes(process: int | str, what: str, file: str = "status") -> int:
     """The memory that a file of /proc says of a process, by the word before it; 0 where it says nothing."""
     lines = Path(f"/proc/{process}/{file}").read_text().splitlines()
     return next((int(line.split()[1]) for line in lines if line.startswith(f"{what}:")), 0)
-
-
-# Markdown tables.
-
-
-def print_row(cells: Iterable[str]) -> None:
-    """Prints a line of a table as soon as it is known."""
-    print(f"| {' | '.join(cells)} |", flush=True)
-
-
-def print_head(names: Sequence[str]) -> None:
-    print_row(names)
-    print("|" + "---|" * len(names), flush=True)

@@ -1,161 +1,225 @@
-"""Tests of what the scripts of this folder stand on, for pytest."""
-import hashlib
-import os
+"""Tests of the benchmark: feeds, figures, and the pages that are written from them."""
+
 from dataclasses import replace
 from pathlib import Path
 
 import pytest
 
-import ask
-import feedgen
-import goals
-import ratios
+import feeds
+import growth
+import result_pages as pages
+import run
 import shared
-import study_times
-import variants
+from goals import Goal
+from parts.search import in_turns, milliseconds
+from record import Recorder, Row, read_results
+from setting import Setting, figures_in
+from summaries import Results, Summary, ratio, shown, summary_of
 
-# of all files of the town that seed 1 makes: results of other days are of these bytes
-TOWN = "58955af162bcfc04fb364acd8aca7f8b3f51f3be99fd5ac4ae8dd0ecf852cf0d"
+ROW = Row(
+    "2026-05-04T08:00:00Z", "0a1b2c3d", "kit", "CPU", 4, 16, 0.5, "search", "city", "ttm", "120 minutes", 1, 5, "ms"
+)
+
+
+def setting_in(folder: Path, turns: int = 1) -> Setting:
+    """A setting whose programs are never asked for."""
+    recorder = Recorder(folder / "results.csv")
+    return Setting(feeds.Feeds(folder / "feeds"), recorder, folder / "ttm", folder / "measure", turns, False, folder)
+
+
+def printing(*lines: str) -> list[str]:
+    """A command that prints these lines, whatever its further arguments are."""
+    return ["printf", "%b", "\\n".join(lines) + "\\n%.0s"]
+
+
+# Figures.
+
+
+def test_programs_take_turns_and_each_mean_is_recorded(tmp_path: Path) -> None:
+    times = ["ttm, origin 1, us: 1500", "ttm, origin 2, us: 2500", "ttm, checksum: 7"]
+    programs = [
+        ("range RAPTOR", printing("range, origin 1, us: 8000", "range, checksum: 7")),
+        ("ttm", printing(*times)),
+    ]
+    in_turns(setting_in(tmp_path, turns=2), "search", "city", "120 minutes", programs, [])
+    rows = read_results(tmp_path / "results.csv")
+    found = [(row.program, row.turn, row.figure) for row in rows]
+    assert found == [(name, turn, figure) for turn in (1, 2) for name, figure in (("range RAPTOR", 8.0), ("ttm", 2.0))]
+    assert {(row.part, row.feed, row.measure, row.unit) for row in rows} == {("search", "city", "120 minutes", "ms")}
+
+
+def test_a_changed_checksum_fails(tmp_path: Path) -> None:
+    programs = [(name, printing(f"x, origin 1, us: 1\\nx, checksum: {total}")) for name, total in (("a", 7), ("b", 8))]
+    with pytest.raises(SystemExit, match="the durations differ.*'a': 7.*b now 8|the durations differ.*'b': 8"):
+        in_turns(setting_in(tmp_path), "search", "city", "120 minutes", programs, [])
+
+
+def test_a_checksum_that_changes_from_turn_to_turn_fails(tmp_path: Path) -> None:
+    counter = tmp_path / "counter"
+    script = f'echo >> {counter}; echo "x, origin 1, us: 1"; echo "x, checksum: $(wc -l < {counter})"'
+    with pytest.raises(SystemExit, match="the durations differ"):
+        in_turns(setting_in(tmp_path, turns=2), "search", "city", "1 minutes", [("a", ["sh", "-c", script])], [])
+
+
+def test_figures_are_read_by_their_words() -> None:
+    figures = figures_in("read_feed, ms: 12\nno figure: x\nx, origin 1, us: 3000\nx, origin 2, us: 1000\n")
+    assert figures == {"read_feed, ms": 12, "x, origin 1, us": 3000, "x, origin 2, us": 1000}
+    assert milliseconds(figures) == 2.0
+
+
+def test_a_row_is_read_as_it_was_recorded(tmp_path: Path) -> None:
+    recorder = Recorder(tmp_path / "results.csv")
+    recorder.add("jobs", "city, every third trip", "ttm", "1 origins", 1234.567, "s", turn=3)
+    recorder.add("search", "city", "ttm", "120 minutes", 0.123456, "ms")
+    first, second = read_results(tmp_path / "results.csv")
+    assert (first.feed, first.turn, first.figure, second.figure) == ("city, every third trip", 3, 1235, 0.1235)
+    assert (tmp_path / "results.csv").read_text().startswith("date,commit,toolchain,processor,cores,memory_gb,load,")
+    assert first.cores >= 1 and first.commit and first.build == second.build
+
+
+def test_only_the_last_build_of_a_part_is_shown() -> None:
+    older = [replace(ROW, commit="old", figure=9), replace(ROW, part="jobs", commit="old", measure="a job")]
+    results = Results([*older, ROW, replace(ROW, turn=2, figure=7)])
+    assert results.summary("search", "city", "ttm", "120 minutes") == Summary(6, 5, 7, 2)
+    assert results.median("jobs", "city", "ttm", "a job") == 5
+    assert results.summary("search", "town", "ttm", "120 minutes") is None
+
+
+def test_ratios_are_of_the_same_turns() -> None:
+    assert ratio({("d", 1): 6, ("d", 2): 8, ("d", 3): 1}, {("d", 1): 2, ("d", 2): 4}) == Summary(2.5, 2, 3, 2)
+    assert ratio({("d", 1): 6}, {}) is None
+
+
+def test_figures_have_three_digits_and_a_range_where_they_vary() -> None:
+    assert " ".join(map(shown, (0.2812, 5.234, 51.26, 826.4, 12345.6, 0))) == "0.281 5.23 51.3 826 12,346 0"
+    assert str(summary_of([3, 1, 2])) == "2.00 (1.00 to 3.00)"
+    assert str(summary_of([5.001, 5.002])) == "5.00"
+
+
+def test_a_goal_is_met_at_its_bound() -> None:
+    def measured(results: Results) -> Summary | None:
+        return summary_of([1.8])
+
+    found = Summary(1.8, 1.0, 2.0, 3)
+    assert Goal("x", measured, 1.8, at_least=True).is_met(found) and not Goal("x", measured, 1.81, True).is_met(found)
+    assert Goal("x", measured, 1.8).is_met(found) and not Goal("x", measured, 1.79).is_met(found)
+
+
+# The pages.
+
+
+def rows_of(part: str, feed: str, program: str, measure: str, *figures: float) -> list[Row]:
+    """Figures of turns 1, 2, .."""
+    row = replace(ROW, part=part, feed=feed, program=program, measure=measure)
+    return [replace(row, turn=turn, figure=figure) for turn, figure in enumerate(figures, 1)]
+
+
+def measured_rows() -> list[Row]:
+    """A search in four networks: `ttm` takes 5 ms, range RAPTOR 15 to 20 ms, textbook RAPTOR 100 ms."""
+    rows = rows_of("windows", "region", "ttm", "1 minutes", 1) + rows_of(
+        "windows", "region", "range RAPTOR", "1 minutes", 0.8
+    )
+    for feed in pages.OF_README:
+        rows += rows_of("search", feed, "feed", "stops", 4936) + rows_of("search", feed, "feed", "stop times", 993_164)
+        rows += rows_of("search", feed, "ttm", "120 minutes", 5, 5, 5)
+        rows += rows_of("search", feed, "range RAPTOR", "120 minutes", 15, 20, 18)
+        rows += rows_of("search", feed, "textbook RAPTOR", "120 minutes", 100, 100, 100)
+    return rows
+
+
+README = f"# x\n\n{pages.BEGIN}\nold\n{pages.END}\n\nrest\n"
+
+
+def test_results_and_readme_are_those_of_the_recorded_figures() -> None:
+    results = Results(read_results())
+    readme = pages.README.read_text()
+    assert pages.PAGE.read_text() == pages.page_of(results), "run bench/run.py --tables"
+    assert readme == pages.with_speed(readme, results), "run bench/run.py --tables"
+    assert growth.description(results) in growth.PICTURE.read_text(), "run bench/run.py --tables"
+
+
+def test_readme_gets_the_medians_and_the_least_and_greatest_ratios() -> None:
+    readme = pages.with_speed(README, Results(measured_rows()))
+    assert "| city | 4,936 | 993,164 | 5.00 | 3.60 | 3.00 to 4.00 |\n" in readme
+    assert "takes 20.0 times as long as `ttm`. For a single minute range RAPTOR is faster: `ttm` is 0.800" in readme
+    assert readme.startswith("# x\n") and readme.endswith("\n\nrest\n") and "old" not in readme
+    assert pages.with_speed(readme, Results(measured_rows())) == readme
+    with pytest.raises(ValueError, match="exactly one part"):
+        pages.with_speed("# x\n", Results(measured_rows()))
+
+
+def test_results_name_the_build_and_the_goals_that_were_missed() -> None:
+    page = pages.page_of(Results(measured_rows()))
+    assert "All figures: commit 0a1b2c3d, toolchain `kit`, 2026-05-04, on 4 processors (CPU), 16 GB of memory" in page
+    assert "| city | 4,936 | 993,164 | 5.00 | 18.0 (15.0 to 20.0) | 3.60 (3.00 to 4.00) | 100 | 20.0 |\n" in page
+    assert "Of 7 goals that were measured, the medians miss 1.\n" in page
+    assert "| region: times as fast as range RAPTOR for 1 minute: at least 1 | 0.800 |" in page
+
+
+def test_what_was_not_measured_is_left_out() -> None:
+    page = pages.page_of(Results([]))
+    assert "not measured yet" in page and "How long does a search take" not in page
+    assert pages.with_speed(README, Results([])) == README
+
+
+def test_the_picture_says_what_it_shows(tmp_path: Path) -> None:
+    pytest.importorskip("matplotlib")
+    growth.draw_growth(Results(measured_rows()), tmp_path / "growth.svg")
+    assert "ttm by stops: 4,936: 5.00 ms, 4,936: 5.00 ms" in (tmp_path / "growth.svg").read_text()
+
+
+def test_unknown_parts_are_refused(capsys: pytest.CaptureFixture[str]) -> None:
+    with pytest.raises(SystemExit, match="no such part: serach; the parts are search, "):
+        run.main(["serach"])
+
+
+# Feeds.
 
 
 def write_stops(folder: Path, name: str, *stops: str) -> None:
     shared.write_lines(str(folder), name, "stop_id,location_type", stops)
 
 
-def test_the_town_has_the_same_bytes_for_ever(tmp_path: Path) -> None:
-    printed = feedgen.write_feed("town", 1, str(tmp_path))
-    assert printed == (
-        "size town seed 1: stops 482, stations 6, routes 37, trips 4993, stop_times 61617, direct footpaths 3444\n"
-    )
-    files = sorted(tmp_path.iterdir())
-    sums = "".join(f"{hashlib.sha256(file.read_bytes()).hexdigest()} {file.name}\n" for file in files)
-    assert len(files) == 13 and hashlib.sha256(sums.encode()).hexdigest() == TOWN
-
-
-def test_change_times_are_in_the_transfers_alone(tmp_path: Path) -> None:
-    plain, changed = tmp_path / "plain", tmp_path / "changed"
-    feedgen.write_feed("town", 1, str(plain))
-    feedgen.write_feed("town", 1, str(changed), 120)
-    other = [path.name for path in sorted(plain.iterdir()) if path.read_bytes() != (changed / path.name).read_bytes()]
-    assert other == ["transfers.txt"]
-    rows = (changed / "transfers.txt").read_text().splitlines()
-    assert len([row for row in rows if row.endswith(",2,120")]) == 482 and "B00000N,B00000N,2,120" in rows
-
-
-def test_another_seed_makes_another_town(tmp_path: Path) -> None:
-    printed = [feedgen.write_feed("town", seed, str(tmp_path / str(seed))) for seed in (1, 2, 2)]
-    assert printed[0] != printed[1] == printed[2]
+def test_feeds_are_generated_once(tmp_path: Path) -> None:
+    made = feeds.Feeds(tmp_path)
+    folder = made.folder("town, every third trip")
+    assert folder.name == "town_every_third_trip" and (tmp_path / "town" / "stop_times.txt").is_file()
+    assert made.counts("town") == {"stops": 482, "stop times": 61617}
+    assert made.counts("town, every third trip")["stop times"] < 61617 / 2.9
+    before = folder.stat().st_mtime_ns
+    assert made.folder("town, every third trip").stat().st_mtime_ns == before
+    assert sorted(path.name for path in tmp_path.iterdir()) == ["town", "town_every_third_trip"]
 
 
 def test_origins_are_the_folders_own_or_its_first_stops(tmp_path: Path) -> None:
     write_stops(tmp_path, "stops.txt", "G,1", "A,0", "B,", "C,0")
     assert shared.first_origins(str(tmp_path), 2) == ["A", "B"]
     write_stops(tmp_path, "origins.csv", "C,")
-    assert shared.first_origins(str(tmp_path), 2) == ["C"]
-    assert shared.first_origins(str(tmp_path), 2, all_of_them=True) == ["A", "B"]
+    assert shared.first_origins(str(tmp_path), 1) == ["C"] and shared.first_origins(str(tmp_path), 2) == ["A", "B"]
 
 
-def test_origins_of_ratios_are_so_many_or_those_of_a_file(tmp_path: Path) -> None:
-    write_stops(tmp_path, "stops.txt", "A,0", "B,0", "C,0")
-    write_stops(tmp_path, "mine.csv", "C,", "A,")
-    folder = str(tmp_path)
-    assert ratios.options_of(["--origins", "2", folder]).origins_of(folder) == ["A", "B"]
-    assert ratios.options_of(["--origins", "mine.csv", folder]).origins_of(folder) == ["C", "A"]
-    assert ratios.options_of(["--origins", folder + "/mine.csv", "--first", "1", folder]).origins_of(folder) == ["C"]
-    with pytest.raises(SystemExit):
-        ratios.options_of(["--origins", "none.csv", folder]).origins_of(folder)
-
-
-def test_a_programs_times_are_read_in_milliseconds() -> None:
-    program = ratios.Program(
-        ["printf", "durations, origin 1, us: 1500\ndurations, checksum: 7\n"], {"durations": "ttm"}
-    )
-    assert program.run([]) == ({"ttm": [1.5]}, {"ttm": "7"})
-
-
-def goals_of(*more: str) -> goals.GoalOptions:
-    return goals.options_of(["--town", "t", "--city", "c", "--metropolis", "m", *more])
-
-
-def test_a_goal_is_met_from_its_least_or_up_to_its_most() -> None:
-    assert goals.Figure("x", "city", 1.7, 1.7, aim=2.0).cells() == ["x", "city", "1.70", "at least 1.7, aim 2", "yes"]
-    assert goals.Figure("x", "city", 1.69, 1.7).cells()[2:] == ["1.69", "at least 1.7", "no"]
-    assert goals.Figure("x", "city", 0.1, 0.1, False).cells()[2:] == ["0.10", "at most 0.1", "yes"]
-    assert goals.Figure("x", "city", 62, 60, False).cells()[-1] == "no"
-
-
-def test_goals_are_measured_over_so_many_origins_of_each_feed() -> None:
-    assert goals_of().parts == list(goals.PARTS) and goals_of("--parts", "days,cells").parts == ["days", "cells"]
-    assert goals_of().of("city").first == 200 and goals_of("--origins", "7").of("metropolis").first == 7
-    assert goals_of("--origins", "90").of("metropolis", minutes=4).minutes == 4
-    with pytest.raises(SystemExit):
-        goals_of("--parts", "cell")
-
-
-def test_nothing_is_measured_beside_what_is_not_given() -> None:
-    assert not list(goals.peers(goals_of())) and not list(goals.windows(goals_of()))
-
-
-@pytest.fixture
-def feed(tmp_path: Path) -> Path:
-    (tmp_path / "feed").mkdir()
-    return tmp_path / "feed"
-
-
-def test_a_feed_gets_a_change_time_at_each_stop(tmp_path: Path, feed: Path) -> None:
-    write_stops(feed, "stops.txt", "G,1", "A,0", "B,")
-    write_stops(feed, "transfers.txt")
-    folder = Path(variants.with_changes(str(feed), str(tmp_path), 90))
-    rows = (folder / "transfers.txt").read_text().splitlines()
-    assert rows == ["from_stop_id,to_stop_id,transfer_type,min_transfer_time", "A,A,2,90", "B,B,2,90"]
-    assert (folder / "stops.txt").read_bytes() == (feed / "stops.txt").read_bytes()
-
-
-def test_every_third_trip_keeps_its_stop_times(tmp_path: Path, feed: Path) -> None:
+def test_every_third_trip_keeps_its_stop_times(tmp_path: Path) -> None:
+    feed = tmp_path / "feed"
+    feed.mkdir()
     shared.write_lines(str(feed), "trips.txt", "route_id,service_id,trip_id", [f"R,S,T{number}" for number in range(5)])
     times = [f"T{trip},08:00:00" for trip in range(5) for _ in range(2)]
     shared.write_lines(str(feed), "stop_times.txt", "trip_id,arrival_time", times)
-    folder = Path(variants.every_third_trip(str(feed), str(tmp_path)))
+    folder = tmp_path / "thirds"
+    feeds.every_third_trip(feed, folder)
     assert (folder / "trips.txt").read_text().splitlines()[1:] == ["R,S,T0", "R,S,T3"]
     assert [line[:2] for line in (folder / "stop_times.txt").read_text().splitlines()[1:]] == ["T0", "T0", "T3", "T3"]
 
 
-def test_a_drawn_order_has_the_same_stops(tmp_path: Path, feed: Path) -> None:
+def test_a_drawn_order_has_the_same_stops(tmp_path: Path) -> None:
+    feed = tmp_path / "feed"
+    feed.mkdir()
     write_stops(feed, "stops.txt", *(f"S{number},0" for number in range(20)))
-    drawn = [Path(variants.with_drawn_order(str(feed), str(tmp_path))) / "stops.txt" for _ in range(2)]
-    header, *stops = drawn[0].read_text().splitlines()
-    assert header == "stop_id,location_type" and drawn[0].read_bytes() == drawn[1].read_bytes()
+    for name in ("one", "two"):
+        feeds.with_drawn_order(feed, tmp_path / name)
+    header, *stops = (tmp_path / "one" / "stops.txt").read_text().splitlines()
+    assert header == "stop_id,location_type"
+    assert (tmp_path / "one" / "stops.txt").read_bytes() == (tmp_path / "two" / "stops.txt").read_bytes()
     assert sorted(stops) == sorted(f"S{number},0" for number in range(20)) and stops[:3] != ["S0,0", "S1,0", "S2,0"]
-
-
-def test_more_stops_stand_behind_the_others(tmp_path: Path, feed: Path) -> None:
-    write_stops(feed, "stops.txt", "A,0", "B,1")
-    assert Path(variants.with_more_stops(str(feed), str(tmp_path), 2), "stops.txt").read_text().splitlines() == [
-        "stop_id,location_type",
-        "A,0",
-        "B,1",
-        "more-0,1",
-        "more-1,1",
-    ]
-
-
-def test_a_region_has_long_headways_and_school_days(tmp_path: Path) -> None:
-    printed = feedgen.write_feed("region", 1, str(tmp_path))
-    assert printed.startswith("size region seed 1: stops 3006, stations 3, routes 149, trips 9010, stop_times 179005")
-    services = [line.split(",")[1] for line in (tmp_path / "trips.txt").read_text().splitlines()[1:]]
-    assert services.count("SCHOOL") == 3 * 20 and set(services) == {"ALL", "WD", "SCHOOL"}
-    days = (tmp_path / "calendar.txt").read_text().splitlines()[1:]
-    assert [day.split(",")[0] for day in days] == ["ALL", "WD", "SCHOOL"]  # a service has one record
-    exceptions = (tmp_path / "calendar_dates.txt").read_text().splitlines()
-    assert {"SCHOOL,20260330,2", "SCHOOL,20260501,2", "SCHOOL,20260831,2"} < set(exceptions)
-    assert sum(exception.startswith("SCHOOL,") for exception in exceptions) == 10 + 1 + 31
-
-
-def test_figures_are_read_by_their_words() -> None:
-    assert goals.printed(["printf", "read_feed, ms: 12\\nno figure: x\\nrows: 3\\n"]) == {
-        "read_feed, ms": 12,
-        "rows": 3,
-    }
 
 
 def test_the_words_of_a_study_name_footpaths_that_are_there(tmp_path: Path) -> None:
@@ -165,49 +229,3 @@ def test_the_words_of_a_study_name_footpaths_that_are_there(tmp_path: Path) -> N
     assert "--footpaths" not in arguments
     write_stops(tmp_path, "footpaths.csv")
     assert shared.Study().arguments(folder, "origins.csv", 2)[-2:] == ["--footpaths", folder + "/footpaths.csv"]
-
-
-def test_streets_are_drawn_alike_and_cross_the_river_by_bridges_alone() -> None:
-    numpy = pytest.importorskip("numpy")
-    import streetgen
-
-    def drawn() -> tuple[streetgen.Grid, list[tuple[list[int], dict[str, str]]]]:
-        draw = numpy.random.default_rng(1)
-        grid = streetgen.grid_of((7.0, 0.0, 7.02, 0.01), 800, draw)
-        return grid, list(streetgen.ways_of(grid, draw))
-
-    grid, ways = drawn()
-    assert (grid.rows, grid.columns) == (20, 40) and drawn()[1] == ways
-    middle = grid.rows // 2 * grid.columns
-    pieces = [ends for nodes, _ in ways for ends in zip(nodes, nodes[1:])]
-    assert {a % grid.columns for a, b in pieces if a < middle <= b} <= {0, 20}
-    assert 0.8 < len(pieces) / (2 * len(grid.degrees)) < 0.95
-
-
-def test_what_a_study_took_stays_when_its_trial_is_itself_ended(
-    tmp_path: Path, monkeypatch: pytest.MonkeyPatch
-) -> None:
-    monkeypatch.setattr(study_times, "PROGRAM", __file__)
-    pieces = study_times.Pieces(tmp_path / "pieces.json")
-    pieces.begin().seconds = 7.0
-    pieces.keep()
-    again = study_times.Pieces(tmp_path / "pieces.json")
-    again.begin().ended = study_times.KILLED
-    assert [item.seconds for item in again.that(study_times.GOES_ON)] == [7.0]
-    assert len(again.that(study_times.KILLED)) == 1 and not again.that(study_times.DONE)
-
-
-def test_what_a_group_of_processes_takes_is_seen() -> None:
-    memory, seconds = study_times.taken_by(os.getpgid(0))
-    assert memory > 1_000_000 and seconds > 0
-
-
-def test_questions_are_of_origins_that_a_seed_draws(tmp_path: Path) -> None:
-    write_stops(tmp_path, "stops.txt", "G,1", "A,0", "B,", "C,0")
-    arguments = ["--city", str(tmp_path), "--program", "ttm", "--parts", "first,many"]
-    setting = replace(ask.setting_of(arguments), place=str(tmp_path))
-    drawn = setting.drawn("city", 40)
-    assert setting.parts == ["first", "many"] and setting.drawn("city", 40) == drawn
-    assert {Path(item).read_text() for item in drawn} == {"stop_id\nA\n", "stop_id\nB\n", "stop_id\nC\n"}
-    with pytest.raises(SystemExit):
-        ask.setting_of([*arguments[:-1], "nothing"])

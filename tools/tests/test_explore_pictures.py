@@ -1,6 +1,7 @@
 """The script that makes the pictures of `explore`, with the real program in a real browser."""
 
 import struct
+import sys
 from pathlib import Path
 
 import pytest
@@ -12,9 +13,10 @@ pytestmark = [pytest.mark.program, pytest.mark.xdist_group("browser")]
 for package in ("selenium", "PIL", "flask", "jinja2", "pandas"):
     pytest.importorskip(package)
 
-import explore_pictures  # noqa: E402
-
 ROOT = Path(__file__).resolve().parents[2]
+sys.path.append(str(ROOT / "packaging"))
+
+import explore_pictures  # noqa: E402
 
 
 def test_the_page_shows_the_pictures() -> None:

@@ -9,7 +9,7 @@ use std::io;
 use std::time::Instant;
 use timetable::{NEVER, Network, StopNo};
 
-/// Times the least durations from each origin over a network. The sum is that of `bench/raptor.rs`.
+/// Times the least durations from each origin over a network. The sum is that of `bench/raptor`.
 pub(crate) fn time_origins(
     rt: &HostRuntime,
     asked: Asked,

@@ -11,12 +11,16 @@ Chromium, Pillow, flask and jinja2.
 
 import contextlib
 import io
+import sys
 from pathlib import Path
 from typing import Iterator
 
-from shared import parser_of
-from explore_times import ROOT, served  # sets the path of the next one
-from browser import Browser
+ROOT = Path(__file__).resolve().parent.parent
+sys.path.append(str(ROOT / "bench"))
+
+from parts.explore import served  # noqa: E402  sets the path of the next one
+from browser import Browser as Browser  # noqa: E402
+from shared import parser_of as parser_of  # noqa: E402
 
 START, END, CELL = "B00170S", "B00088N", "r10c07"
 ROUTE, EVERY = "0013 (L0013)", "6"  # minutes

@@ -16,13 +16,8 @@ import sys
 import tempfile
 from pathlib import Path
 
-from shared import parser_of
-from explore_pictures import ROOT, fewer_colours
-from browser import Browser
-
-sys.path.insert(0, str(ROOT / "packaging"))
-
-import pages  # noqa: E402
+import pages
+from explore_pictures import ROOT, Browser, fewer_colours, parser_of
 
 PAGES = ("tutorial", "howto/plans", "howto/points")  # in the order in which their commands run
 MAPS = {"lost.png": "picture.png", "tram.png": "tram.png", "doors.png": "cells.png"}  # names there, and in docs/images
