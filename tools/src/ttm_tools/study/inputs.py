@@ -26,6 +26,7 @@ from .counted import (
     opportunities_stage,
     own_columns,
     people_stage,
+    scale_in,
 )
 from .run import dates_of, days_of, name_of, run_of, shown_names
 from .sources import Sources
@@ -76,6 +77,11 @@ class Inputs:
         named = {*self.scenarios, *map(str, self.run.files.values())}
         known = sums_of(self.records).items()
         return {name: was for name, was in known if name in named or name.startswith(f"{self.feed}/")}
+
+    @property
+    def scale(self) -> int:
+        """By what the counts were multiplied that `ttm` adds up."""
+        return scale_in(self.at(OPPORTUNITIES)) if "opportunities" in self.run.files else 1
 
     @property
     def stops_sum(self) -> str:
