@@ -164,13 +164,21 @@ def test_routes_and_agencies_keep_their_trips_and_where_these_call(feed: Room) -
     feed.refused("routes.txt: no agency Z", *arguments, "--agency", "Z", feed.path("in"))
 
 
-@pytest.mark.parametrize("day, kept", [("20260509", "TU"), ("20260510", "TU"), ("20260517", "V"), ("20260601", "")])
+@pytest.mark.parametrize("day, kept", [("20260509", "TU"), ("20260510", "TU"), ("20260517", "V")])
 def test_a_date_keeps_what_runs_on_it(feed: Room, day: str, kept: str) -> None:
     printed = clipped(feed, "--date", day, "--back", "0", "--ahead", str(int(day == "20260509")))
-    runs = {"TU": "7 with 28 stop times", "V": "1 with 4 stop times", "": "0 with 0 stop times"}[kept]
+    runs = {"TU": "7 with 28 stop times", "V": "1 with 4 stop times"}[kept]
     assert f": {runs}\n" in printed
     assert [line.split(",")[2] for line in texts(feed, "trips.txt")] == list(kept)
     assert len(texts(feed, "stops.txt")) == 7
+
+
+def test_a_date_on_which_nothing_runs_is_refused(feed: Room) -> None:
+    arguments = ["prepare", "--out", feed.path("out"), "--date", "20260603", "--back", "0", "--ahead", "1"]
+    hint = "(--allow-loss writes the feed anyway; --check lists all errors)"
+    message = f"no trip runs from 2026-06-03 to 2026-06-04, only from 2026-05-04 to 2026-05-31 {hint}"
+    feed.refused(f"{feed.path('in')}: {message}", *arguments, feed.path("in"))
+    assert feed.ran(*arguments, "--allow-loss", feed.path("in"))[2] == 0 and texts(feed, "trips.txt") == []
 
 
 def test_what_is_too_much_is_told_with_what_helps(feed: Room) -> None:

@@ -88,7 +88,11 @@ def test_what_holds_no_feed_or_several_is_told(feed: Room) -> None:
     for name, members, printed in [
         ("none.zip", ["readme.md"], "no GTFS in it"),
         ("zips.zip", ["a/bus.zip"], "no GTFS in it, but a/bus.zip: unzip it first"),
-        ("two.zip", ["a/stops.txt", "b/stops.txt"], "several feeds in it, a and b: give them one by one"),
+        (
+            "two.zip",
+            ["a/stops.txt", "b/stops.txt"],
+            "several feeds in it, a and b: give them one by one, without the others in the folder",
+        ),
     ]:
         with zipfile.ZipFile(feed.path(name), "w") as packed:
             for member in members:
@@ -145,10 +149,10 @@ def test_fields_are_mended(feed: Room) -> None:
         ["calendar.txt", "2", "start_date", "2026-05-04", "date", "now 20260504"],
         ["trips.txt", "2", "route_id", "R ", "spaces", "now R"],
         ["trips.txt", "3", "service_id", " M", "spaces", "now M"],
+        ["stop_times.txt", "2", "trip_id", "T ", "spaces", "now T"],
         ["stop_times.txt", "2", "stop_sequence", "1.0", "number", "now 1"],
         ["stop_times.txt", "2", "arrival_time", "8:0:00", "time", "now 08:00:00"],
         ["stop_times.txt", "2", "departure_time", "08:00", "time", "now 08:00:00"],
-        ["stop_times.txt", "2", "trip_id", "T ", "spaces", "now T"],
         ["stop_times.txt", "3", "stop_id", "\tB", "spaces", "now B"],
         ["stop_times.txt", "4", "departure_time", "08:10:00.5", "time", "now 08:10:00"],
         ["stop_times.txt", "4", "arrival_time", "x", "value", "emptied"],

@@ -20,9 +20,9 @@ would leave, with what it would remove. The exit status is 1 if there is an erro
 
 --out writes the feed; a feed with errors is refused. --repair repairs it first, by the rules below; prepared.csv in the
 folder has a line for each repaired record. Then it prints how many records each file has left, and on which days trips
-run. The exit status is 1, and no folder is written, if a rule (except `same`) removes more than a tenth of a file's
-records, if a required file has no record left, or if no trip runs on any day, or on --date. --allow-loss writes the
-folder anyway.
+run. The exit status is 1, and no folder is written, if no trip runs on any day, or on those of --date; and with
+--repair if no trip runs on --date itself, if a rule (except `same`) removes more than a tenth of a file's records (of
+transfers.txt also more than ten), or if a required file has no record left. --allow-loss writes the folder anyway.
 
 {rules}
 

@@ -10,6 +10,7 @@ from typing import Any, Iterator
 
 from ..engine import Result
 from ..faults import BadInput, WrongWords
+from ..gtfs.feeds import refuse_planned
 from ..gtfs.stops import Stops, read_stops
 from ..measures.opportunities import Counts, read_counts
 from ..memory import give_back
@@ -39,6 +40,7 @@ class Exploration:
     """A network that a person explores. Several threads may use it."""
 
     def __init__(self, options: ExploreOptions, room: Path) -> None:
+        refuse_planned(options.feed)
         self.options, self.room = options, room
         self.turnstile, self.reading = Turnstile(), threading.RLock()
         self.plan_text = Path(options.plan).read_text(encoding="utf-8") if options.plan is not None else ""

@@ -20,6 +20,8 @@ from .stops import has_file, in_folder
 from .tables import Table, no_table, read_table, write_table
 
 Near = Callable[[Table], "set[str] | None"]  # the stops of stops.txt that matter; none where all do
+ALONE = {"trips.txt", CALLS}  # files that make a folder a feed
+SCENARIOS = "scenarios/today.csv"  # in the folder of a plan's feed
 OPTIONAL = ("calendar.txt", "calendar_dates.txt", "frequencies.txt", "transfers.txt")
 
 
@@ -39,6 +41,15 @@ class Feed:
     def has_columns(self, name: str) -> bool:
         """Whether a file is there with the columns that it needs."""
         return name in self.tables and all(column in self.tables[name] for column in FILES[name].needed)
+
+
+def refuse_planned(path: str | Path) -> None:
+    """Refuse the folder of a plan's feed, which has the trips of all scenarios: they never run together."""
+    if (Path(path) / SCENARIOS).is_file():
+        what = "has the trips of all scenarios of a plan"
+        raise BadInput(
+            path, f"{what}: take the plan's own feed, or that of one scenario, by ttm-tools scenarios --only"
+        )
 
 
 def calls_near(path: Path, stops: set[str]) -> Table:
@@ -98,20 +109,24 @@ def files_in(folder: Path) -> Iterator[Path]:
 
 
 def files_of(path: Path, members: Sequence[str]) -> dict[str, str]:
-    """The files of the feed among those of a zip file or folder, by name: those of the folder that has the most."""
+    """The files of the feed among those of a zip file or folder, by name. They lie in one folder: the only one with
+    trips and their stop times, or where none has these the one with the most files of a feed.
+    """
     folders: dict[str, dict[str, str]] = {}
     for file in members:
         folder, name = os.path.split(file)
         if not any(part.startswith((".", "__MACOSX")) for part in PurePosixPath(file).parts):
             folders.setdefault(folder, {})[name] = file
     counts = {folder: len(FILES.keys() & names.keys()) for folder, names in folders.items()}
-    best = [folder for folder, count in counts.items() if count and count == max(counts.values())]
+    best = [folder for folder, names in folders.items() if ALONE <= names.keys()]
+    best = best or [folder for folder, count in counts.items() if count and count == max(counts.values())]
     if not best:
         zipped = [file for file in members if file.endswith(".zip")]
         hint = f", but {zipped[0]}: unzip it first" if zipped else ""
         raise BadInput(path, f"no GTFS in it{hint}")
     if len(best) > 1:
-        raise BadInput(path, f"several feeds in it, {best[0] or '.'} and {best[1]}: give them one by one")
+        several = " and ".join(folder or "." for folder in best)
+        raise BadInput(path, f"several feeds in it, {several}: give them one by one, without the others in the folder")
     found = folders[best[0]]
     return {name: file for name, file in found.items() if name in FILES or name.endswith((".txt", ".geojson"))}
 

@@ -16,11 +16,12 @@ from ..faults import BadInput
 from ..gtfs.call_numbers import CALLS, CallNumbers, CallReader, narrow
 from ..gtfs.calls import begins_of, calls_of
 from ..gtfs.columns import Codes, positions_of, values_of
-from ..gtfs.feeds import Feed, is_stop, read_feed, read_folder
+from ..gtfs.feeds import Feed, is_stop, read_feed, read_folder, refuse_planned
 from ..gtfs.fields import MOST_STOPS, Narrow, Whole, date, number, time
 from ..gtfs.service_days import MOST_DAYS, Days, days_of, ordinals
 from ..gtfs.stops import Stops, place_of
 from ..prepare.check import check
+from ..prepare.likely import unclosed
 from ..prepare.report import refuse
 from ..records import shown
 from ..opening.kinds import decimal
@@ -154,8 +155,9 @@ def read_base(folder: str, new_stops: Sequence[Entry]) -> Base:
     path = Path(folder)
     if not path.is_dir():
         raise BadInput(folder, "not the folder of a feed (unzip it first)")
+    refuse_planned(path)
     feed = read_feed(path, path)
-    refuse(folder, check(feed), "ttm-tools prepare reports and repairs errors")
+    refuse(folder, check(feed), "ttm-tools prepare reports and repairs errors", unclosed(feed))
     table, trips, places = feed.tables[CALLS], feed.tables["trips.txt"].texts("trip_id"), read_places(feed, new_stops)
     calls = calls_of(table, trips)
     stop = positions_of(table["stop_id"], places.places)[calls.rows]

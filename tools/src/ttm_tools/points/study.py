@@ -93,6 +93,7 @@ def make(options: PointsOptions, walker: WalkFinder) -> list[str]:
         write_files(folder, options, study, walks, rounded)
     count = f"{quantity(len(study.points.identifiers), 'point')}, {quantity(len(walks.seconds), 'footpath')}"
     whole = [f"{quantity(rounded.count, 'number')} with decimals rounded for ttm"] if rounded.count else []
+    whole += sentences_on_rounded(study.points)
     return [*sentences, *whole, f"{options.out}: {count}; the arguments of a run are in {Path(options.out) / WORDS}"]
 
 
@@ -240,6 +241,15 @@ def opportunities(options: PointsOptions, study: PointStudy, column: str, rounde
     for point in kept.tolist():
         number = repr(float(points.numbers[point, place]))
         yield [points.identifiers[point], rounded.whole(number, points.path, point + 2, column, up=False)]
+
+
+def sentences_on_rounded(points: Points) -> Iterator[str]:
+    """By how much the sums of columns change where each of their numbers is made whole for `ttm`."""
+    for column, numbers in zip(points.columns, points.numbers.T):
+        before, after = float(numbers.sum()), float(np.floor(numbers + 0.5).sum())
+        if abs(after - before) > 1e-6:
+            change = f"{plain(after)} {shown(column)} instead of {plain(round(before, 6))}"
+            yield f"rounded, ttm counts {change}: use ttm-tools access, which counts decimals"
 
 
 def arguments_of(options: PointsOptions) -> str:

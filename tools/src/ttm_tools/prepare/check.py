@@ -3,8 +3,8 @@ several checks the first is a fault. What refers to a file that isn't there, or 
 """
 
 import itertools
-from dataclasses import dataclass
-from typing import Callable, Iterable, Iterator
+from dataclasses import dataclass, replace
+from typing import Callable, Iterable, Iterator, Sequence
 
 import numpy as np
 
@@ -14,6 +14,7 @@ from ..gtfs.columns import empty, one_of, positions_of, repeated, repeated_pairs
 from ..gtfs.feeds import OPTIONAL, Feed, is_stop, names_in, stops_of, used_transfers
 from ..gtfs.fields import FILES, WEEKDAYS, Mask, Whole, date, number, time
 from ..gtfs.tables import Table, no_table
+from .likely import renamed_columns
 
 ID = "it may not be empty"
 ONCE = "a record before has the same"
@@ -25,6 +26,7 @@ DATE = "a date is YYYYMMDD"
 ENDS = "the first and the last stop time of a trip have an arrival_time or a departure_time"
 BACK = "no departure before the arrival, and no arrival before the departure before it"
 TOO_MANY, TOO_LONG, UNREAD = "too many", "too long", "read fault"
+SIGNS = {";": "semicolons", "\t": "tabs", "|": "bars"}  # in the place of commas
 LAST = 1 << 50  # ranks of what is found once all records are read
 
 
@@ -111,8 +113,30 @@ def check(feed: Feed) -> list[Fault]:
     none = np.zeros(0, np.int64)  # `ttm` reads all files before it looks at one
     allowed = "a file has to be there, and it is a folder"
     unread = [Fault(no_table(name, path), UNREAD, "", allowed, none, none, True) for name, path in feed.unread.items()]
-    in_order = (sorted(faults_in(feed, name), key=lambda fault: list(fault.ranks[:1])) for name in FILES)
+    misspelt = [name for name in FILES if feed.tables.get(name) is not None and lacking_in(feed.tables[name])]
+    renamed = with_right_names(feed, misspelt) if misspelt else feed
+    in_order = []
+    for name in FILES:
+        header = faults_in(feed, name) if name in misspelt else []
+        found = [] if header and lacking_in(renamed.tables[name]) else faults_in(renamed, name)
+        in_order.append([*header, *sorted(found, key=lambda fault: list(fault.ranks[:1]))])
     return [*unread, *itertools.chain.from_iterable(in_order)]
+
+
+def lacking_in(table: Table) -> list[str]:
+    """The columns that a file needs and lacks."""
+    return [column for column in FILES[table.name].needed if column not in table]
+
+
+def with_right_names(feed: Feed, names: Sequence[str]) -> Feed:
+    """A feed whose columns have the names that are meant, so that the records below a misspelt header are checked."""
+    tables = dict(feed.tables)
+    for name in names:
+        table = tables[name].copy()
+        right = renamed_columns(table)
+        table.fields = {right[column]: table[column] for column in table.columns}
+        tables[name] = table
+    return replace(feed, tables=tables)
 
 
 def faults_in(feed: Feed, name: str) -> list[Fault]:
@@ -126,9 +150,11 @@ def faults_in(feed: Feed, name: str) -> list[Fault]:
         return [Fault(table, "missing file", "", allowed, none, none, missing=True)]
     if table.source is not None and table.source.stat().st_size > fields.MOST_BYTES:
         return [Fault(table, TOO_LONG, "", "a file has at most 1,073,741,824 bytes", none, none)]
-    lacking = [column for column in FILES[name].needed if column not in table]
+    lacking = lacking_in(table)
     if lacking:
+        sign = next((sign for sign in SIGNS if any(sign in column for column in table.columns)), None)
         allowed = f"the header has to name {', '.join(lacking)}"
+        allowed += f"; {SIGNS[sign]} separate its fields, where commas have to" if sign else ""
         return [Fault(table, "missing column", "", allowed, none, none)]
     checks = Checks(table)
     CHECKS[name](feed, checks)

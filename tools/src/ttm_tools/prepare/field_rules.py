@@ -2,17 +2,19 @@
 
 import math
 import re
-from typing import Callable, Iterable, Sequence
+from collections import Counter
+from typing import Callable, Sequence
 
 import numpy as np
 
 from ..gtfs import fields
 from ..gtfs.columns import used, values_of
-from ..gtfs.feeds import names_in, stops_of
-from ..gtfs.fields import FILES, WEEKDAYS, clock, date, number, time
+from ..gtfs.feeds import Feed, stops_of
+from ..gtfs.fields import FILES, WEEKDAYS, Layout, clock, date, number, time
+from ..gtfs.identifiers import KINDS, kind_of
 from ..gtfs.tables import Table
 from ..records import shown
-from .likely import PLACES, plain
+from .likely import COMMA, PLACES, renamed_columns
 from .repair import Repair
 from .report import Repaired
 
@@ -85,10 +87,7 @@ MENDED: dict[str, Mend] = {
 
 def mend_columns(repair: Repair, table: Table) -> None:
     """Rule `column`: a column that is read has its name again where only capitals, spaces or signs differ."""
-    layout = FILES[table.name]
-    right = (*layout.needed, *layout.taken, *(PLACES if table.name == "stops.txt" else ()))
-    lacking = {plain(column): column for column in right if column not in table}
-    names = {name: lacking.pop(plain(name), name) if name not in right else name for name in table.columns}
+    names = renamed_columns(table)
     for old, new in names.items():
         if old != new:
             repair.changes.append(Repaired(repair.label + table.name, 1, new, old, "column", f"now {new}"))
@@ -104,6 +103,38 @@ def mend_texts(repair: Repair, table: Table) -> None:
             repair.put_for(table, name, "text", right)
 
 
+def mend_spaces(repair: Repair, table: Table) -> None:
+    """Rule `spaces`: identifiers, coordinates, and fields that `ttm` reads lose the spaces around them in all files."""
+    layout = FILES.get(table.name, Layout(()))
+    if repair.told_apart is None:
+        repair.told_apart = told_apart(repair.feed)
+    for column in table.columns:
+        kind = kind_of(table.name, column)
+        if kind or column in (*layout.needed, *layout.taken, *PLACES[:2]):
+            kept = repair.told_apart.get(kind or "", set())
+            padded = [text for text in table[column].categories if text != text.strip() and text not in kept]
+            repair.put_for(table, column, "spaces", {text: text.strip() for text in padded})
+
+
+def told_apart(feed: Feed) -> dict[str, set[str]]:
+    """The identifiers of each kind that differ in spaces alone from another one of the file that gives them."""
+    found: dict[str, set[str]] = {}
+    for kind, ((name, column), *_) in KINDS.items():
+        texts = used(feed.tables[name][column]) if name in feed.tables else []
+        counts = Counter(text.strip() for text in texts)
+        found[kind] = {text for text in texts if counts[text.strip()] > 1}
+    return found
+
+
+def mend_places(repair: Repair, table: Table) -> None:
+    """Rule `comma`: decimal commas of coordinates become points, where the whole column has them."""
+    for column in PLACES[:2] if table.name == "stops.txt" else ():
+        texts = {text for text in used(table[column]) if text.strip()}
+        commas = {text for text in texts if COMMA.fullmatch(text.strip())}
+        if commas and all(text in commas or text.strip().lstrip("+-").isdigit() for text in texts):
+            repair.put_for(table, column, "comma", {text: text.strip().replace(",", ".") for text in commas})
+
+
 def mend_fields(repair: Repair, table: Table) -> None:
     """Rules `number`, `time` and `date`; dates with the year last have one reading throughout a file."""
     layout = FILES[table.name]
@@ -114,25 +145,6 @@ def mend_fields(repair: Repair, table: Table) -> None:
         wrong = [text for text in table[name].categories if read(text) == fields.NONE]
         right = {text: made_text for text in wrong if (made_text := mend(text)) is not None and read(made_text) >= 0}
         repair.put_for(table, name, rule, {**(agreed if MENDED[name] is A_DATE else {}), **right})
-
-
-def mend_names(repair: Repair, table: Table) -> None:
-    """Rule `spaces`: an identifier that is known without the spaces round it."""
-    feed = repair.feed
-    stops = names_in(feed, "stops.txt", "stop_id") or []
-    calendars = ("calendar.txt", "calendar_dates.txt")
-    services = [service for name in calendars for service in names_in(feed, name, "service_id") or []]
-    named: dict[str, dict[str, Iterable[str]]] = {
-        "trips.txt": {"route_id": names_in(feed, "routes.txt", "route_id") or [], "service_id": services},
-        "stop_times.txt": {"trip_id": names_in(feed, "trips.txt", "trip_id") or [], "stop_id": stops},
-        "frequencies.txt": {"trip_id": names_in(feed, "trips.txt", "trip_id") or []},
-        "transfers.txt": {"from_stop_id": stops, "to_stop_id": stops},
-    }
-    for column, names in named.get(table.name, {}).items():
-        known = set(names)
-        bare = {name.strip(): name for name in reversed(list(names)) if name.strip()}
-        lost = [text for text in table[column].categories if text not in known and text.strip() in bare]
-        repair.put_for(table, column, "spaces", {name: bare[name.strip()] for name in lost})
 
 
 def mend_stations(repair: Repair, table: Table) -> None:

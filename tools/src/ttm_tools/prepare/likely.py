@@ -2,6 +2,7 @@
 
 import difflib
 import re
+from pathlib import Path
 from typing import Iterator
 
 import numpy as np
@@ -28,6 +29,7 @@ PLACES = ("stop_lat", "stop_lon", "stop_name")
 
 def sentences(feed: Feed, with_days: bool = True) -> Iterator[str]:
     """What is reported of a feed in addition to its errors; its days if it has none."""
+    yield from unclosed(feed)
     yield from misspelt(feed)
     if feed.has_columns("stops.txt"):
         for some in (unplaced, with_commas, far_off, formulas):
@@ -43,6 +45,27 @@ def sentences(feed: Feed, with_days: bool = True) -> Iterator[str]:
         yield f"transfers.txt: {unused:,} of {len(table):,} rows aren't used ({why})"
 
 
+def unclosed(feed: Feed) -> Iterator[str]:
+    """Files whose last record has a quote that is never closed, so that all lines behind it are one field."""
+    for name, table in feed.tables.items():
+        if table.source is None or not len(table) or not has_odd_quotes(table.source):
+            continue
+        texts = [(column, table.text(column, len(table) - 1)) for column in table.columns]
+        lines = max(text.count("\n") for _, text in texts)
+        if lines:
+            which = f"record {table.records[-1]}: a quote is never closed"
+            yield f"{name}: {which}, so the {quantity(lines, 'line')} behind it are part of one field"
+
+
+def has_odd_quotes(path: Path) -> bool:
+    """Whether a file has an odd number of quotes."""
+    count = 0
+    with open(path, "rb") as file:
+        while block := file.read(1 << 20):
+            count += block.count(b'"')
+    return count % 2 == 1
+
+
 def misspelt(feed: Feed) -> Iterator[str]:
     """Columns whose names are nearly those that are read, where the right ones aren't there."""
     for name, table in feed.tables.items():
@@ -51,6 +74,14 @@ def misspelt(feed: Feed) -> Iterator[str]:
         for column in (column for column in table.columns if column not in right):
             for near in difflib.get_close_matches(plain(column), lacking, 1, 0.85):
                 yield f"{name}: the column {column!r} isn't read: is {lacking[near]} meant?"
+
+
+def renamed_columns(table: Table) -> dict[str, str]:
+    """Each column with the name of one that is read and lacking, if only capitals, spaces or signs differ."""
+    layout = FILES[table.name]
+    right = (*layout.needed, *layout.taken, *(PLACES if table.name == "stops.txt" else ()))
+    lacking = {plain(column): column for column in right if column not in table}
+    return {name: lacking.pop(plain(name), name) if name not in right else name for name in table.columns}
 
 
 def plain(name: str) -> str:

@@ -17,6 +17,7 @@ from .repair import repair
 from .report import Repaired
 
 MOST_LOST = 0.1  # of a file's records, that one rule may leave out
+FEW_LOST = {"transfers.txt": 10}  # records of a file without which all trips run, that may always be left out
 CALENDARS = ("calendar.txt", "calendar_dates.txt")
 NEEDED = ("stops.txt", "routes.txt", "trips.txt", "stop_times.txt")
 NO_LOSS = "same"  # the rule that leaves out a record of which another one is there
@@ -48,7 +49,7 @@ def losses(before: Mapping[str, int], changes: Sequence[Repaired], feed: Feed) -
     lost = [change for change in changes if change.done.endswith("left out") and change.rule != NO_LOSS]
     files = ["trips.txt" if it.done.startswith("trip ") else it.file.rpartition("/")[2] for it in lost]
     for (rule, name), count in Counter(zip((change.rule for change in lost), files)).items():
-        if count > MOST_LOST * before[name]:
+        if count > max(MOST_LOST * before[name], FEW_LOST.get(name, 0)):
             yield f"rule {rule} removes {count:,} of {before[name]:,} records of {name}"
     for name in NEEDED:
         if not len(feed.get(name)):
@@ -57,16 +58,17 @@ def losses(before: Mapping[str, int], changes: Sequence[Repaired], feed: Feed) -
         yield f"{' and '.join(CALENDARS)} have no records"
 
 
-def no_runs(feed: Feed, day: datetime.date | None = None) -> str | None:
-    """What is reported where no trip runs: on a day, or on any."""
+def no_runs(feed: Feed, *chosen: datetime.date) -> str | None:
+    """What is reported where no trip runs: on some days that follow one another, or on any."""
     days = days_of(feed)
     busy = np.flatnonzero(runs_by_day(feed, days)).tolist()
-    if day is None:
+    if not chosen:
         return None if busy else likely.NO_RUNS
-    if (on_days(feed, [day]) & (runs_of_trips(feed) > 0)).any():
+    if (on_days(feed, list(chosen)) & (runs_of_trips(feed) > 0)).any():
         return None
     others = f"only from {days.day(busy[0])} to {days.day(busy[-1])}" if busy else "or on any other day"
-    return f"no trip runs on {day}, {others}"
+    span = f"on {chosen[0]}" if len(chosen) == 1 else f"from {chosen[0]} to {chosen[-1]}"
+    return f"no trip runs {span}, {others}"
 
 
 def sentences(feed: Feed, has_faults: bool) -> Iterator[str]:

@@ -13,13 +13,13 @@ from ..faults import BadInput, quantity
 from ..files import is_free, many_written_aside
 from ..gtfs import fields
 from ..gtfs.columns import positions_of
-from ..gtfs.feeds import Feed, names_in, read_feed, write_feed
+from ..gtfs.feeds import Feed, names_in, read_feed, refuse_planned, write_feed
 from ..gtfs.fields import FILES
 from ..gtfs.service_days import on_days, runs_of_trips
 from ..records import write_rows
 from .check import check
 from .clip import Clip, clip, near
-from .likely import of_days
+from .likely import of_days, unclosed
 from .losses import Hints, counts_of, left, no_runs, refuse_day, refuse_losses
 from .merge import merge
 from .repair import repair
@@ -42,6 +42,7 @@ class PrepareOptions:
     allows_loss: bool = False  # also where a repair takes much of a file, or no trip runs
     day: datetime.date | None = None  # of the departures, on which trips are to run
     same_clock: bool = False  # whether feeds of several time zones are merged
+    takes_planned: bool = False  # also the folder of a plan's feed, since scenario files go with it
     hints: Hints = Hints()  # what errors say that you can do
 
 
@@ -50,12 +51,14 @@ def make(options: PrepareOptions, room: Path) -> list[str]:
     is_free(Path(options.out))
     changes, lines, feeds = list[Repaired](), list[str](), list[Feed]()
     for number, path in enumerate(options.paths):
+        if not options.takes_planned:
+            refuse_planned(path)
         feed = read_feed(path, room / str(number), lambda stops: near(stops, options.clip))
         before = counts_of(feed)
         found = repair(feed, f"{feed.name}/" if len(options.paths) > 1 else "") if options.mends else []
-        done = sorted(found, key=lambda fault: (ORDER[fault.file.rpartition("/")[2]], fault.record))
+        done = sorted(found, key=lambda fault: (ORDER.get(fault.file.rpartition("/")[2], len(ORDER)), fault.record))
         hint = options.hints.after_repair if options.mends else options.hints.errors
-        refuse(path, [fault for fault in check(feed) if not fault.is_limit], hint)
+        refuse(path, [fault for fault in check(feed) if not fault.is_limit], hint, unclosed(feed))
         if done and not options.allows_loss:
             refuse_losses(path, before, done, feed, options.hints)
         changes += done
@@ -63,13 +66,16 @@ def make(options: PrepareOptions, room: Path) -> list[str]:
         feeds.append(feed)
     feed, merged = merge(feeds, options.same_clock) if len(feeds) > 1 else (feeds[0], [])
     lines += [*merged, *(of_days(feed) if changes else [])]
+    which, without_runs = options.paths[0] if len(feeds) == 1 else "the feeds", no_runs(feed, *options.clip.days)
     if not options.allows_loss:
-        refuse_day(options.paths[0] if len(feeds) == 1 else "the feeds", feed, options.day, options.hints)
+        refuse_day(which, feed, options.day, options.hints)
     if options.clip.is_any:
         lines += clip(feed, options.clip)
         empty = None if options.allows_loss or options.day is None else no_runs(feed, options.day)
         if empty:  # no trip of what was clipped runs on the day of the departures
             raise BadInput(options.out, f"no service is left: {empty} ({options.hints.empty})")
+    if without_runs and not options.allows_loss:
+        raise BadInput(which, f"{without_runs} ({options.hints.loss})")
     refuse_limits(feed)
     with many_written_aside(options.out) as folder:
         write_feed(feed, folder)

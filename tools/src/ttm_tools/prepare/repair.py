@@ -10,11 +10,14 @@ import numpy.typing as npt
 from ..gtfs.columns import one_of, texts_at
 from ..gtfs.feeds import Feed
 from ..gtfs.fields import FILES, Mask
-from ..gtfs.tables import Table
+from ..gtfs.identifiers import NAMING
+from ..gtfs.tables import Table, read_table
+from ..records import names_of
 from .report import Repaired
 from .rules import OF_FIELDS, RULES
 
 Rows = npt.NDArray[np.intp]
+SPACES = "spaces"  # the rule that concerns all files of a feed
 
 
 @dataclass
@@ -25,6 +28,7 @@ class Repair:
     label: str = ""  # before the names of files, where there are several feeds
     changes: list[Repaired] = field(default_factory=list)
     gone: set[str] = field(default_factory=set)  # trips that were removed
+    told_apart: dict[str, set[str]] | None = None  # by kind, identifiers whose spaces count
 
     def note(self, table: Table, rows: Rows, column: str, rule: str, done: Sequence[str]) -> None:
         """Notes what a rule does to some records, while they are as they were."""
@@ -75,10 +79,24 @@ def repair(feed: Feed, label: str = "") -> list[Repaired]:
     repaired = Repair(feed, label)
     for table in feed.tables.values():
         apply(repaired, table, is_of_fields=True)
+    if any(change.rule == SPACES for change in repaired.changes):
+        trim_others(repaired)
     for name in FILES:
         if feed.has_columns(name):
             apply(repaired, feed.tables[name], is_of_fields=False)
     return repaired.changes
+
+
+def trim_others(repaired: Repair) -> None:
+    """Trims what names stops, routes, trips and the like in the files that `ttm` doesn't read."""
+    feed, mend = repaired.feed, getattr(importlib.import_module(".field_rules", __package__), "mend_spaces")
+    for name in sorted(feed.others):
+        if name.endswith(".txt") and set(names_of(feed.others[name])) & NAMING.keys():
+            table = read_table(name, feed.others[name])
+            mend(repaired, table)
+            if table.source is None:
+                feed.tables[name] = table
+                del feed.others[name]
 
 
 def apply(repaired: Repair, table: Table, is_of_fields: bool) -> None:

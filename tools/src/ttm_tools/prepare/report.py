@@ -1,7 +1,7 @@
 """What a check found, as lines and as a table; and what was repaired."""
 
 from dataclasses import dataclass
-from typing import Iterator, Sequence
+from typing import Iterable, Iterator, Sequence
 
 import numpy as np
 
@@ -43,9 +43,12 @@ def fault_lines(faults: Sequence[Fault]) -> Iterator[str]:
         yield f"  {found}{fault.allowed}{often}"
 
 
-def refuse(path: str, faults: Sequence[Fault], hint: str) -> None:
-    """Reports the first of some errors, and how many there are."""
+def refuse(path: str, faults: Sequence[Fault], hint: str, causes: Iterable[str] = ()) -> None:
+    """Reports the first of some errors, and how many there are; or the first cause of them that is known."""
     if faults:
+        cause = next(iter(causes), None)
+        if cause is not None:
+            raise BadInput(path, cause)
         count, first = sum(map(len, faults)), next(fault_lines(faults)).removeprefix("ttm: ")
         raise BadInput(path, f"{quantity(count, 'error')}{', the first' if count > 1 else ''}: {first} ({hint})")
 

@@ -7,7 +7,7 @@ record is found in turn, identifiers, what is still refused, and whole trips.
 import textwrap
 from dataclasses import dataclass
 
-OF_FIELDS = tuple(f"field_rules.mend_{name}" for name in ("columns", "texts", "fields"))  # first, in all files
+OF_FIELDS = tuple(f"field_rules.mend_{name}" for name in ("columns", "texts", "spaces", "places", "fields"))  # first
 WIDTHS = 10, 63, 39  # of the columns of --help
 DATES = (
     "`2026-05-04`, `2026/5/4`; `31.12.2026` and `31/12/2026`, if all dates of the file agree on the order of day and"
@@ -30,6 +30,15 @@ FUNCTIONS = {  # by the name of each function its rules: what each finds, and wh
         "column": ("a known column's name with other capitals, spaces or signs", "corrects it"),
     },
     "field_rules.mend_texts": {"text": ("a text, not an identifier, that isn't UTF-8", "reads it as Windows-1252")},
+    "field_rules.mend_spaces": {
+        "spaces": (
+            "spaces around an identifier, a coordinate or a field that `ttm` reads, in all files of the feed",
+            "removes them, but for identifiers that differ in spaces alone",
+        ),
+    },
+    "field_rules.mend_places": {
+        "comma": ("`51,5` as a coordinate, if all of the column have a decimal comma", "writes a point"),
+    },
     "field_rules.mend_fields": {
         "number": (
             "`1.0` and `+1`; headways and transfer times with decimals",
@@ -38,7 +47,6 @@ FUNCTIONS = {  # by the name of each function its rules: what each finds, and wh
         "time": ("`8:5:00`, `8:05`, `08:05:00.0`", "writes it as `ttm` reads it"),
         "date": (DATES, "writes it as `ttm` reads it"),
     },
-    "field_rules.mend_names": {"spaces": ("an identifier that is known without its spaces", "removes them")},
     "field_rules.mend_stations": {
         "station": (
             "a call at a station or a boarding area",

@@ -23,9 +23,9 @@ GridCells = npt.NDArray[np.int64]  # columns and rows of a grid
 
 
 def limits_of(isochrones: Iterable[Any]) -> list[datetime.timedelta]:
-    """The limits, ascending; whole numbers are minutes, and 0 bounds no area."""
+    """The limits, ascending; numbers are minutes, and 0 bounds no area."""
     limits = {
-        limit if isinstance(limit, datetime.timedelta) else datetime.timedelta(minutes=int(limit))
+        limit if isinstance(limit, datetime.timedelta) else datetime.timedelta(minutes=float(limit))
         for limit in isochrones
     }
     found = sorted(

@@ -30,7 +30,9 @@ def ends_of(
     frames = [origins] if destinations is None or destinations is origins else [origins, destinations]
     if snaps is not False:
         radius = NEAR if snaps is True else float(snaps)
-        frames = [frame.assign(geometry=network.snap_to_network(frame.geometry, radius)) for frame in frames]
+        frames = [
+            frame.assign(**{frame.geometry.name: network.snap_to_network(frame.geometry, radius)}) for frame in frames
+        ]
     places = [places_of(name, frame) for name, frame in zip(("origins", "destinations"), frames)]
     return places[0], places[-1], frames[0], frames[-1]
 

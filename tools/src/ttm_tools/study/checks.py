@@ -8,6 +8,7 @@ from ..faults import BadInput
 from ..measures.opportunities import called, columns_of, numbers_of
 from ..parts import origins_in, origins_of_feed
 from ..points import read_points
+from ..prepare import likely
 from ..prepare.check import check
 from ..prepare.losses import Hints, refuse_day
 from ..gtfs.feeds import read_feed
@@ -69,6 +70,12 @@ def check_runs(study: Study, folder: str, days: Sequence[datetime.date]) -> None
         feed = read_feed(folder, aside)
         for day in days if not check(feed) else ():
             refuse_day(study.at(study.feed.files[0]), feed, day, HINTS)
+
+
+def feed_warnings(study: Study, folder: str) -> list[str]:
+    """What `ttm-tools prepare --check` reports of a feed that is ready, but for its days."""
+    with room(study.folder) as aside:
+        return [f"warning: {sentence}" for sentence in likely.sentences(read_feed(folder, aside), with_days=False)]
 
 
 def names_of(files: dict[str, list[str]]) -> set[str]:

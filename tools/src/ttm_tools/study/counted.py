@@ -3,16 +3,20 @@ those where they begin.
 """
 
 import os
+from decimal import Decimal
 from pathlib import Path
 from typing import Sequence
 
-from ..faults import BadInput, quantity
+import numpy as np
+
+from ..faults import BadInput
 from ..files import sum_of
+from ..gtfs.fields import Floats
 from ..measures.opportunities import OWN_NAME, Counts, called, columns_of, read_counts
 from ..parts import origins_in
 from ..points import read_points
 from ..points.table import plain
-from ..records import Rounded, rows as table_rows, shown, write_rows
+from ..records import Rounded, names_of, rows as table_rows, shown, write_rows
 from .sources import Sources
 from .stages import Record, Stage
 from .settings import Study
@@ -21,6 +25,8 @@ ORIGINS, OPPORTUNITIES = "inputs/origins.csv", "inputs/opportunities.csv"
 COUNTED, PEOPLE = "inputs/counted/opportunities.csv", "inputs/people.csv"
 OF_POINTS = "point of the study"
 NOT_COUNTED = "not counted, at"
+SCALE = "scale"  # a column of `OPPORTUNITIES`
+MOST_COUNTED = 4_000_000_000
 
 
 def columns_or_none(path: str) -> list[str]:
@@ -125,21 +131,50 @@ def write_counts(path: Path, stops: Sequence[str], counts: Counts) -> None:
         write_rows(file, ["stop_id", *counts.names], lines)
 
 
+def scale_of(numbers: Floats) -> int:
+    """The power of ten that makes numbers whole, as far as `ttm` counts: their sum stays below `MOST_COUNTED`."""
+    scale = 1
+    while np.abs(numbers * scale - np.rint(numbers * scale)).max(initial=0) > 1e-6 * scale:
+        if numbers.sum() * scale * 10 > MOST_COUNTED:
+            break
+        scale *= 10
+    return scale
+
+
+def times(number: str, scale: int) -> str:
+    """A number times a scale, without errors of floating point."""
+    return str(Decimal(number) * scale)
+
+
+def scale_in(path: str) -> int:
+    """By what the counts in a file of `opportunities_stage` were multiplied."""
+    if SCALE not in names_of(path):
+        return 1
+    return next((int(scale) for _, (scale,) in table_rows(path, [SCALE])), 1)
+
+
 def opportunities_stage(study: Path, counted: Record, column: str) -> Stage:
-    """What `ttm` counts at each place, in whole numbers."""
+    """What `ttm` counts at each place, in whole numbers: times a power of ten if there are decimals."""
     path = str(study / COUNTED)
 
     def make() -> list[str]:
-        rounded = Rounded()
-        rows = [
-            [stop, rounded.whole(number, path, record, column, up=False)]
-            for record, (stop, number) in table_rows(path, ["stop_id", column])
+        stated = list(table_rows(path, ["stop_id", column]))
+        numbers = np.array([float(number) for _, (_, number) in stated])
+        scale, rounded = scale_of(numbers), Rounded()
+        counts = {
+            stop: rounded.whole(times(number, scale), path, record, column, up=False)
+            for record, (stop, number) in stated
             if number != "0"
-        ]
+        }
+        more = [scale] if scale > 1 else []
+        rows = [[stop, count, *more] for stop, count in counts.items()]
         with open(study / OPPORTUNITIES, "wb") as file:
-            write_rows(file, ["stop_id", OWN_NAME], rows)
-        whole = f"; {quantity(rounded.count, 'number')} with decimals rounded" if rounded.count else ""
-        return [f"{OPPORTUNITIES}: {shown(column)} at {len(rows):,} places{whole}"]
+            write_rows(file, ["stop_id", OWN_NAME, *([SCALE] if more else [])], rows)
+        total = sum(counts.values()) / scale
+        scaled = f", times {scale:,} for ttm; access is divided by that" if scale > 1 else ""
+        lost = float(numbers.sum()) - total
+        whole = f"; rounded, {plain(round(total, 6))} of {plain(round(total + lost, 6))}" if abs(lost) > 1e-6 else ""
+        return [f"{OPPORTUNITIES}: {shown(column)} at {len(rows):,} places{scaled}{whole}"]
 
     facts = {"column": column, "counted": counted.outputs}
     return Stage("opportunities", facts, [OPPORTUNITIES], make)

@@ -9,13 +9,14 @@ from pathlib import Path
 from ..engine import Run
 from ..faults import BadInput
 from ..files import copy_file, many_written_aside
+from ..gtfs.feeds import refuse_planned
 from ..matrices import BASE, TODAY
 from ..parts import origins_in, origins_of_feed, write_stops
 from ..opening.paths import inside
 from ..plans import make as plans
 from ..points import study as points
 from ..prepare.clip import Clip
-from .checks import HINTS, check_origins, check_points, check_runs, check_stops
+from .checks import HINTS, check_origins, check_points, check_runs, check_stops, feed_warnings
 from .counted import (
     OPPORTUNITIES,
     ORIGINS,
@@ -25,6 +26,7 @@ from .counted import (
     opportunities_stage,
     own_columns,
     people_stage,
+    scale_in,
 )
 from .run import dates_of, days_of, name_of, run_of, shown_names
 from .sources import Sources
@@ -75,6 +77,11 @@ class Inputs:
         named = {*self.scenarios, *map(str, self.run.files.values())}
         known = sums_of(self.records).items()
         return {name: was for name, was in known if name in named or name.startswith(f"{self.feed}/")}
+
+    @property
+    def scale(self) -> int:
+        """By what the counts were multiplied that `ttm` adds up."""
+        return scale_in(self.at(OPPORTUNITIES)) if "opportunities" in self.run.files else 1
 
     @property
     def stops_sum(self) -> str:
@@ -197,19 +204,30 @@ def feed_stage(maker: Maker) -> Stage:
     clip = Clip(settings.box, area, settings.routes, settings.agencies, days)
 
     def make() -> list[str]:
+        takes_planned = bool(study.scenarios.files)
+        for path in () if takes_planned else paths:
+            refuse_planned(path)
         if settings.ready:
             sentences = taken(paths[0], study.folder)
             check_runs(study, out, dates)
-            return sentences
+            return [*sentences, *feed_warnings(study, out)]
         from ..prepare.make import PrepareOptions, make as make_ready
 
         with room(study.folder) as folder:
             options = PrepareOptions(
-                paths, out, settings.repair, clip, settings.allow_loss, dates[0], settings.same_clock, HINTS
+                paths,
+                out,
+                settings.repair,
+                clip,
+                settings.allow_loss,
+                dates[0],
+                settings.same_clock,
+                takes_planned,
+                HINTS,
             )
             sentences = make_ready(options, folder)
         check_runs(study, out, dates[1:])
-        return sentences
+        return [*sentences, *feed_warnings(study, out)]
 
     wish = asdict(replace(settings, files=(), area=None))  # whatever its files are called
     depends = {"wish": wish, "days": [str(day) for day in [*dates, *days]]}

@@ -2,6 +2,7 @@
 
 import itertools
 from bisect import bisect_right
+from dataclasses import dataclass
 from typing import Mapping, Sequence
 
 import numpy as np
@@ -18,10 +19,26 @@ from .cutting import Part
 MATRIX, CSV = "matrix.omx", "matrix.csv"
 
 
-class Joined(Matrix):
-    """The matrices of parts, one behind the other, as one matrix."""
+@dataclass(frozen=True)
+class ShownMatrix:
+    """What a study shows of the matrix of its run."""
 
-    def __init__(self, parts: Sequence[Part], shown_as: Mapping[str, str] | None = None) -> None:
+    shown_as: Mapping[str, str]  # the scenarios by the names that the study gives them
+    columns: Sequence[str]  # the only columns, if there are any
+    scale: int = 1  # by what sums of access are divided
+
+
+def unscaled(sums: Sums, scale: int) -> Sums:
+    """Sums of counts that were multiplied, divided again and rounded to whole numbers."""
+    found: Sums = sums if scale == 1 else np.rint(sums / scale).astype(sums.dtype)
+    return found
+
+
+class Joined(Matrix):
+    """The matrices of parts, one behind the other, as one matrix, whose sums of access are divided by a scale."""
+
+    def __init__(self, parts: Sequence[Part], shown_as: Mapping[str, str] | None = None, scale: int = 1) -> None:
+        self.scale = scale
         self.parts = [CsvMatrix(str(part.matrix)) for part in parts]
         first = self.parts[0]
         self.path, self.layout = first.path, first.layout
@@ -42,7 +59,8 @@ class Joined(Matrix):
         return self.names.get((scenario, share), [])
 
     def access(self, scenario: str, share: Share) -> Sums:
-        return np.concatenate([part.access(self.called[scenario], share) for part in self.parts])
+        sums = np.concatenate([part.access(self.called[scenario], share) for part in self.parts])
+        return unscaled(sums, self.scale)
 
     def rows(self, scenario: str, share: Share, begin: int, end: int) -> Seconds:
         found = [np.zeros((0, len(self.stops)), np.float32)]
@@ -63,19 +81,20 @@ def refuse_changed(parts: Sequence[Part], threads: int) -> None:
             raise BadInput(part.matrix, "changed since it was written; the same command computes it again")
 
 
-def join_parts(
-    parts: Sequence[Part], with_csv: bool, shown_as: Mapping[str, str], shown: Sequence[str], threads: int, path: str
-) -> list[str]:
+def join_parts(parts: Sequence[Part], with_csv: bool, shown: ShownMatrix, threads: int, path: str) -> list[str]:
     """Writes the matrix of all parts, which are looked at once more, with the scenarios that are shown, and those
     columns alone that a study shows, if there are any.
     """
     refuse_changed(parts, threads)
-    joined = Joined(parts, shown_as)
-    matrix = Chosen(joined, shown) if shown else joined
+    joined = Joined(parts, shown.shown_as, shown.scale)
+    matrix = Chosen(joined, shown.columns) if shown.columns else joined
     write_open_matrix(matrix, path, threads)
-    sentences = [f"{path}: {joined.begins[-1]:,} origins, {len(matrix.stops):,} {'points' if shown else 'stops'}"]
+    sentences = [
+        f"{path}: {joined.begins[-1]:,} origins, {len(matrix.stops):,} {'points' if shown.columns else 'stops'}"
+    ]
     if with_csv:
         with output(str(parts[0].study / CSV)) as file:
             write_whole([PartMatrix(str(part.matrix)) for part in parts], file)
-        sentences.append(f"{CSV}: the bytes of one run")
+        scaled = f", whose access is {shown.scale:,} times what the study shows" if shown.scale > 1 else ""
+        sentences.append(f"{CSV}: the bytes of one run{scaled}")
     return sentences

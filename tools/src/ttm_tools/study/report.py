@@ -80,7 +80,7 @@ def report_of(whole: StudyMatrix, records: Records) -> Document:
         document.code(lines)
         warnings += [line for line in lines if line.startswith("warning") and line not in warnings]
     lines = [line for record in inputs.records.values() for line in record.lines]
-    warnings += [line for line in lines if any(sign in line for sign in MISSED)]
+    warnings += [line for line in lines if line.startswith("warning") or any(sign in line for sign in MISSED)]
     document.paragraph("Warnings: " + ("; ".join(warnings) if warnings else "none."))
     document.heading("What is proved, and what isn't")
     for text in PROVED:

@@ -18,7 +18,8 @@ from ..opening.paths import as_one_line
 from ..parts import origins_in, parts_of, write_stops
 from ..records import shown
 from .cutting import PARTS
-from .joining import CSV, MATRIX
+from .counted import scale_in
+from .joining import CSV, MATRIX, unscaled
 from .notes import NOTES, read_notes
 from .stages import LOCK, RECORDS, Folder, held, room
 from .ttm import found_program, version_of
@@ -114,17 +115,25 @@ def compare_again(
         for matrix in kept:
             names = shown_as if not isinstance(matrix, CsvMatrix) else {}
             for name, share in itertools.product(matrix.scenarios, matrix.shares):
-                refuse_other(matrix, again, ((name, share), (names.get(name, name), share)), origins)
+                scale = 1 if isinstance(matrix, CsvMatrix) else scale_of_run(run)
+                refuse_other(matrix, again, ((name, share), (names.get(name, name), share)), origins, scale)
 
 
-def refuse_other(matrix: Matrix, again: CsvMatrix, keys: tuple[Any, Any], origins: Sequence[str]) -> None:
+def scale_of_run(run: Run) -> int:
+    """By what the counts of a run were multiplied."""
+    return scale_in(str(run.files["opportunities"])) if "opportunities" in run.files else 1
+
+
+def refuse_other(
+    matrix: Matrix, again: CsvMatrix, keys: tuple[Any, Any], origins: Sequence[str], scale: int = 1
+) -> None:
     """Refuses the first row whose bytes are others, of a scenario and a share by what they are called in both."""
     key, own = keys
     places = {name: place for place, name in enumerate(matrix.origins(*key))}
     if again.origins(*own) != list(origins):
         raise BadInput(matrix.path, f"{shown(key[0])} isn't what ttm computes now: it has other rows")
     chosen = np.array([places[name] for name in origins], dtype=np.intp)
-    sums = matrix.access(*key)[chosen] == again.access(*own)
+    sums = matrix.access(*key)[chosen] == unscaled(again.access(*own), scale)
     for row, (origin, place) in enumerate(zip(origins, chosen.tolist())):
         if not sums[row].all() or bytes_of(matrix, key, place) != bytes_of(again, own, row, matrix):
             message = f"share {key[1]}, origin {shown(origin)} isn't what ttm computes"

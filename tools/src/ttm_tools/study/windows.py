@@ -12,7 +12,7 @@ from .asking import KeptNetwork
 from .cutting import FIRST, PARTS, Part, Shape, cut_of, parts_for, remove_others, remove_windows, study_key
 from .elsewhere import Means, run_elsewhere
 from .inputs import Inputs
-from .joining import CSV, MATRIX, join_parts
+from .joining import CSV, MATRIX, ShownMatrix, join_parts
 from .running import Failed, refuse_failed, run_parts
 from .sources import refuse_other_sums
 from .stages import Folder, Record, Stage
@@ -82,8 +82,8 @@ def matrix_stage(
         else:
             failed = runner(task.run, parts, shape)
         refuse_failed(failed, len(parts))
-        shown_as, shown = inputs.shown_as, inputs.destinations
-        return join_parts(parts, with_csv, shown_as, shown, means.threads, inputs.at(path))
+        shown = ShownMatrix(inputs.shown_as, inputs.destinations, inputs.scale)
+        return join_parts(parts, with_csv, shown, means.threads, inputs.at(path))
 
     depends = {"study": key, "origins": inputs.outputs_of("origins"), "form": FORM}
     depends |= {"shown": inputs.destinations, "shown_as": inputs.shown_as}

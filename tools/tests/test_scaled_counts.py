@@ -1,0 +1,59 @@
+"""Counts with decimals, which `ttm` adds up in whole numbers: no sum differs from its source by more than a half."""
+
+
+import numpy as np
+import pytest
+
+from helpers import Room, read
+from test_points import PACE, feed, place
+from ttm_tools.study import joining
+from ttm_tools.study.counted import COUNTED, OPPORTUNITIES, opportunities_stage, scale_in, scale_of
+from ttm_tools.study.stages import Record
+
+
+def written(room: Room, numbers: list[str]) -> tuple[list[dict[str, str]], str]:
+    """What `ttm` gets of counts of people, and what is said of it."""
+    (room.folder / "inputs" / "counted").mkdir(parents=True)
+    room.write(COUNTED, "stop_id,people", [[f"c{place}", number] for place, number in enumerate(numbers)])
+    (line,) = opportunities_stage(room.folder, Record("", {}, [], 0.0), "people").make()
+    return read((room.folder / OPPORTUNITIES).read_text()), line
+
+
+def test_counts_with_decimals_are_scaled(room: Room) -> None:
+    # 717 people in 1,489 cells are 0.481.. each, all below a half
+    rows, line = written(room, ["0.481"] * 1488 + ["1.272"])
+    assert sum(int(row["opportunities"]) for row in rows) == 717_000 == 1000 * round(1488 * 0.481 + 1.272)
+    assert scale_in(room.path(OPPORTUNITIES)) == 1000
+    assert line == f"{OPPORTUNITIES}: people at 1,489 places, times 1,000 for ttm; access is divided by that"
+
+
+def test_whole_counts_are_as_before(room: Room) -> None:
+    rows, line = written(room, ["3", "0", "4"])
+    assert (room.folder / OPPORTUNITIES).read_text() == "stop_id,opportunities\nc0,3\nc2,4\n"
+    assert (scale_in(room.path(OPPORTUNITIES)), line) == (1, f"{OPPORTUNITIES}: people at 2 places")
+
+
+def test_what_is_rounded_all_the_same_is_reported(room: Room) -> None:
+    # a scale of 10 would make 40,000,000,001 of the sum
+    _, line = written(room, ["3999999999.4", "0.3", "0.4"])
+    assert line == f"{OPPORTUNITIES}: people at 3 places; rounded, 3999999999 of 4000000000.1"
+
+
+@pytest.mark.parametrize("numbers, scale", [([1, 2], 1), ([0.5], 10), ([0.125, 2], 1000), ([1 / 3], 1_000_000)])
+def test_the_scale_is_a_power_of_ten(numbers: list[float], scale: int) -> None:
+    assert scale_of(np.array(numbers)) == scale
+
+
+def test_sums_are_divided_where_parts_are_joined() -> None:
+    assert joining.unscaled(np.array([[1499, 1501], [0, 2000]]), 1000).tolist() == [[1, 2], [0, 2]]
+    sums = np.array([[3, 4]])
+    assert joining.unscaled(sums, 1) is sums
+
+
+def test_points_say_what_rounding_changes(room: Room) -> None:
+    rows = [[f"p{number}", *place(10 + number, 0), 0.3, 1] for number in range(10)]
+    points = room.write("cells.csv", "id,lat,lon,people,jobs", rows)
+    _, errors, status = room.ran("points", feed(room), points, "--out", room.path("doors"), "--limit", "300", *PACE)
+    assert status == 0
+    sentence = "rounded, ttm counts 0 people instead of 3: use ttm-tools access, which counts decimals"
+    assert [line for line in errors.splitlines() if line.startswith("rounded")] == [sentence]
