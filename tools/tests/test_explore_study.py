@@ -79,14 +79,14 @@ def test_what_is_not_shown_is_said(study: Path, capsys: pytest.CaptureFixture[st
     options(str(study))
     assert capsys.readouterr().err.splitlines() == [
         "dates: the page shows 2026-05-04, not 2026-05-09: name another with --date",
-        "windows: the page begins with peak, 08:05 to 08:20, not with evening, 18:00 to 18:59: name another with --from "
-        "and --to, or move its sliders",
+        "windows: the page begins with peak, 08:05 to 08:20, not with evening, 18:00 to 18:59: name another with "
+        "--from and --to, or move its sliders",
     ]
     options(str(study), "--date", "2026-05-09", "--from", "18:00", "--to", "18:59")
     assert capsys.readouterr().err == ""
     study.write_text(study.read_text().replace('plan = "plan.toml"', 'files = ["cut.csv"]'))
     (study.parent / "cut.csv").touch()
-    options(str(study), "--date", "2026-05-09", "--from", "18:00")
+    options(str(study), "--date", "2026-05-09", "--from", "08:06")
     said = "scenarios: the page does not show the scenario files cut.csv: name a plan with --plan\n"
     assert capsys.readouterr().err == said
 
