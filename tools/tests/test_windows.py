@@ -94,6 +94,30 @@ def test_the_matrix_of_a_window_is_that_of_a_study_of_its_own(place: Place) -> N
     same_matrix(place, "nine/windows/20260505_early.omx", "own/matrix.omx")
 
 
+def test_a_study_compares_its_scenarios_in_each_window(place: Place) -> None:  # noqa: F811
+    """At 08:25 the bus back is five minutes away. Without it, within ten minutes, S8 loses S6 to S3, S7 loses S5 to S3,
+    S6 loses S4 and S3, and S5 loses S3; of 45 people 9, 8, 7 and 6 live there. At 08:00 it is too far away for all.
+    """
+    study = DAY.replace("compare = false\n", "").replace(
+        '"night", from = "21:00", to = "21:01"', '"late", from = "08:25", to = "08:25"'
+    )
+    assert place.ran("study", laid_out(place, study))[2] == 0
+    lost = 9 * (600 + 500 + 400 + 300 + 1.6) + 8 * (500 + 400 + 300 + 1.2) + 7 * (400 + 300 + 0.8) + 6 * 300.4
+    kind = {"opportunity": "jobs", "cutoff": "10", "scenario": "cut"}
+    lines = [row for row in table(place, "compare.csv") if kind.items() <= row.items()]
+    found = [(line["date"][-1], line["window"], line["lose"], line["gain"], line["mean_change"]) for line in lines]
+    assert found == [
+        ("4", "early", "0", "0", "0.0000"),
+        ("4", "late", "4", "0", f"{-lost / 45:.4f}"),
+        ("5", "early", "0", "0", "0.0000"),
+        ("5", "late", "4", "0", f"{-lost / 45:.4f}"),
+    ]
+    report = Path(place.path("nine/report.md")).read_text()
+    comparison = report[report.index("### cut compared with base") :]
+    assert comparison.index("windows/compare.csv") < comparison.index("In the first window, 2026-05-04, early")
+    assert "of 9 origins 0 lose, 0 gain" in comparison[comparison.index("In the first window") :]
+
+
 def same_matrix(place: Place, one: str, other: str) -> None:  # noqa: F811
     first, second = (open_matrix(place.path(name)) for name in (one, other))
     assert first.scenarios == second.scenarios == ["base", "cut"]
