@@ -35,7 +35,7 @@ def test_access_alone_is_compared(town: Town) -> None:
     town.matrix(ALONE)
     out, errors, status = town.ran("compare", "--by", "origin", "--within", "1800", town.file)
     assert status == 0
-    assert "access: of 2 origins 1 loses, 0 gain; in all -2" in out + errors
+    assert "access within 30 minutes, percentile 50: of 2 origins 1 loses, 0 gain; in all -2" in out + errors
     assert "of 0 pairs 0 cut off" in out + errors
 
 

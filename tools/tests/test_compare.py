@@ -42,7 +42,8 @@ def test_by_origin_the_greatest_loss_of_access_comes_first(town: Town, second_fo
     town.matrix(town_matrix(second_form))
     out, errors, _ = town.ran("compare", "--by", "origin", town.file)
     assert out == BY_ORIGIN + "A,3,2,-1,-33.3,1,1,0,0\nD,3,4,1,33.3,0,0,1,1\n"
-    assert errors.splitlines()[1] == "access: of 2 origins 1 loses, 1 gains; in all +0"
+    of = "access within 30 minutes, percentile 50" if second_form else "access"  # the first form states neither
+    assert errors.splitlines()[1] == f"{of}: of 2 origins 1 loses, 1 gains; in all +0"
 
 
 def test_winners_come_by_the_size_of_their_gain_too(town: Town) -> None:

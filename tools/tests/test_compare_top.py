@@ -68,6 +68,6 @@ def test_an_origin_that_only_crossed_a_limit_is_told_by_its_access_alone(town: T
     assert origins(town, "--listed", "access", "--least", "2") == "AB"
     assert origins(town, "--least", "2") == "ABD"
     out, errors, _ = town.ran("compare", "--by", "origin", "--least", "2", town.file)
-    said = "access: of 4 origins 1 loses, 1 gains (by 2 or more); in all -1"
+    said = "access within 30 minutes, percentile 50: of 4 origins 1 loses, 1 gains (by 2 or more); in all -1"
     assert errors.splitlines()[1] == said and "(by more than 60 seconds)" in errors
     assert town.ran("compare", "--least", "2", town.file)[2] == 2

@@ -98,3 +98,63 @@ def test_two_tabs_show_their_own_changes(tmp_path: Path) -> None:
             assert browser.text("fault") == "" and browser.complaints() == []
     finally:
         browser.close()
+
+
+@pytest.fixture(scope="module")
+def browser() -> Iterator[Browser]:
+    driver = Browser()
+    yield driver
+    driver.close()
+
+
+AREAS = """
+const found = new ReachedAreas(page), canvas = document.createElement("canvas"), ends = [];
+found.paintBand = (area, view, cells, walk, all, at) => ends.push([all[at].end, area.fillStyle]);
+Object.assign(canvas, { width: 10, height: 10 });
+found.paint(canvas.getContext("2d"), { width: 10, height: 10 }, current.now, 600);
+const shades = colours(classEnds.length + 1).map((it) => it.toLowerCase());
+return ends.map(([end, colour]) => [end, shades.indexOf(colour)]);
+"""
+
+
+def test_areas_end_where_the_slider_stands(served: Explored, browser: Browser) -> None:
+    """With bands of ten minutes, 15 minutes lie in the second band, and 75 beyond the sixth."""
+    browser.visit(served.address)
+    browser.click("A")
+    for minutes, ends in (
+        (5, [[5, 0]]),
+        (10, [[10, 0]]),
+        (15, [[15, 1], [10, 0]]),
+        (20, [[20, 1], [10, 0]]),
+        (75, [[75, 6], *([10 * end, end - 1] for end in range(6, 0, -1))]),
+    ):
+        browser.awaited(f"await set({{ minutes: {minutes} }});")
+        assert browser.run(AREAS) == ends
+    # C is reached in ten minutes: at 15 minutes one walks on for five of them
+    browser.press("#areas")
+    drawn = list[str]()
+    for minutes in (10, 15):
+        browser.awaited(f"await set({{ minutes: {minutes} }});")
+        drawn.append(browser.colour("C", right=12))
+    assert drawn[0] == "#000000" != drawn[1]
+    assert browser.complaints() == []
+
+
+def test_the_text_at_the_pointer_is_of_the_answer_that_is_shown(served: Explored, browser: Browser) -> None:
+    """From everywhere the stops take 0, 5, 10 and 15 minutes to the median, and a fraction more or less at others."""
+    from selenium.webdriver.common.action_chains import ActionChains
+
+    browser.visit(served.address)
+    browser.click("A")
+    where, (across, down) = browser.driver.find_element("id", "map"), browser.pixel("C")
+    middle = (where.size["width"] // 2, where.size["height"] // 2)
+    pointer = ActionChains(browser.driver).move_to_element_with_offset(where, across - middle[0], down - middle[1])
+    pointer.perform()
+    assert browser.text("tip") == "Gamma (C): 10 min"
+    browser.awaited("await set({ share: 4 });")  # the percentile 90: 40 seconds more
+    assert browser.text("tip") == "Gamma (C): 11 min"
+    browser.awaited("await set({ place: -1 });")
+    assert browser.text("tip") == "Gamma (C)"
+    browser.driver.execute_script("page.map.fire('mouseout')")
+    browser.awaited("await set({ place: 0 });")
+    assert browser.text("tip") == ""

@@ -7,6 +7,7 @@ import sys
 import tempfile
 import threading
 from pathlib import Path
+from typing import Any
 
 import pytest
 
@@ -133,7 +134,7 @@ def test_of_two_runs_with_one_output_the_second_is_refused(town: Town, command: 
     points = town.write("points.csv", "id,lat,lon", [["P", 0.0, 9.001]])
     more = [town.feed] if command == "walks" else [town.feed, points]
     words = [command, "--out", town.path("made"), *more]
-    how = {"stdin": subprocess.PIPE, "stdout": subprocess.PIPE}
+    how: dict[str, Any] = {"stdin": subprocess.PIPE, "stdout": subprocess.PIPE}
     with subprocess.Popen([sys.executable, "-c", WAITING, str(Path(LAUNCHER).parent / "src"), *words], **how) as run:
         assert run.stdout is not None and run.stdin is not None
         assert run.stdout.readline() == b"begun\n"

@@ -4,10 +4,13 @@ The stops lie 435 seconds of walking apart, and the stop Sk has 100 k + 0.4 jobs
 08:00 and takes three minutes to each next stop; another one leaves S8 at 08:30 and takes a minute back to each stop.
 """
 
+import io
 import json
 import os
 import random
+import tempfile
 from pathlib import Path
+from typing import Any
 
 import numpy as np
 import pytest
@@ -19,12 +22,24 @@ from ttm_tools.conversation import Answer
 from ttm_tools.engine import Run
 from ttm_tools.files import Interrupted
 from ttm_tools.matrices import open_matrix
+from ttm_tools.measures.access_table import AccessKind, AccessTable
+from ttm_tools.measures.opportunities import Counts
 from ttm_tools.study.asking import KeptNetwork, PartQuestion, kept_arguments, question_of
 from ttm_tools.study.cutting import Shape, parts_for, remove_parts, remove_windows
 from ttm_tools.study.elsewhere import Means
+from ttm_tools.study.kinds import Window
+from ttm_tools.study.settings import DayWindow
 from ttm_tools.study.study_file import read_study
+from ttm_tools.study.window_changes import changes_of, write_changes
 from ttm_tools.study.work import make_study
-from ttm_tools.views.windows import WindowColumn, FigureLabels, figure_by_time, figure_of_heat, levels
+from ttm_tools.views.windows import (
+    WindowColumn,
+    FigureLabels,
+    figure_by_time,
+    figure_of_heat,
+    figure_of_maps,
+    levels,
+)
 
 WINDOWS = (
     'windows = [{ name = "early", from = "08:00", to = "08:00" }, { name = "night", from = "21:00", to = "21:01" }]'
@@ -77,6 +92,30 @@ def test_the_matrix_of_a_window_is_that_of_a_study_of_its_own(place: Place) -> N
     place.say(STUDY.replace(ONE, one).replace("csv = true", "compare = false\nmaps = false"))
     assert place.ran("study", place.path("nine.toml"), "--out", place.path("own"))[2] == 0
     same_matrix(place, "nine/windows/20260505_early.omx", "own/matrix.omx")
+
+
+def test_a_study_compares_its_scenarios_in_each_window(place: Place) -> None:  # noqa: F811
+    """At 08:25 the bus back is five minutes away. Without it, within ten minutes, S8 loses S6 to S3, S7 loses S5 to S3,
+    S6 loses S4 and S3, and S5 loses S3; of 45 people 9, 8, 7 and 6 live there. At 08:00 it is too far away for all.
+    """
+    study = DAY.replace("compare = false\n", "").replace(
+        '"night", from = "21:00", to = "21:01"', '"late", from = "08:25", to = "08:25"'
+    )
+    assert place.ran("study", laid_out(place, study))[2] == 0
+    lost = 9 * (600 + 500 + 400 + 300 + 1.6) + 8 * (500 + 400 + 300 + 1.2) + 7 * (400 + 300 + 0.8) + 6 * 300.4
+    kind = {"opportunity": "jobs", "cutoff": "10", "scenario": "cut"}
+    lines = [row for row in table(place, "compare.csv") if kind.items() <= row.items()]
+    found = [(line["date"][-1], line["window"], line["lose"], line["gain"], line["mean_change"]) for line in lines]
+    assert found == [
+        ("4", "early", "0", "0", "0.0000"),
+        ("4", "late", "4", "0", f"{-lost / 45:.4f}"),
+        ("5", "early", "0", "0", "0.0000"),
+        ("5", "late", "4", "0", f"{-lost / 45:.4f}"),
+    ]
+    report = Path(place.path("nine/report.md")).read_text()
+    comparison = report[report.index("### cut compared with base") :]
+    assert comparison.index("windows/compare.csv") < comparison.index("In the first window, 2026-05-04, early")
+    assert "of 9 origins 0 lose, 0 gain" in comparison[comparison.index("In the first window") :]
 
 
 def same_matrix(place: Place, one: str, other: str) -> None:  # noqa: F811
@@ -304,8 +343,8 @@ def test_pictures_name_days_windows_and_scenarios() -> None:
         for day in ("2026-05-04", "2026-05-09")
         for name, first, last in (("peak", "07:00", "08:59"), ("night", "21:00", "21:59"))
     ]
-    printed = FigureLabels("jobs within 30 minutes", "jobs", "residents", "stops")
-    figure = figure_by_time(columns, ["base", "cut"], np.array([1.0, 1.0]), printed)
+    printed = FigureLabels("jobs within 30 minutes", "jobs", "stops", "base")
+    figure = figure_by_time(columns, ["base", "cut"], Counts(["residents"], np.array([[1.0], [1.0]])), printed)
     shown = [axes for axes in figure.axes if axes.get_visible()]
     assert [axes.get_title() for axes in shown] == ["2026-05-04", "2026-05-09"]
     labels = [line.get_label() for line in shown[0].get_lines()]
@@ -316,6 +355,66 @@ def test_pictures_name_days_windows_and_scenarios() -> None:
     image = heat.axes[0].get_images()[0].get_array()
     assert image.tolist() == [[5.0] * 4, [1.0] * 4]
     assert [label.get_text() for label in heat.axes[0].get_xticklabels()] == ["peak", "night"] * 2
+
+
+def texts_of(figure: Any) -> list[str]:
+    from matplotlib.text import Text
+
+    return [text.get_text() for text in figure.findobj(Text)]
+
+
+def test_a_picture_by_time_shows_each_group() -> None:
+    pytest.importorskip("matplotlib")
+    numbers = np.array([[1.0, 5.0], [2.0, 7.0]])
+    columns = [WindowColumn("2026-05-04", "peak", "07:00", "08:59", numbers)]
+    groups = Counts(["young", "old"], np.array([[1.0, 3.0], [1.0, 1.0]]))
+    figure = figure_by_time(columns, ["base", "cut"], groups, FigureLabels("jobs", "jobs", "stops"))
+    shown = [axes for axes in figure.axes if axes.get_visible()]
+    assert [axes.get_title() for axes in shown] == ["2026-05-04: young", "2026-05-04: old"]
+    means = [[line.get_ydata().tolist()[0] for line in axes.get_lines()[::2]] for axes in shown]
+    assert means == [[3.0, 4.5], [2.0, 3.25]]  # (1 + 5) / 2, (2 + 7) / 2; (3 + 5) / 4, (6 + 7) / 4
+    assert any("mean of each group" in text for text in texts_of(figure))
+
+
+@pytest.mark.parametrize("count, said", [(38, ""), (50, ": the first 48 of 50 windows")])
+def test_maps_show_all_windows_or_say_how_many(count: int, said: str) -> None:
+    pytest.importorskip("matplotlib")
+    from ttm_tools.gtfs.stops import read_stops
+
+    names = [f"w{number}" for number in range(count)]
+    columns = [WindowColumn("2026-05-04", name, "07:00", "08:59", np.array([[1.0, 5.0]])) for name in names]
+    with tempfile.TemporaryDirectory() as folder:
+        Path(folder, "stops.txt").write_text("stop_id,stop_lat,stop_lon\nA,47,8\nB,47.01,8\n")
+        figure = figure_of_maps(columns, 0, read_stops(folder), FigureLabels("jobs", "jobs", "stops", "base"))
+    titles = [axes.get_title() for axes in figure.axes if axes.get_visible() and axes.get_title()]
+    assert titles == [f"2026-05-04 {name}" for name in names[:48]]
+    assert any(text == f"jobs, scenario base, by window{said}" for text in texts_of(figure))
+
+
+def test_who_loses_and_gains_by_window_by_hand() -> None:
+    """From 10 and 20 to 10 and 15 at the peak, to 30 and 0 in the evening; 3 people at the first place, 1 at the other:
+    the mean changes are -5 / 4, and (3 * 20 - 20) / 4.
+    """
+    kind = AccessKind("jobs", "50", "30")
+    peak, evening = (
+        DayWindow("20260504", Window(name, first, last))
+        for name, first, last in (("peak", "07:00", "08:59"), ("evening", "18:00", "18:59"))
+    )
+
+    def table_of(*numbers: list[float]) -> AccessTable:
+        return AccessTable("made", ["base", "cut"], [kind], ["A", "B"], np.array(numbers)[:, None], False)
+
+    tables = {peak: table_of([10, 20], [10, 15]), evening: table_of([10, 20], [30, 0])}
+    people = Counts(["people", "old"], np.array([[3.0, 0.0], [1.0, 1.0]]))
+    out = io.BytesIO()
+    write_changes(out, list(changes_of(tables, "base", people)), people.names)
+    assert out.getvalue().decode().splitlines() == [
+        "date,window,from,to,scenario,opportunity,percentile,cutoff,lose,cut_off,gain,newly_reached,group,mean_change",
+        "2026-05-04,peak,07:00,08:59,cut,jobs,50,30,1,0,0,0,people,-1.2500",
+        "2026-05-04,peak,07:00,08:59,cut,jobs,50,30,1,0,0,0,old,-5.0000",
+        "2026-05-04,evening,18:00,18:59,cut,jobs,50,30,1,1,1,0,people,10.0000",
+        "2026-05-04,evening,18:00,18:59,cut,jobs,50,30,1,1,1,0,old,-20.0000",
+    ]
 
 
 def test_a_matrix_of_a_window_tells_its_day_and_departures(place: Place) -> None:  # noqa: F811

@@ -62,6 +62,12 @@ ERRORS = named("file", "record", "column", "value", "fault", "allowed")
 ACCESS = named("id", "opportunity", "percentile", "cutoff", "accessibility")
 NEAREST = named("id", "opportunity", "percentile", "nearest", "seconds")
 WINDOWS = named("date", "window", "from", "to")  # before the columns of a study's tables by window
+WINDOW_CHANGES = (  # behind them, of who loses and who gains access by window
+    *named("scenario", "opportunity", "percentile", "cutoff"),
+    *named("lose", "cut_off", "gain", "newly_reached", what="number of origins"),
+    *named("group"),
+    *named("mean_change", what="mean change of access of the group, after minus before"),
+)
 EXPLAINED = {  # by their commands: a table of docs/reference/measures.md for each
     "compare": (*BY_PAIR, *BY_ORIGIN),
     "bands": (*BANDS[:-2], *BANDS_OF_NEAREST),

@@ -28,7 +28,8 @@ for each stop time, journeys and changes included. While a changed network start
 
 
 def describe(parser: Parser) -> None:
-    meaning = "the folder of an unpacked feed that ttm accepts; or a study's file, for its feed, day, window and plan"
+    meaning = "the folder of an unpacked feed that ttm accepts; or a study's file, for its feed, day, window, plan and "
+    meaning += "files, in place of which options may name others"
     parser.add_argument("feed", metavar="FEED", help=meaning)
     parser.add_day("the day of the departures", without="that of the study")
     parser.add_window(" at the start", "07:30", "08:29")
@@ -56,15 +57,21 @@ def options_of(args: argparse.Namespace) -> "ExploreOptions":
     from ..explore.of_study import options_of_study
     from ..explore.options import OF_NO_OPTION, ExploreOptions
 
-    if args.last < args.first:
-        raise WrongWords("--to is before --from")
     is_study = args.feed.endswith(".toml")
+    if not is_study and args.last < args.first:
+        raise WrongWords("--to is before --from")
     if args.date is None and not is_study:
         raise WrongWords("--date is needed where no study is named")
     names = [name for name in ExploreOptions.__dataclass_fields__ if name not in OF_NO_OPTION]
     known = {name: getattr(args, name) for name in names}
     options = ExploreOptions(window=(args.first, args.last), date=args.date or date.min, **known)
-    return options_of_study(args.feed, options) if is_study else options
+    if not is_study:
+        return options
+    found, sentences = options_of_study(args.feed, options, args.parser.given())
+    if found.window[1] < found.window[0]:
+        raise WrongWords("--to is before --from")
+    say(*sentences)
+    return found
 
 
 def run(args: argparse.Namespace) -> None:

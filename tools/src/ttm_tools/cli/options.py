@@ -5,6 +5,7 @@ import functools
 import math
 import os
 import re
+import sys
 from dataclasses import dataclass
 from typing import TYPE_CHECKING, Any, Iterable, Sequence
 
@@ -78,6 +79,20 @@ class Parser(argparse.ArgumentParser):
     """The options of a command. `without` says what happens where one isn't given and has no default; an option with
     neither is needed.
     """
+
+    words: Sequence[str] = ()  # what the command was called with
+
+    def parse_known_args(self, args: Any = None, namespace: Any = None) -> Any:
+        self.words = list(sys.argv[1:] if args is None else args)
+        return super().parse_known_args(args, namespace)
+
+    def given(self) -> set[str]:
+        """The options that the words name, by the attributes of their values; names may be cut short."""
+        named = {word.partition("=")[0] for word in self.words if word.startswith("--")}
+        options = {option: action.dest for action in self._actions for option in action.option_strings}
+        ends = {word for word in named if word not in options}
+        short = {dest for option, dest in options.items() if any(option.startswith(word) for word in ends)}
+        return short | {options[word] for word in named if word in options}
 
     def add(self, *names: str, what: str, default: object = None, without: str = "", **how: Any) -> None:
         """An option whose help ends with what holds where it isn't given."""

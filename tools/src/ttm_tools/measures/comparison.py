@@ -12,6 +12,7 @@ import numpy as np
 import numpy.typing as npt
 
 from .. import progress
+from ..gtfs.fields import Floats
 from ..matrices import Pair, Seconds, Sums
 
 KINDS = ["cut off", "slower", "new", "faster"]  # in the order of a table
@@ -66,7 +67,7 @@ class Sides:
         return f"{lose:,} lose{'s' * (lose == 1)}{all_of_it}, {gain:,} gain{'s' * (gain == 1)}{from_nothing}"
 
 
-def sides_of(before: Sums, after: Sums, least: int = 1) -> Sides:
+def sides_of(before: Sums | Floats, after: Sums | Floats, least: float = 1) -> Sides:
     """The sides of origins with this access before and after; a change below the least counts for none."""
     lose, gain = before - after >= least, after - before >= least
     return Sides(lose, gain, lose & (after == 0), gain & (before == 0))

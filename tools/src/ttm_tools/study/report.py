@@ -16,7 +16,7 @@ from .maps import AREAS, maps_of
 from .page import PAGE
 from .results import ACCESS_TABLE, Records, StudyMatrix
 from .stages import Stage
-from .window_results import write_windows
+from .window_results import write_changes_by_window, write_windows
 from .settings import Study
 
 MARKDOWN, HTML, TOLD = "report.md", "report.html", "inputs/told.txt"
@@ -108,6 +108,7 @@ def write_figures(document: Document, whole: StudyMatrix, records: Records) -> N
     for scenario, name in whole.others.items():
         if f"compare_{name}" in records:
             document.heading(f"{shown(scenario)} compared with {shown(whole.inputs.base)}", 3)
+            write_changes_by_window(document, whole, records, scenario)
             document.items(records[f"compare_{name}"].lines)
             write_changes(document, whole, f"compare_{name}.csv")
     if "equity" in records:
@@ -164,6 +165,10 @@ def as_phrase(name: str) -> str:
 
 def write_changes(document: Document, whole: StudyMatrix, path: str) -> None:
     """The origins that lose most, and those that gain most: the table has losers first, and then winners."""
+    study = whole.study
+    of = f"within {study.within / 60:g} minutes, percentile {study.share}"
+    several = [name for name, values in (("within", study.run.limits), ("share", study.run.shares)) if len(values) > 1]
+    chosen = f"; {' and '.join(several)} of [results] choose{'s' * (len(several) == 1)}" if several else ""
     _, header = next(records_in(whole.at(path)))
     place = header.index("change")
     for what, sign in (("loses", "-"), ("gains", "")):
@@ -171,7 +176,8 @@ def write_changes(document: Document, whole: StudyMatrix, path: str) -> None:
         found = list(itertools.islice(wanted, FEW))
         if found:
             rows = [list(map(shown, fields)) for fields in found]
-            document.table(f"Who {what} most ({path} has all)", list(map(as_phrase, header)), rows)
+            caption = f"Who {what} most {of} ({path} has all{chosen})"
+            document.table(caption, list(map(as_phrase, header)), rows)
 
 
 def is_change(text: str, sign: str) -> bool:

@@ -44,9 +44,10 @@ RESULTS = (
     ),
     StudyResult(
         "`windows/`",
-        "for each window and day but the first `DATE_NAME.omx`; tables as above, by window; `pictures/COLUMN_time.png`"
-        " (the mean and the tenth that has the least, by time of day), `COLUMN_heat.png` (each place by window),"
-        " `COLUMN_maps.png`",
+        "for each window and day but the first `DATE_NAME.omx`; tables as above, by window; `compare.csv`, who loses"
+        " and who gains, by window, scenario and group; `pictures/COLUMN_time.png` (the mean and the tenth that has the"
+        " least, by time of day, for each group), and of the base `COLUMN_heat.png` (each place by window) and"
+        " `COLUMN_maps.png` (at most 48 windows)",
         "window_results.window_stages",
     ),
     StudyResult("`isochrones/STOP.geojson`", "areas, of each scenario", "maps.areas_stages"),

@@ -21,6 +21,7 @@ from .document import Document
 from .joining import MATRIX
 from .results import LOSE, POINTS, STOPS, Measurement, Records, StudyMatrix, measurements_of
 from .stages import Stage
+from .window_changes import changes_of, fields_of, write_changes
 from .windows import WINDOWS, matrix_of
 from .settings import DayWindow
 
@@ -35,6 +36,8 @@ KINDS = {  # of pictures, and what each shows
 DECIMALS = 6
 EQUITY = f"{WINDOWS}/equity.csv"
 COLUMNS = ["date", "window", "group", "scenario", "people", "mean", "least_tenth"]  # of the report
+CHANGES = f"{WINDOWS}/compare.csv"
+CHANGE_COLUMNS = ["date", "window", "lose", "cut_off", "gain", "newly_reached", "group", "mean_change"]
 
 
 def window_stages(whole: StudyMatrix, known: Records) -> list[Stage]:
@@ -52,6 +55,7 @@ def tables_stage(whole: StudyMatrix, of: Measurement) -> Stage:
     by_origin = f"{WINDOWS}/{of.kind}.csv"
     by_people = EQUITY if of.heads == ACCESS else f"{WINDOWS}/equity_{of.kind}.csv"
     pictures = [PICTURES] if study.results.maps and of.heads == ACCESS else []
+    compared = [CHANGES] if study.results.compare and of.heads == ACCESS and whole.others else []
 
     def make() -> list[str]:
         tables = dict[DayWindow, AccessTable]()
@@ -60,14 +64,18 @@ def tables_stage(whole: StudyMatrix, of: Measurement) -> Stage:
             write_rows(file, header, lines_of(whole, of, tables))
         with output(whole.at(by_people)) as file:
             write_spread(file, tables, whole)
+        for path in compared:
+            with output(whole.at(path)) as file:
+                people = people_of(whole, next(iter(tables.values())).origins)
+                write_changes(file, list(changes_of(tables, whole.inputs.base, people)), people.names)
         for _ in pictures:
             draw_all(whole, tables)
-        return [f"{', '.join([by_origin, by_people, *pictures])}: {len(tables)} windows"]
+        return [f"{', '.join([by_origin, by_people, *compared, *pictures])}: {len(tables)} windows"]
 
     options = [*of.options, study.results.unit, [question.label for question in study.questions]]
     sums = [whole.inputs.outputs_of("counted"), whole.inputs.outputs_of("people")]
     facts: dict[str, Any] = {**whole.depends, "words": options, "windows": whole.windows, "sums": sums}
-    return Stage(f"windows_{of.kind}", facts, [by_origin, by_people, *pictures], make)
+    return Stage(f"windows_{of.kind}", facts, [by_origin, by_people, *compared, *pictures], make)
 
 
 def lines_of(whole: StudyMatrix, of: Measurement, tables: dict[DayWindow, AccessTable]) -> Iterator[list[object]]:
@@ -129,7 +137,7 @@ def pictures_of(whole: StudyMatrix) -> dict[str, list[str]]:
 
 
 def draw_all(whole: StudyMatrix, tables: dict[DayWindow, AccessTable]) -> None:
-    """Draws the pictures of each thing that is counted, for the first group of people."""
+    """Draws the pictures of each thing that is counted."""
     first = next(iter(tables.values()))
     people = people_of(whole, first.origins)
     places, base = POINTS if whole.study.points.all else STOPS, first.scenario(whole.inputs.base)
@@ -139,14 +147,29 @@ def draw_all(whole: StudyMatrix, tables: dict[DayWindow, AccessTable]) -> None:
             kind = whole.kind_drawn(first.kinds, name)
             number = first.kinds.index(kind)
             columns = [WindowColumn(*question.head, table.numbers[:, number]) for question, table in tables.items()]
-            labels = FigureLabels(kind.label, shown(name), shown(people.names[0]), places)
+            scenario = whole.inputs.base if len(first.scenarios) > 1 else ""
+            labels = FigureLabels(kind.label, shown(name), places, shown(scenario))
             figures = [
-                figure_by_time(columns, first.scenarios, people.numbers[:, 0], labels),
+                figure_by_time(columns, first.scenarios, people, labels),
                 figure_of_heat(columns, base, labels),
                 figure_of_maps(columns, base, stops.of(first.origins), labels),
             ]
             for path, figure in zip(paths, figures):
                 write_picture(str(folder / Path(path).name), figure)
+
+
+def write_changes_by_window(document: Document, whole: StudyMatrix, records: Records, scenario: str) -> None:
+    """Who loses and who gains access in each window, before what the report says of the first window alone."""
+    questions = whole.study.questions
+    if not questions:
+        return
+    if "windows_access" in records and CHANGES in records["windows_access"].outputs:
+        for kind in kinds_drawn(whole):
+            caption = f"{kind.label}: how many origins lose and gain, and the mean change, in each window ({CHANGES})"
+            wanted = [scenario, *fields_of(kind)]
+            lines = list(lines_reported(whole.at(CHANGES), wanted, CHANGE_COLUMNS))
+            document.table(caption, [name.replace("_", " ") for name in CHANGE_COLUMNS], lines)
+    document.paragraph(f"In the first window, {questions[0].label}:")
 
 
 def write_windows(document: Document, whole: StudyMatrix, records: Records) -> None:
@@ -162,7 +185,7 @@ def write_windows(document: Document, whole: StudyMatrix, records: Records) -> N
         return
     for kind in kinds_drawn(whole):
         caption = f"{kind.label}: mean of the people, and of the tenth that has the least ({EQUITY} has all)"
-        lines = list(lines_reported(whole.at(EQUITY), [kind.opportunity, kind.percentile, kind.cutoff]))
+        lines = list(lines_reported(whole.at(EQUITY), fields_of(kind), COLUMNS))
         document.table(caption, [name.replace("_", " ") for name in COLUMNS], lines)
     if PICTURES in {path.rpartition("/")[0] for path in records["windows_access"].outputs}:
         for name, paths in pictures_of(whole).items():
@@ -170,11 +193,11 @@ def write_windows(document: Document, whole: StudyMatrix, records: Records) -> N
                 document.picture(path, f"{shown(name)}: {what}")
 
 
-def lines_reported(path: str, kind: list[str]) -> Iterator[list[str]]:
-    """The lines of a kind in a table, as the report has them."""
+def lines_reported(path: str, kind: list[str], columns: Sequence[str]) -> Iterator[list[str]]:
+    """Some columns of the lines of a kind in a table, as the report has them."""
     table = records_in(path)
     _, header = next(table)
-    first, places = len(HEADS), [header.index(name) for name in COLUMNS]
+    first, places = len(HEADS), [header.index(name) for name in columns]
     for _, fields in table:
         if fields[first : first + len(kind)] == kind:
             yield [shown(fields[place]) for place in places]

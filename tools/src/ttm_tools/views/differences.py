@@ -82,6 +82,13 @@ def write_origins(
     write_rows(out, compared(by_pair=False, has_names=names is not None), lines)
 
 
+def access_stated(pair: Pair, place: int) -> str:
+    """What access is, as far as the matrix says it: `access within 30 minutes, percentile 50`."""
+    limit, share = pair.matrix.layout.limits[place], pair.share
+    within = f" within {limit / 60:g} minutes" if limit is not None else ""
+    return f"access{within}{f', percentile {share}' if share is not None else ''}"
+
+
 def summary(pair: Pair, comparison: Comparison, limit: float, place: int | None, least: int = 1) -> list[str]:
     """A line on all pairs, and one on access where the table is that of origins; both say by how much they differ."""
     pairs = len(pair.origins) * len(pair.matrix.stops)
@@ -93,5 +100,6 @@ def summary(pair: Pair, comparison: Comparison, limit: float, place: int | None,
         first, second = pair.access(place)
         change = second - first
         sides, by_how_much = sides_of(first, second, least).sentence(), f" (by {least:,} or more)" if least > 1 else ""
-        sentences.append(f"access: of {len(change):,} origins {sides}{by_how_much}; in all {int(change.sum()):+,}")
+        of = f"of {len(change):,} origins {sides}{by_how_much}; in all {int(change.sum()):+,}"
+        sentences.append(f"{access_stated(pair, place)}: {of}")
     return sentences

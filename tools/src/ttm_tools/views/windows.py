@@ -13,6 +13,7 @@ from ..gtfs.fields import Floats
 from ..gtfs.projection import Projection
 from ..gtfs.stops import Stops
 from ..measures.equity import TENTHS, mean, part
+from ..measures.opportunities import Counts
 from ..records import shown
 from .equity import COLOURS
 from .texts import figure_with, text_alone
@@ -20,7 +21,7 @@ from .texts import figure_with, text_alone
 ACROSS = 4  # panels in a row
 MOST_ACROSS = 6  # maps in a row where each row is a day
 HEAD, FOOT = 0.7, 0.55  # inches above and below the panels
-MOST_MAPS = 24
+MOST_MAPS = 48
 SCALE = "viridis"
 
 
@@ -45,8 +46,12 @@ class WindowColumn:
 class FigureLabels:
     kind: str  # what is measured, such as "jobs within 30 minutes"
     unit: str
-    people: str  # whom the means count
     places: str  # stops or points
+    scenario: str = ""  # of the heat map and the maps, where the matrix has several
+
+    @property
+    def kind_of_scenario(self) -> str:
+        return self.kind + (f", scenario {self.scenario}" if self.scenario else "")
 
 
 def levels(numbers: Floats, people: Floats) -> tuple[float, float]:
@@ -60,23 +65,29 @@ def days_of(columns: Sequence[WindowColumn]) -> list[tuple[str, list[WindowColum
 
 @text_alone
 def figure_by_time(
-    columns: Sequence[WindowColumn], scenarios: Sequence[str], people: Floats, labels: FigureLabels
+    columns: Sequence[WindowColumn], scenarios: Sequence[str], groups: Counts, labels: FigureLabels
 ) -> Any:
-    """A panel for each day: the mean over people, and that of the tenth that has the least, along the hours."""
-    days = days_of(columns)
+    """A panel for each group of people and each day: the mean over the group, and that of the tenth of it that has the
+    least, along the hours. The panels of a group begin a row.
+    """
+    days, names = days_of(columns), list(map(shown, groups.names))
     across = min(ACROSS, len(days))
-    rows = math.ceil(len(days) / across)
-    figure = figure_with(f"{labels.kind} by time of day: mean of {labels.people}", HEAD + 3.2 * rows + FOOT)
+    of_a_group = math.ceil(len(days) / across)
+    rows = of_a_group * len(names)
+    whom = f"mean of {names[0]}" if len(names) == 1 else "mean of each group"
+    figure = figure_with(f"{labels.kind} by time of day: {whom}", HEAD + 3.2 * rows + FOOT)
     panels = figure.subplots(rows, across, sharex=True, sharey=True, squeeze=False)
     high = figure.get_figheight()
     figure.subplots_adjust(0.09, FOOT / high, 0.98, 1 - HEAD / high, 0.06, 0.22)
-    for axes in panels.flat[len(days) :]:
+    for axes in panels.flat:
         axes.set_visible(False)
-    for axes, (day, own) in zip(panels.flat, days):
-        axes.set_title(day, fontsize=10, parse_math=False)
-        axes.grid(axis="y", color="#dddddd", linewidth=0.6)
-        axes.tick_params(labelsize=8)
-        draw_levels(axes, own, scenarios, people)
+    for group, name in enumerate(names):
+        for axes, (day, own) in zip(panels[group * of_a_group :].flat, days):
+            axes.set_visible(True)
+            axes.set_title(day + (f": {name}" if len(names) > 1 else ""), fontsize=10, parse_math=False)
+            axes.grid(axis="y", color="#dddddd", linewidth=0.6)
+            axes.tick_params(labelsize=8)
+            draw_levels(axes, own, scenarios, groups.numbers[:, group])
     ends = [end for column in columns for end in column.span]
     hours = range(math.floor(min(ends)), math.ceil(max(ends)) + 1)
     panels[0, 0].set(ylim=(0, None), xlim=(hours[0], hours[-1]), xticks=hours[:: 1 + len(hours) // 9])
@@ -104,7 +115,7 @@ def figure_of_heat(columns: Sequence[WindowColumn], scenario: int, labels: Figur
     """A row for each place, ordered by its mean, and a column for each window."""
     numbers = np.stack([column.numbers[scenario] for column in columns], axis=1)
     order = np.argsort(-numbers.mean(axis=1), kind="stable")
-    figure = figure_with(f"{labels.kind}: each of {len(order):,} {labels.places} by window", 7.0)
+    figure = figure_with(f"{labels.kind_of_scenario}: each of {len(order):,} {labels.places} by window", 7.0)
     axes = figure.add_axes((0.09, 0.17, 0.76, 0.72))
     image = axes.imshow(numbers[order], aspect="auto", interpolation="nearest", cmap=SCALE, vmin=0)
     names = [column.name for column in columns]
@@ -130,7 +141,8 @@ def figure_of_maps(columns: Sequence[WindowColumn], scenario: int, stops: Stops,
     east, north = projection.kilometres(stops.longitudes, stops.latitudes)
     across = max(counts) if len(counts) == 1 and max(counts) in range(2, MOST_ACROSS + 1) else min(ACROSS, len(drawn))
     rows = math.ceil(len(drawn) / across)
-    figure = figure_with(f"{labels.kind}, by window", HEAD + 10.4 / across * rows + 0.3)
+    left_out = f": the first {len(drawn)} of {len(columns)} windows" if len(drawn) < len(columns) else ""
+    figure = figure_with(f"{labels.kind_of_scenario}, by window{left_out}", HEAD + 10.4 / across * rows + 0.3)
     panels = figure.subplots(rows, across, squeeze=False)
     high = figure.get_figheight()
     figure.subplots_adjust(0.02, 0.2 / high, 0.87, 1 - HEAD / high, 0.05, 0.16)

@@ -121,8 +121,14 @@ class PageMap {
 
   addTip(tipOf) {
     const tip = document.getElementById("tip");
+    let pointed = -1; // the place under the pointer
+    this.renewTip = () => {
+      if (pointed >= 0) {
+        tip.textContent = tipOf(pointed);
+      }
+    };
     this.map.on("mousemove", (event) => {
-      const place = this.placeAt(event.containerPoint);
+      const place = pointed = this.placeAt(event.containerPoint);
       tip.hidden = place < 0;
       this.map.getContainer().style.cursor = place < 0 ? "" : "pointer";
       if (place >= 0) {
@@ -132,7 +138,10 @@ class PageMap {
         tip.style.top = `${event.originalEvent.clientY + 16}px`;
       }
     });
-    this.map.on("mouseout", () => { tip.hidden = true; });
+    this.map.on("mouseout", () => {
+      pointed = -1;
+      tip.hidden = true;
+    });
   }
 
   /** Shows all places. */

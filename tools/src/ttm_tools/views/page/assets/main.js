@@ -55,6 +55,7 @@ async function show() {
     showTimes(now, before);
   }
   additions.forEach((addition) => addition.show(current));
+  page.renewTip();
   element("meaning").textContent = head.meanings[share]
     + (state.difference ? " A difference is one of such whole minutes: it may be up to a minute off." : "");
   keepAddress();

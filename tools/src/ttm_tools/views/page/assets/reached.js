@@ -13,9 +13,15 @@ class ReachedAreas {
     this.painted = {}; // what the areas are of that it shows
   }
 
-  /** The area of each band that ends within the slider's minutes, the widest first; with a maximum walk in seconds. */
+  /** The area within the slider's minutes, and those of the bands that end before; the widest first. */
+  ends() {
+    const bands = classEnds.map((end, number) => ({ end, number })).filter(({ end }) => end < state.minutes);
+    return [...bands, { end: state.minutes, number: bands.length }].reverse();
+  }
+
+  /** Paints these areas, with a maximum walk in seconds. */
   paint(pen, view, cells, walk) {
-    const ends = classEnds.map((end, number) => ({ end, number })).filter(({ end }) => end <= state.minutes).reverse();
+    const ends = this.ends();
     const { width, height } = pen.canvas, words = [cells.byteOffset, width, height, view, walk, ends, this.start()];
     const of = { cells: cells.buffer, places: numbers.places, text: JSON.stringify([...words, classEnds.length]) };
     if (Object.entries(of).some(([name, it]) => this.painted[name] !== it)) {
