@@ -224,7 +224,7 @@ FAULTS: list[dict[str, Any]] = [{"origins": ["X"]}, {"origins": "nothing.csv"}, 
 
 def processes(network: ttm_tools.Network) -> list[int]:
     """Those that keep the network."""
-    return [item.process.pid for item in network.processes.running]
+    return [item.process.pid for item in network.pool.running]
 
 
 def test_the_program_reads_the_network_once(room: Room, program: str) -> None:

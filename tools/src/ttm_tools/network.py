@@ -1,90 +1,69 @@
-"""A network in memory, for many questions: `with Network(feed, date) as network: network.matrix(..)`."""
+"""Ask many questions about one feed without reading it again.
+
+`Network` starts `ttm --ask` processes, which read a feed and build its networks once.
+"""
 
 import contextlib
 import datetime
 import os
-import queue
 import tempfile
-import threading
 import weakref
 from pathlib import Path
 from typing import Iterable, Iterator, Mapping, Sequence
 
-from .conversation import Answer, Conversation
 from .engine import EngineFault, Pathlike, Result, Run, files_of, program_at, refusal_of, result_of
 from .faults import WrongWords
 from .files import remove
 from .matrices import open_matrix
+from .process_pool import PLACEHOLDER_WINDOW, ProcessPool, ask_command
 from .records import Rounded
-
-MIDNIGHT = ("00:00", "00:00")  # the window of the words that are kept; each question names its own
-
-
-def command_of(program: str, arguments: Sequence[str]) -> list[str]:
-    """The command that keeps the network of these words and answers questions."""
-    return [program, *arguments, "--report", "--ask"]
-
-
-class Processes:
-    """Some processes with the same network, each used by one thread at a time; they start when they are needed, in a
-    folder, or where this process works.
-    """
-
-    def __init__(self, arguments: Sequence[str], count: int, folder: Pathlike | None = None) -> None:
-        self.folder, self.arguments, self.lock, self.closed = folder, list(arguments), threading.Lock(), False
-        self.running: set[Conversation] = set()
-        self.free: queue.LifoQueue[Conversation | None] = queue.LifoQueue()
-        for _ in range(count - 1):
-            self.free.put(None)
-        self.free.put(self.begun())
-
-    def begun(self) -> Conversation:
-        with self.lock:
-            if self.closed:
-                raise WrongWords("the network is closed")
-            conversation = Conversation(self.arguments, self.folder)
-            self.running.add(conversation)
-            return conversation
-
-    def ask(self, arguments: Sequence[str]) -> Answer:
-        """Asks a process that is free, or waits for one; the next question replaces one that has ended."""
-        held = self.free.get()
-        try:
-            if held is None or not held.is_usable:
-                self.drop(held)
-                held = None  # so that a process that can't begin leaves a free place
-                held = self.begun()
-            return held.ask(arguments)
-        except EngineFault:
-            if self.closed:
-                raise WrongWords("the network was closed during a question") from None
-            raise
-        finally:
-            self.free.put(held)
-
-    def drop(self, held: Conversation | None) -> None:
-        if held is not None:
-            held.close()
-            with self.lock:
-                self.running.discard(held)
-
-    def close(self) -> None:
-        """Ends all processes."""
-        with self.lock:
-            self.closed, running = True, list(self.running)
-            self.running.clear()
-        for conversation in running:
-            conversation.close()
 
 
 class Network:
-    """The network of a feed on a date, which answers questions by `matrix(..)`.
+    """The network of a feed on one date, kept in memory to answer many questions.
 
-    A process of `ttm --ask` reads the feed once and keeps the network.
+    Use it as a context manager, or call `close`; otherwise its processes end with the interpreter. Several threads may
+    share it.
 
-    Feed, date, walk, scenarios, footpaths, back and ahead are as for `ttm_tools.matrix`; the first question raises what
-    is wrong with them. `workers` is how many processes keep the network, and so how many threads are answered at once.
-    Several threads may use it. It ends with its block, by `close()`, or with the interpreter.
+    Parameters
+    ----------
+    feed
+        The folder of an unpacked GTFS feed.
+    date
+        The service date, as `YYYYMMDD`, `YYYY-MM-DD` or a `datetime.date`.
+    walk
+        The longest walk, in seconds, from 0 to 7,200.
+    scenarios
+        Scenario files. Each becomes a scenario of the matrix, next to `base`.
+    footpaths
+        Walking links in addition to those of `transfers.txt`: a CSV file, or triples of two stop identifiers and
+        seconds. Fractions of a second are rounded up. Without it, travellers walk only along `transfers.txt`.
+    back, ahead
+        The number of service days before and after `date` whose trips run, from 0 to 6 each.
+    workers
+        The number of processes, and so of questions that can be answered at the same time. Each reads the feed and
+        keeps a network of its own.
+    program
+        The `ttm` executable; see `engine.program_at` for the default.
+
+    Raises
+    ------
+    WrongWords
+        `workers` is below 1.
+    BadInput
+        The seconds of a footpath are negative or too large.
+    Lacking
+        There is no `ttm` executable.
+
+    Notes
+    -----
+    The constructor does not wait for the feed to be read, so an error in the feed is raised by the first question.
+
+    Examples
+    --------
+    >>> with Network("town", "2026-05-04") as network:  # doctest: +SKIP
+    ...     morning = network.matrix(("07:30", "08:29"))
+    ...     evening = network.matrix(("17:00", "17:59"), shares=(50, 90))
     """
 
     def __init__(
@@ -102,21 +81,30 @@ class Network:
     ) -> None:
         if workers < 1:
             raise WrongWords(f"workers={workers}: at least one process is needed")
-        named, self.rounded = program_at(program), Rounded()
+        executable, self.rounded = program_at(program), Rounded()
         self.folder = Path(tempfile.mkdtemp(prefix=f"ttm-tools-network.{os.getpid()}."))
         try:
-            named_files = files_of(self.folder, self.rounded, footpaths=footpaths)
-            # paths that mean the same from every folder, since the process stays where it began
-            files = {name: os.path.abspath(path) for name, path in named_files.items()}
-            paths = [os.path.abspath(path) for path in scenarios]
-            kept = Run(
-                os.path.abspath(feed), date, MIDNIGHT, 4, walk, scenarios=paths, back=back, ahead=ahead, files=files
+            given_files = files_of(self.folder, self.rounded, footpaths=footpaths)
+            # Absolute paths: a process keeps its working directory when the caller's changes.
+            files = {option: os.path.abspath(path) for option, path in given_files.items()}
+            scenario_paths = [os.path.abspath(path) for path in scenarios]
+            run = Run(
+                os.path.abspath(feed),
+                date,
+                PLACEHOLDER_WINDOW,
+                4,
+                walk,
+                scenarios=scenario_paths,
+                back=back,
+                ahead=ahead,
+                files=files,
             )
-            self.processes = Processes(command_of(named, kept.arguments()), workers)
+            self.pool = ProcessPool(ask_command(executable, run.arguments()), workers)
         except BaseException:
             remove(self.folder)
             raise
-        self.closing = weakref.finalize(self, end, self.processes, self.folder, os.getpid())
+        # A finalizer rather than __del__: it also runs when the interpreter exits.
+        self.finalizer = weakref.finalize(self, release, self.pool, self.folder, os.getpid())
 
     def matrix(
         self,
@@ -131,17 +119,53 @@ class Network:
         workers: int = 1,
         tries: int = 1,
     ) -> Result:
-        """The matrix that `ttm_tools.matrix` gives for these arguments, from the network that is kept; `workers` is how
-        many threads compute it.
+        """Compute a travel time matrix on this network.
+
+        The result equals that of `ttm_tools.matrix` with the same arguments.
+
+        Parameters
+        ----------
+        window
+            The first and the last departure, as `HH:MM`. There is one departure each minute.
+        trips
+            The maximum number of rides of a journey, from 1 to 8.
+        shares
+            Percentiles of the travel time over the departures: 1 to 8 ascending integers from 1 to 100.
+        limits
+            Travel time limits for access, in seconds: 1 to 8 ascending integers.
+        origins, destinations
+            Stop identifiers, or a CSV file of them; all stops by default.
+        opportunities
+            The opportunities at each stop: a mapping from stop identifiers, or a CSV file. Stops that it does not name
+            have none. Without the argument each stop counts 1. Fractions are rounded to the nearest integer.
+        workers
+            The number of threads that compute this matrix, from 1 to 64.
+        tries
+            How many times a row is attempted, from 1 to 8.
+
+        Returns
+        -------
+        Result
+            Travel times in seconds as float32 arrays of shape (origins, destinations), NaN if not reached, and access
+            of shape (origins, limits), for each scenario and percentile.
+
+        Raises
+        ------
+        EngineFault
+            `ttm` refused the feed or the question. The exception has file, record and value if `ttm` names them.
+        WrongWords
+            The network is closed.
+        BadInput
+            An opportunity is negative or too large.
         """
         rounded, numbers = Rounded(), {"trips": trips, "workers": workers, "tries": tries}
-        named: dict[str, object] = {"from": window[0], "to": window[1], **numbers}
-        named |= {"share": ",".join(map(str, shares)), "within": ",".join(map(str, limits))}
-        with self.room() as folder:
+        options: dict[str, object] = {"from": window[0], "to": window[1], **numbers}
+        options |= {"share": ",".join(map(str, shares)), "within": ",".join(map(str, limits))}
+        with self.question_folder() as folder:
             given = {"origins": origins, "opportunities": opportunities, "destinations": destinations}
             files = files_of(folder, rounded, **given)
-            named |= {name: os.path.abspath(path) for name, path in files.items()}
-            answer = self.processes.ask([word for name, value in named.items() for word in (f"--{name}", str(value))])
+            options |= {option: os.path.abspath(path) for option, path in files.items()}
+            answer = self.pool.ask([word for option, value in options.items() for word in (f"--{option}", str(value))])
             if answer.status != 0:
                 raise EngineFault("\n".join(refusal_of(answer.body, answer.status)), answer.status)
             path = folder / "matrix.csv"
@@ -149,9 +173,9 @@ class Network:
             return result_of(open_matrix(str(path)), self.rounded.count + rounded.count)
 
     @contextlib.contextmanager
-    def room(self) -> Iterator[Path]:
-        """A folder for the files of one question."""
-        if not self.closing.alive:
+    def question_folder(self) -> Iterator[Path]:
+        """Create a folder for the files of one question, and remove it afterwards."""
+        if not self.finalizer.alive:
             raise WrongWords("the network is closed")
         try:
             folder = Path(tempfile.mkdtemp(dir=self.folder))
@@ -159,14 +183,15 @@ class Network:
                 yield folder
             finally:
                 remove(folder)
-        except OSError:  # the folder goes with the network
-            if self.closing.alive:
+        except OSError:
+            # Another thread's `close` removes the folder, so its files may be missing.
+            if self.finalizer.alive:
                 raise
             raise WrongWords("the network was closed during a question") from None
 
     def close(self) -> None:
-        """Ends the processes; later questions are refused."""
-        self.closing()
+        """End the processes and remove the temporary files. Closing twice is allowed."""
+        self.finalizer()
 
     def __enter__(self) -> "Network":
         return self
@@ -175,8 +200,11 @@ class Network:
         self.close()
 
 
-def end(processes: Processes, folder: Path, owner: int) -> None:
-    """Ends what a network holds; a fork of its process leaves all of it alone."""
+def release(pool: ProcessPool, folder: Path, owner: int) -> None:
+    """End the processes of a network and remove its folder.
+
+    Does nothing in a fork of the process that created the network: they belong to the parent (`owner`, its process id).
+    """
     if os.getpid() == owner:
-        processes.close()
+        pool.close()
         remove(folder)

@@ -49,11 +49,11 @@ def walks_from(point: Point, stops: Stops, pace: Pace, streets: Streets | None) 
     if streets is None:
         walks = straight_walks(alone, pace, 1)
     else:
-        from ..walks.streets import Ends, street_walks
+        from ..walks.streets import Endpoints, street_walks
 
         first = np.arange(len(alone.identifiers)) == 0
         around = streets_around(point, streets, pace.limit * pace.speed + NEAR)
-        walks = street_walks(alone, pace, around, NEAR, 1, Ends(first, ~first))
+        walks = street_walks(alone, pace, around, NEAR, 1, Endpoints(first, ~first))
     ends = zip(walks.origins.tolist(), walks.destinations.tolist(), walks.seconds.tolist())
     return [(alone.identifiers[end], seconds) for begin, end, seconds in ends if begin == 0]
 

@@ -139,7 +139,7 @@ def write_doors(folder: Path, walks: LongWalks, merges: bool) -> None:
 def write_whole(folder: Path, walks: LongWalks) -> None:
     count = len(walks.files)
     begins, ends = ([True], [True]) if count == 1 else ([True, False], [False, True])
-    limit, only = int(walks.pace.limit), None if count == 1 else walks.ends
+    limit, only = int(walks.pace.limit), None if count == 1 else walks.endpoints
     options = study.PointsOptions(walks.feed, str(folder), walks.files, begins, ends, limit, False, walks.near)
     study.make(options, lambda stops, first: street_walks(stops, walks.pace, walks.streets, walks.near, first, only))
 

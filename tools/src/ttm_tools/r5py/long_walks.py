@@ -19,7 +19,7 @@ from ..points.table import Points
 from ..records import write_rows
 from ..walks import Pace
 from ..walks.osm import Streets
-from ..walks.streets import Ends, OnStreets, stops_on_streets
+from ..walks.streets import Endpoints, SnappedStops, snap_stops
 from ..walks.table import NONE, WalkTable, street_table
 from .needed import needed_walks
 from .split import Split, changes_at, refuse_many, split_of, write_feed, write_footpaths
@@ -52,25 +52,26 @@ class LongWalks:
         return self.own.followed_by(self.study.points.as_stops())
 
     @cached_property
-    def placed(self) -> OnStreets:
-        return stops_on_streets(self.stops, self.streets, self.pace, self.near)
+    def snapped(self) -> SnappedStops:
+        return snap_stops(self.stops, self.streets, self.pace, self.near)
 
     @cached_property
-    def ends(self) -> Ends:
+    def endpoints(self) -> Endpoints:
         """Where walks may begin and end: no journey walks to an origin or from a destination."""
         begins, ends, own = self.stops.kinds == 0, self.stops.kinds == 0, len(self.own.identifiers)
         if len(self.files) > 1:
             begins[own:], ends[own:] = self.study.file == 0, self.study.file == 1
-        return Ends(begins, ends)
+        return Endpoints(begins, ends)
 
     def are_many(self) -> bool:
         """Whether it pays to leave out walks, by the count of those from some stops and origins."""
-        begins = np.flatnonzero(self.ends.begins)
-        if len(begins) * self.ends.ends.sum() <= MANY:
+        begins = np.flatnonzero(self.endpoints.origins)
+        if len(begins) * self.endpoints.destinations.sum() <= MANY:
             return False
-        some = np.zeros(len(self.ends.begins), np.bool_)
+        some = np.zeros(len(self.endpoints.origins), np.bool_)
         some[np.random.default_rng(0).choice(begins, min(len(begins), SAMPLE), replace=False)] = True
-        found = sum(len(a) for a, *_ in self.placed.ways(self.streets, self.pace, Ends(some, self.ends.ends)))
+        sample = Endpoints(some, self.endpoints.destinations)
+        found = sum(len(a) for a, *_ in self.snapped.ways(self.streets, self.pace, sample))
         return found * len(begins) > MANY * int(some.sum())
 
     def write(self, folder: Path, merges: bool) -> None:
@@ -93,12 +94,12 @@ class LongWalks:
 
     def table(self, stated: Footpaths) -> WalkTable:
         """The walks along streets and those that the feed states, and chains of both."""
-        table = street_table(self.placed, self.streets, self.pace, self.ends)
+        table = street_table(self.snapped, self.streets, self.pace, self.endpoints)
         stops = np.flatnonzero(self.own.kinds == 0)
         ends = stops[stated.begin].tolist(), stops[stated.end].tolist()
         put = table.put_direct(zip(*ends, stated.seconds.tolist()))
-        inside = [station in self.placed.entrances for station in self.placed.stations]
-        table.chain(put | set(self.placed.chosen[np.array(inside, np.bool_)].tolist()))
+        inside = [station in self.snapped.entrances for station in self.snapped.stations]
+        table.chain(put | set(self.snapped.indices[np.array(inside, np.bool_)].tolist()))
         return table
 
     def write_folder(self, folder: Path, timetable: Timetable, split: Split, walks: Footpaths) -> None:

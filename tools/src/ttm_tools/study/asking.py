@@ -11,7 +11,7 @@ from typing import Callable, Sequence
 from ..conversation import Answer
 from ..engine import EngineFault, Run, program_at
 from ..files import aside_name
-from ..network import MIDNIGHT, Processes, command_of
+from ..process_pool import PLACEHOLDER_WINDOW, ProcessPool, ask_command
 from .cutting import Part, Shape
 from .running import Failed, Pool, failed_of, missing_of
 from .stages import settle
@@ -24,7 +24,8 @@ def kept_arguments(run: Run) -> list[str]:
     """The words of the network, which all questions of its day share."""
     files = {name: path for name, path in run.files.items() if name == "footpaths"}
     back, ahead, paths = run.back, run.ahead, run.scenarios
-    kept = Run(run.feed, run.date, MIDNIGHT, 4, run.walk, scenarios=paths, back=back, ahead=ahead, files=files)
+    window = PLACEHOLDER_WINDOW
+    kept = Run(run.feed, run.date, window, 4, run.walk, scenarios=paths, back=back, ahead=ahead, files=files)
     return kept.arguments()
 
 
@@ -72,18 +73,18 @@ class KeptNetwork(Pool, contextlib.AbstractContextManager["KeptNetwork"]):
     def __init__(self, run: Run, study: Path) -> None:
         super().__init__(run, (), 1, 1)
         self.study, self.question = study, run
-        self.processes: Processes | None = None
+        self.pool: ProcessPool | None = None
 
     def __exit__(self, *_: object) -> None:
-        if self.processes is not None:
-            self.processes.close()
+        if self.pool is not None:
+            self.pool.close()
 
     def run_parts(self, run: Run, parts: Sequence[Part], shape: Shape) -> list[Failed]:
         """Asks for the parts of a window that aren't done, as `run_parts` runs them."""
         missing = missing_of(parts)
-        if missing and self.processes is None:
-            command = command_of(program_at(self.run.program), kept_arguments(self.run))
-            self.processes = Processes(command, shape.at_once, self.study)
+        if missing and self.pool is None:
+            command = ask_command(program_at(self.run.program), kept_arguments(self.run))
+            self.pool = ProcessPool(command, shape.at_once, self.study)
         self.question, self.at_once, self.threads = run, shape.at_once, shape.threads
         self.waiting = list(reversed(missing))
         with ThreadPoolExecutor(shape.at_once) as self.executor:
@@ -94,8 +95,8 @@ class KeptNetwork(Pool, contextlib.AbstractContextManager["KeptNetwork"]):
         return Asked(part, self.executor.submit(self.ask, PartQuestion(part, arguments)), self.__exit__)
 
     def ask(self, question: PartQuestion) -> Answer:
-        assert self.processes is not None
-        return self.processes.ask(question.arguments)
+        assert self.pool is not None
+        return self.pool.ask(question.arguments)
 
     def tell(self) -> None:
         """Says nothing while parts go on: the network is read already."""

@@ -9,7 +9,7 @@ from ..gtfs.fields import Floats
 from .counting import Places
 from .osm import Streets
 from .straight import Pace, points_of
-from .streets import graph_of, snapped
+from .street_graph import build_graph, snap
 
 SHORTEST = 1e-6  # metres of a piece that isn't a crossing
 
@@ -23,13 +23,13 @@ class Reach:
     begin: Places  # of each connection the nodes
     end: Places
     metres: Floats
-    beside: Floats  # of each place the metres to its street
+    connectors: Floats  # metres from each place to its street
 
     def pieces(self, left: Floats) -> Floats:
         """The pieces of streets, as longitude and latitude of both ends, along which one comes from places where so
         many metres are left; below 0 one doesn't come from there.
         """
-        after = self.left_at_nodes(left - self.beside)
+        after = self.left_at_nodes(left - self.connectors)
         there = np.flatnonzero((after[self.begin] > 0) & (self.metres > SHORTEST))
         begin, end = self.begin[there], self.end[there]
         part = np.minimum(1.0, after[begin] / self.metres[there])[:, None]
@@ -59,16 +59,16 @@ class Reach:
 
 def reach_of(streets: Streets, latitudes: Floats, longitudes: Floats, pace: Pace, near: float) -> Reach:
     """The streets with places on them, which are near up to a distance in metres."""
-    put = snapped(streets, points_of(latitudes, longitudes))
-    graph = graph_of(streets, put)
-    counts = np.diff(graph.begins)
-    begin, beside = np.repeat(np.arange(len(counts)), counts), put.beside(near, pace)
+    snaps = snap(streets, points_of(latitudes, longitudes))
+    graph = build_graph(streets, snaps)
+    counts = np.diff(graph.indptr)
+    begin, connectors = np.repeat(np.arange(len(counts)), counts), snaps.connectors(near, pace)
 
     def along(numbers: Floats) -> Floats:
-        low, high = (numbers[ends[put.piece]] for ends in (streets.begin, streets.end))
-        return np.concatenate([numbers, low + put.along * (high - low)])
+        low, high = (numbers[ends[snaps.edge]] for ends in (streets.begin, streets.end))
+        return np.concatenate([numbers, low + snaps.fraction * (high - low)])
 
-    return Reach(along(streets.latitudes), along(streets.longitudes), begin, graph.end, graph.metres, beside)
+    return Reach(along(streets.latitudes), along(streets.longitudes), begin, graph.target, graph.length, connectors)
 
 
 def strip(pieces: Floats, kilometres: Callable[[Floats, Floats], tuple[Floats, Floats]], width: float) -> Any:

@@ -1,237 +1,229 @@
-"""Walks along streets: stops, entrances and points are put on the nearest way, and the shortest ways between them are
-looked for by Dijkstra's search, cut at the limit.
+"""Walking links along streets.
 
-The search runs cube by cube of space, each as wide as the longest walk: whoever begins in a cube ends in it or in a
-neighbour, so only the streets of these are looked at.
+Stops, station entrances and points are snapped to the nearest street, and Dijkstra's algorithm finds the shortest paths
+between them up to the walking limit.
+
+The search divides space into cubes at least as wide as the limit, so that a walk from one cube ends in it or in an
+adjacent one. Each search therefore needs only the streets of 27 cubes.
+
+Positions are as in `street_graph`: Cartesian coordinates in metres, arrays of shape (n, 3).
 """
 
 from dataclasses import dataclass
-from typing import Any, Iterator
+from typing import Iterator
 
 import numpy as np
 
 from .. import progress
-from ..gtfs.columns import begins_run
 from ..gtfs.fields import Floats
 from ..gtfs.stops import Stops
-from .counting import WaysFound, Places, Ways, least
+from .counting import WaysFound, Places, Ways
 from .osm import Flags, Streets
-from .straight import (
-    Entrances,
-    Pace,
-    Walks,
-    cubes_of,
-    distances,
-    doors_of,
-    entrances_of,
-    inside_ways,
-    points_of,
-    ranges,
-)
+from .straight import Entrances, Pace, Walks, cubes_of, doors_of, entrances_of, inside_ways, points_of
+from .street_graph import Graph, Snaps, build_graph, snap, subgraph
 
-PIECE = 100.0  # metres of the pieces in which streets are looked for
-LEAST_SIDE = 300.0  # metres of a cube
-CELLS_AT_ONCE = 20_000_000  # of a search
+MIN_CUBE_SIDE = 300.0  # metres
+MAX_DISTANCES = 20_000_000  # entries of one distance matrix: 160 MB
 
 
 @dataclass(frozen=True)
-class Ends:
-    """Of each stop of a feed whether walks may begin there, and whether they may end there."""
+class Endpoints:
+    """Which places may be origins of walks, and which destinations.
 
-    begins: Flags
-    ends: Flags
-
-
-@dataclass(frozen=True)
-class Snapped:
-    """Where places are put: on a piece of a street, how far along it, and how far from it."""
-
-    piece: Places
-    along: Floats  # 0 at the piece's begin to 1 at its end
-    metres: Floats
-
-    def beside(self, near: float, pace: Pace) -> Floats:
-        """The metres from each place to its street; with a straight line's detour where that isn't near."""
-        return np.asarray(np.where(self.metres <= near, self.metres, self.metres * pace.detour))
-
-
-@dataclass(frozen=True)
-class Graph:
-    """One-way connections by the node at which they begin."""
-
-    points: Floats  # of each node, three numbers
-    begins: Places  # where the connections of each node begin, and behind the last one how many there are
-    end: Places
-    metres: Floats
-
-
-def snapped(streets: Streets, points: Floats) -> Snapped:
-    """The nearest street of each place."""
-    from scipy.spatial import cKDTree
-
-    nodes = points_of(streets.latitudes, streets.longitudes)
-    piece, low, high = short_pieces(nodes[streets.begin], nodes[streets.end])
-    ends = nodes[streets.begin], nodes[streets.end]
-    middle = at(*ends, piece, (low + high) / 2)
-    half = float(np.linalg.norm(at(*ends, piece, high) - at(*ends, piece, low), axis=1).max(initial=0)) / 2
-    tree = cKDTree(middle)
-    _, first = tree.query(points)
-    best = nearest_on(*ends, piece[first], points)
-    found = tree.query_ball_point(points, best.metres + half + 0.01, return_sorted=True)
-    counts = np.array([len(some) for some in found], dtype=np.int64)
-    place = np.repeat(np.arange(len(points)), counts)
-    others = piece[np.concatenate([np.zeros(0, np.int64), *map(np.asarray, found)]).astype(np.int64)]
-    every = nearest_on(*ends, others, points[place])
-    order = np.lexsort((every.piece, every.metres, place))
-    chosen = order[np.cumsum(counts) - counts]
-    return Snapped(every.piece[chosen], every.along[chosen], every.metres[chosen])
-
-
-def short_pieces(begin: Floats, end: Floats) -> tuple[Places, Floats, Floats]:
-    """Each piece cut into short ones: of which it is a part, from where on and up to where."""
-    counts = np.maximum(1, np.ceil(np.linalg.norm(end - begin, axis=1) / PIECE)).astype(np.int64)
-    piece = np.repeat(np.arange(len(counts)), counts)
-    number = np.arange(len(piece)) - np.repeat(np.cumsum(counts) - counts, counts)
-    return piece, number / counts[piece], (number + 1) / counts[piece]
-
-
-def at(begin: Floats, end: Floats, piece: Places, along: Floats) -> Floats:
-    return np.asarray(begin[piece] + (end[piece] - begin[piece]) * along[:, None])
-
-
-def nearest_on(begin: Floats, end: Floats, piece: Places, points: Floats) -> Snapped:
-    """The nearest point on a piece to each place."""
-    way = end[piece] - begin[piece]
-    length = np.maximum((way**2).sum(axis=1), 1e-12)
-    along = np.clip(((points - begin[piece]) * way).sum(axis=1) / length, 0, 1)
-    return Snapped(piece, along, np.linalg.norm(points - at(begin, end, piece, along), axis=1))
-
-
-def graph_of(streets: Streets, put: Snapped) -> Graph:
-    """The streets with a node more for each place that is put on them, behind the streets' own; one that is put on the
-    end of a piece is at the crossing, whichever way one may walk on the piece.
+    Attributes
+    ----------
+    origins, destinations
+        Boolean masks of shape (n,), one entry for each place.
     """
-    nodes = points_of(streets.latitudes, streets.longitudes)
-    own = at(nodes[streets.begin], nodes[streets.end], put.piece, put.along)
-    points, count = np.concatenate([nodes, own]), len(nodes)
-    order = np.lexsort((put.along, put.piece))
-    piece = put.piece[order]
-    new = np.append(begins_run(piece), True)
-    before = np.where(new[:-1], streets.begin[piece], np.concatenate([[0], order[:-1]])[: len(order)] + count)
-    ends, last = order + count, np.flatnonzero(new[1:])
-    begin = np.concatenate([streets.begin, before, order[last] + count])
-    end = np.concatenate([streets.end, ends, streets.end[piece[last]]])
-    of = np.concatenate([np.arange(len(streets.begin)), piece, piece[last]])
-    metres = distances(points[begin], points[end])
-    there, back = streets.forward[of], streets.backward[of]
-    at_end = np.flatnonzero((put.along <= 0) | (put.along >= 1))
-    crossing = np.where(put.along <= 0, streets.begin[put.piece], streets.end[put.piece])[at_end]
-    begins = [begin[there], end[back], crossing, at_end + count]
-    ends = [end[there], begin[back], at_end + count, crossing]
-    lengths = np.concatenate([metres[there], metres[back], np.zeros(2 * len(at_end))])
-    begin, end, metres = least(np.concatenate(begins), np.concatenate(ends), lengths)
-    return Graph(points, np.searchsorted(begin, np.arange(len(points) + 1)), end, metres)
+
+    origins: Flags
+    destinations: Flags
 
 
-def inner(graph: Graph, nodes: Places, local: Places) -> Any:
-    """The connections among some nodes, as a matrix of scipy; `local` is -1 for each node before and afterwards."""
-    from scipy.sparse import csr_matrix
+def shortest_paths(graph: Graph, first: int, connectors: Floats, limit: float, only: Endpoints) -> Iterator[Ways]:
+    """Find the shortest paths between places, connectors included.
 
-    local[nodes] = np.arange(len(nodes))
-    none = np.zeros(0, np.int64)
-    spans = ranges(graph.begins[nodes], graph.begins[nodes + 1])
-    number, chosen = (np.concatenate(part) for part in zip((none, none), *spans))
-    ends = local[graph.end[chosen]]
-    local[nodes] = -1
-    there = ends >= 0
-    begins = np.searchsorted(number[there], np.arange(len(nodes) + 1))
-    return csr_matrix((graph.metres[chosen][there], ends[there], begins), shape=(len(nodes), len(nodes)))
+    Parameters
+    ----------
+    graph
+        A graph whose nodes from `first` on are the places, see `build_graph`.
+    connectors
+        Metres between each place and its node, shape (places,).
+    limit
+        The longest path in metres, connectors included.
+    only
+        Which places are origins, and which destinations.
 
-
-def searched(graph: Graph, first: int, extra: Floats, most: float, only: Ends) -> Iterator[Ways]:
-    """The shortest ways between the places that were put behind the streets' own nodes, from `first` on: from which to
-    which, and metres with those next to the streets, if these are within a distance. `only` is of these places.
+    Yields
+    ------
+    tuple of arrays
+        Origin, destination and metres of some paths. Places are counted from 0; a path from a place to itself is
+        included.
     """
     from scipy.sparse.csgraph import dijkstra
 
-    cubes = cubes_of(graph.points, max(most, LEAST_SIDE))
-    local = np.full(len(graph.points), -1, dtype=np.int64)
-    sources = first + np.flatnonzero((extra <= most) & only.begins)
-    sources = sources[np.argsort(cubes.key[sources], kind="stable")]
-    keys, counts = np.unique(cubes.key[sources], return_counts=True)
-    groups = np.split(sources, np.cumsum(counts)[:-1]) if len(keys) else []
-    for key, begins in progress.shown(zip(keys.tolist(), groups), len(keys), "streets", "cubes"):
+    cubes = cubes_of(graph.positions, max(limit, MIN_CUBE_SIDE))
+    local = np.full(len(graph.positions), -1, dtype=np.int64)
+    origins = first + np.flatnonzero((connectors <= limit) & only.origins)
+    origins = origins[np.argsort(cubes.key[origins], kind="stable")]
+    keys, counts = np.unique(cubes.key[origins], return_counts=True)
+    groups = np.split(origins, np.cumsum(counts)[:-1]) if len(keys) else []
+    for key, group in progress.shown(zip(keys.tolist(), groups), len(keys), "streets", "cubes"):
+        # The box around the group's own origins is often much smaller than the 27 cubes.
         nodes = cubes.around(key)
-        low, high = graph.points[begins].min(axis=0) - most, graph.points[begins].max(axis=0) + most
-        nodes = nodes[((graph.points[nodes] >= low) & (graph.points[nodes] <= high)).all(axis=1)]
-        ends = nodes[nodes >= first]
-        ends = ends[(extra[ends - first] <= most) & only.ends[ends - first]]
-        connections = inner(graph, nodes, local)
-        for some in np.array_split(begins, -(-len(begins) * len(nodes) // CELLS_AT_ONCE)):
+        low, high = graph.positions[group].min(axis=0) - limit, graph.positions[group].max(axis=0) + limit
+        nodes = nodes[((graph.positions[nodes] >= low) & (graph.positions[nodes] <= high)).all(axis=1)]
+        destinations = nodes[nodes >= first]
+        is_reachable = connectors[destinations - first] <= limit
+        destinations = destinations[is_reachable & only.destinations[destinations - first]]
+        edges = subgraph(graph, nodes, local)
+        for batch in np.array_split(group, -(-len(group) * len(nodes) // MAX_DISTANCES)):
             local[nodes] = np.arange(len(nodes))
-            found = dijkstra(connections, indices=local[some], limit=most)[:, local[ends]]
+            found = dijkstra(edges, indices=local[batch], limit=limit)[:, local[destinations]]
             local[nodes] = -1
-            metres = found + extra[some - first][:, None] + extra[ends - first]
-            one, other = np.nonzero(metres <= most)
-            yield some[one] - first, ends[other] - first, metres[one, other]
+            metres = found + connectors[batch - first][:, None] + connectors[destinations - first]
+            row, column = np.nonzero(metres <= limit)
+            yield batch[row] - first, destinations[column] - first, metres[row, column]
 
 
 @dataclass(frozen=True)
-class OnStreets:
-    """The stops of a feed that have a place, put on streets."""
+class SnappedStops:
+    """The stops of a feed that have coordinates, snapped to streets.
 
-    chosen: Places  # their places among all stops
-    points: Floats
+    A stop has one *door*: its own position. If its station lists entrances, each of these is a door instead (GTFS
+    reference, stops.txt).
+
+    Attributes
+    ----------
+    indices
+        Index of each snapped stop among all stops of the feed, shape (n,).
+    positions
+        Positions of the snapped stops, shape (n, 3).
+    stations
+        The `parent_station` of each snapped stop, or "".
+    entrances
+        Positions of each station's entrances, by station.
+    doors
+        The doors of all snapped stops, d in number.
+    snaps
+        The nearest street of each door.
+    connectors
+        Metres from each door to its street, shape (d,).
+    """
+
+    indices: Places
+    positions: Floats
     stations: list[str]
     entrances: dict[str, Floats]
     doors: Entrances
-    put: Snapped  # of each door
-    beside: Floats  # metres from each door to its street
+    snaps: Snaps
+    connectors: Floats
 
-    def ways(self, streets: Streets, pace: Pace, only: Ends) -> Iterator[Ways]:
-        """Ways along streets, and within stations, between those that may be ends; of several one is the shortest."""
-        most, may = pace.along_streets.metres, Ends(only.begins[self.chosen], only.ends[self.chosen])
-        extra = self.beside + self.doors.inside * pace.detour
-        yield from between_doors(graph_of(streets, self.put), self.doors, extra, most, may)
-        for a, b, metres in inside_ways(self.points, self.stations, self.entrances, most / pace.detour):
-            for one, other in ((a, b), (b, a)):
-                both = may.begins[one] & may.ends[other]
-                yield one[both], other[both], metres[both] * pace.detour
+    def ways(self, streets: Streets, pace: Pace, only: Endpoints) -> Iterator[Ways]:
+        """Find the ways between snapped stops, along streets and within stations.
+
+        Several ways may join the same two stops; one of these is the shortest way between them.
+
+        Parameters
+        ----------
+        only
+            Which stops are origins, and which destinations, among all stops of the feed.
+
+        Yields
+        ------
+        tuple of arrays
+            Origin, destination (both as positions in `indices`) and metres of some ways.
+        """
+        limit = pace.along_streets.metres
+        endpoints = Endpoints(only.origins[self.indices], only.destinations[self.indices])
+        # From an entrance to a stop no street leads, so that part is a straight line with a detour.
+        connectors = self.connectors + self.doors.inside * pace.detour
+        yield from shortest_between_doors(build_graph(streets, self.snaps), self.doors, connectors, limit, endpoints)
+        for a, b, metres in inside_ways(self.positions, self.stations, self.entrances, limit / pace.detour):
+            for origin, destination in ((a, b), (b, a)):
+                chosen = endpoints.origins[origin] & endpoints.destinations[destination]
+                yield origin[chosen], destination[chosen], metres[chosen] * pace.detour
 
 
-def stops_on_streets(stops: Stops, streets: Streets, pace: Pace, near: float) -> OnStreets:
-    """The stops at which vehicles call, on their streets."""
-    chosen = np.flatnonzero((stops.kinds == 0) & stops.placed)
-    points = points_of(stops.latitudes[chosen], stops.longitudes[chosen])
-    stations, entrances = [stops.stations[place] for place in chosen], entrances_of(stops)
-    doors = doors_of(points, stations, entrances)
-    put = snapped(streets, doors.point)
-    return OnStreets(chosen, points, stations, entrances, doors, put, put.beside(near, pace))
+def snap_stops(stops: Stops, streets: Streets, pace: Pace, near: float) -> SnappedStops:
+    """Snap the stops at which vehicles call (`location_type` 0 or empty) to streets.
+
+    Parameters
+    ----------
+    near
+        See `Snaps.connectors`.
+    """
+    indices = np.flatnonzero((stops.kinds == 0) & stops.placed)
+    positions = points_of(stops.latitudes[indices], stops.longitudes[indices])
+    stations, entrances = [stops.stations[index] for index in indices], entrances_of(stops)
+    doors = doors_of(positions, stations, entrances)
+    snaps = snap(streets, doors.point)
+    return SnappedStops(indices, positions, stations, entrances, doors, snaps, snaps.connectors(near, pace))
 
 
 def street_walks(
-    stops: Stops, pace: Pace, streets: Streets, near: float, first: int | None = None, only: Ends | None = None
+    stops: Stops, pace: Pace, streets: Streets, near: float, first: int | None = None, only: Endpoints | None = None
 ) -> Walks:
-    """The footpaths along streets between all stops, or the first ones and all; of those that may be ends."""
-    called, there = stops.kinds == 0, stops_on_streets(stops, streets, pace, near)
-    chosen, most = there.chosen, pace.along_streets.metres
-    found = WaysFound(stops.path, first and int(np.searchsorted(chosen, first)), directions=1)
-    for some in there.ways(streets, pace, only or Ends(called, called)):
-        found.take(*some)
+    """Compute walking links along streets between stops.
+
+    Parameters
+    ----------
+    stops
+        The stops of a feed. Only those at which vehicles call get links.
+    pace
+        The walking limit and speed; its detour factor applies only off the streets.
+    near
+        See `Snaps.connectors`.
+    first
+        If given, only links to or from one of the first `first` stops are returned.
+    only
+        Which stops are origins, and which destinations; by default every stop at which vehicles call is both.
+
+    Raises
+    ------
+    TooManyWalks
+        There are more links than `ttm` reads.
+    """
+    called, snapped = stops.kinds == 0, snap_stops(stops, streets, pace, near)
+    indices, limit = snapped.indices, pace.along_streets.metres
+    found = WaysFound(stops.path, first and int(np.searchsorted(indices, first)), directions=1)
+    for ways in snapped.ways(streets, pace, only or Endpoints(called, called)):
+        found.take(*ways)
     origins, destinations, metres = found.all()
+
+    # The limit in metres has some slack for rounding; the whole seconds decide.
     seconds = pace.along_streets.seconds(metres)
-    kept = seconds <= pace.limit
-    is_far = (there.put.metres > near) & (there.beside <= most)
-    lost, far = int((called & ~stops.placed).sum()), len(np.unique(there.doors.stop[is_far]))
-    apart = len(chosen) - len(np.unique(there.doors.stop[there.beside <= most]))
-    ends = (chosen[origins[kept]], chosen[destinations[kept]])
-    return Walks(stops.identifiers, *ends, seconds[kept], lost, far, apart)
+    fits = seconds <= pace.limit
+
+    in_reach = snapped.connectors <= limit
+    lost = int((called & ~stops.placed).sum())
+    far = len(np.unique(snapped.doors.stop[(snapped.snaps.distance > near) & in_reach]))
+    apart = len(indices) - len(np.unique(snapped.doors.stop[in_reach]))
+    return Walks(
+        stops.identifiers, indices[origins[fits]], indices[destinations[fits]], seconds[fits], lost, far, apart
+    )
 
 
-def between_doors(graph: Graph, doors: Entrances, extra: Floats, most: float, only: Ends) -> Iterator[Ways]:
-    """The shortest ways between stops by way of their doors; `only` is of the stops."""
-    first, may = len(graph.points) - len(doors.stop), Ends(only.begins[doors.stop], only.ends[doors.stop])
-    for one, other, metres in searched(graph, first, extra, most, may):
-        a, b = doors.stop[one], doors.stop[other]
-        apart = a != b
-        yield a[apart], b[apart], metres[apart]
+def shortest_between_doors(
+    graph: Graph, doors: Entrances, connectors: Floats, limit: float, only: Endpoints
+) -> Iterator[Ways]:
+    """Find shortest paths between different stops by way of their doors.
+
+    Parameters
+    ----------
+    graph
+        A graph whose last nodes are the doors.
+    only
+        Which stops are origins, and which destinations.
+
+    Yields
+    ------
+    tuple of arrays
+        Origin and destination, as stops, and metres of some paths.
+    """
+    first = len(graph.positions) - len(doors.stop)
+    endpoints = Endpoints(only.origins[doors.stop], only.destinations[doors.stop])
+    for origin, destination, metres in shortest_paths(graph, first, connectors, limit, endpoints):
+        a, b = doors.stop[origin], doors.stop[destination]
+        differ = a != b
+        yield a[differ], b[differ], metres[differ]

@@ -10,7 +10,8 @@ import numpy.typing as npt
 from ..gtfs.fields import Floats
 from .osm import Streets
 from .straight import Pace, points_of
-from .streets import CELLS_AT_ONCE, Snapped, at, graph_of, snapped
+from .street_graph import Snaps, build_graph, interpolate, snap
+from .streets import MAX_DISTANCES
 
 Seconds = npt.NDArray[np.float64]  # NaN where there is no way within the limit
 
@@ -26,27 +27,27 @@ class Ways:
     near: float  # metres
 
     @cached_property
-    def put(self) -> Snapped:
-        return snapped(self.streets, np.concatenate([self.begins, self.ends]))
+    def snaps(self) -> Snaps:
+        return snap(self.streets, np.concatenate([self.begins, self.ends]))
 
     @cached_property
     def graph(self) -> tuple[Floats, Any]:
         """The points of the nodes, and the connections as a matrix of scipy."""
         from scipy.sparse import csr_matrix
 
-        found = graph_of(self.streets, self.put)
-        count = len(found.points)
-        return found.points, csr_matrix((found.metres, found.end, found.begins), shape=(count, count))
+        graph = build_graph(self.streets, self.snaps)
+        count = len(graph.positions)
+        return graph.positions, csr_matrix((graph.length, graph.target, graph.indptr), shape=(count, count))
 
     @cached_property
-    def beside(self) -> Floats:
-        """How far each place is from its street, metres."""
-        return self.put.beside(self.near, self.pace)
+    def connectors(self) -> Floats:
+        """The walking distance from each place to its street, metres."""
+        return self.snaps.connectors(self.near, self.pace)
 
     @property
     def first(self) -> int:
         """The node of the first place."""
-        return len(self.graph[0]) - len(self.put.piece)
+        return len(self.graph[0]) - len(self.snaps.edge)
 
     def seconds(self) -> Seconds:
         """From each begin to each end."""
@@ -58,10 +59,10 @@ class Ways:
         turned = len(ends) < len(begins)  # then the searches begin at the ends
         sources, others, matrix = (ends, begins, connections.T) if turned else (begins, ends, connections)
         found = np.full((len(sources), len(others)), np.inf)
-        for some in np.array_split(np.arange(len(sources)), -(-len(sources) * len(points) // CELLS_AT_ONCE) or 1):
+        for some in np.array_split(np.arange(len(sources)), -(-len(sources) * len(points) // MAX_DISTANCES) or 1):
             found[some] = dijkstra(matrix, indices=sources[some], limit=most)[:, others]
         metres = found.T if turned else found
-        metres = metres + self.beside[: len(begins), None] + self.beside[len(begins) :]
+        metres = metres + self.connectors[: len(begins), None] + self.connectors[len(begins) :]
         whole: Seconds = np.full(metres.shape, np.nan)
         there = metres <= most
         whole[there] = self.pace.along_streets.seconds(metres[there])
@@ -81,14 +82,15 @@ class Ways:
         while nodes[-1] != source:
             nodes.append(int(before[nodes[-1]]))
         line = np.concatenate([self.begins[begin][None], points[nodes[::-1]], self.ends[end][None]])
-        return line, float(found[target] + self.beside[begin] + self.beside[len(self.begins) + end])
+        return line, float(found[target] + self.connectors[begin] + self.connectors[len(self.begins) + end])
 
 
 def on_streets(streets: Streets, latitudes: Floats, longitudes: Floats) -> tuple[Floats, Floats]:
     """The nearest point on a street to each place, in degrees (longitudes and latitudes), and metres to it."""
-    put = snapped(streets, points_of(latitudes, longitudes))
+    snaps = snap(streets, points_of(latitudes, longitudes))
     nodes = points_of(streets.latitudes, streets.longitudes)
-    return degrees_of(at(nodes[streets.begin], nodes[streets.end], put.piece, put.along)), put.metres
+    nearest = interpolate(nodes[streets.begin], nodes[streets.end], snaps.edge, snaps.fraction)
+    return degrees_of(nearest), snaps.distance
 
 
 def degrees_of(points: Floats) -> Floats:

@@ -51,7 +51,7 @@ def page_streets(path: str, places: Stops, columns: Numbers, pace: Pace, near: f
 
 def within_walks(reach: Reach, places: Stops, bare: list[int], pace: Pace) -> PageStreets:
     """The streets that one reaches from some places within the longest walk."""
-    left = reach.left_at_nodes(np.full(len(bare), pace.limit * pace.speed) - reach.beside)
+    left = reach.left_at_nodes(np.full(len(bare), pace.limit * pace.speed) - reach.connectors)
     walked = left[reach.begin] > 0
     begin, end = reach.begin[walked], reach.end[walked]
     nodes = np.unique(np.concatenate([begin, end]))
@@ -62,5 +62,5 @@ def within_walks(reach: Reach, places: Stops, bare: list[int], pace: Pace) -> Pa
     degrees = np.rint(np.stack([reach.latitudes[nodes], reach.longitudes[nodes]], axis=1) * MICRO)
     at, beside = np.full(len(places.names), NO_NODE, np.int32), np.zeros(len(places.names), np.float32)
     at[bare] = number[len(reach.latitudes) - len(bare) :]
-    beside[bare] = reach.beside
+    beside[bare] = reach.connectors
     return PageStreets(degrees.astype(np.int32), number[begin][order], number[end][order], at, beside, pace.speed)
