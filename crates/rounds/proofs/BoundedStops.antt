@@ -13,8 +13,8 @@ use Rattle.trip_lanes.specs.Cut.{cut}
 use Rattle.trip_lanes.specs.Falls.{AreNoted}
 use Rattle.trip_lanes.specs.Lane.{lane, labels_in}
 use Rattle.trip_lanes.proofs.LoweredStop.{lowers_set, row_lane}
-use Rattle.rounds.specs.declared.bounded.Kept.{Kept}
-use Rattle.rounds.specs.Batches.{bounds_in}
+use Rattle.rounds.specs.declared.bounded.RoundTimes.{RoundTimes}
+use Rattle.rounds.specs.Batches.{as_labels}
 use Rattle.rounds.specs.CappedLabels.{LaneStateTo}
 use Rattle.rounds.specs.Cut.{cut_net}
 
@@ -35,12 +35,12 @@ one_more bound s time e h k =
     (lowers_both h k)
 
 -- one stop more, at the bound that was kept of it
-pub one_more_kept : (base cap : ℕ) (kept : List ℕ) (s bound : ℕ) {old mid new : List ℕ} → s < length kept →
-    bound ≡ slice_index kept s → Lowers (λ p x. (p < s) × (x ≡ slice_index (bounds_in base cap kept) p)) old mid →
+pub one_more_bound : (base cap : ℕ) (kept : List ℕ) (s bound : ℕ) {old mid new : List ℕ} → s < length kept →
+    bound ≡ slice_index kept s → Lowers (λ p x. (p < s) × (x ≡ slice_index (as_labels base cap kept) p)) old mid →
     Lowers (λ p x. (p ≡ s) × (x ≡ cut base cap bound)) mid new →
-    Lowers (λ p x. (p < s + 1) × (x ≡ slice_index (bounds_in base cap kept) p)) old new
-one_more_kept base cap kept s bound there is before lowered =
-    one_more (bounds_in base cap kept) s (cut base cap bound)
+    Lowers (λ p x. (p < s + 1) × (x ≡ slice_index (as_labels base cap kept) p)) old new
+one_more_bound base cap kept s bound there is before lowered =
+    one_more (as_labels base cap kept) s (cut base cap bound)
     (ap (cut base cap) is ∙ sym (get_or-map (cut base cap) kept s 0 0 there)) before lowered
 
 -- the row of a stop that is lowered to its bound, in one lane
@@ -73,10 +73,10 @@ pub none_noted : (ready kept : List ℕ) (fallen : List Bool) → ((p : ℕ) →
 none_noted ready kept fallen none = record { noted = λ p on. absurd (none p on); still = λ p out. refl }
 
 -- what is kept of labels has a position for each stop
-pub kept_long : (base never k : ℕ) (n : Net) (o : Whereabouts) (x : Kept) →
-    LaneStateTo never (cut_net base never n) o k (bounds_in base never x.ride.items)
-    (bounds_in base never x.ready.items) → (length x.ride.items ≡ n.stops) × (length x.ready.items ≡ n.stops)
-kept_long base never k n o x s = (
+pub times_long : (base never k : ℕ) (n : Net) (o : Whereabouts) (x : RoundTimes) →
+    LaneStateTo never (cut_net base never n) o k (as_labels base never x.ride.items)
+    (as_labels base never x.ready.items) → (length x.ride.items ≡ n.stops) × (length x.ready.items ≡ n.stops)
+times_long base never k n o x s = (
   sym (length-map x.ride.items (cut base never)) ∙ s.ride_len,
   sym (length-map x.ready.items (cut base never)) ∙ s.ready_len,
 )

@@ -14,7 +14,7 @@ use Rattle.useful_minutes.proofs.SearchedMinutes.{searched_whole}
 use Rattle.rounds.specs.declared.query.Query.{Query}
 use Rattle.rounds.specs.Arrivals.{AreToldFrom, IsTold}
 use Rattle.rounds.specs.Batches.{departure_at}
-use Rattle.rounds.specs.Query.{IsAsked}
+use Rattle.rounds.specs.Query.{IsValidQuery}
 use Rattle.rounds.specs.Table.{batches_of}
 use Rattle.rounds.specs.Window.{departure}
 use Rattle.rounds.proofs.SkippedDepartures.{filled_in}
@@ -33,7 +33,7 @@ taken q width found bases told =
           (sym (get_or-take (length q.searched.now) bases j 0 l)) (told.each p j there le l);
     }
 
-module _ (q : Query) (ok : IsNet q.network.now) (asked : IsAsked q) (positions waits : List ℕ)
+module _ (q : Query) (ok : IsNet q.network.now) (valid : IsValidQuery q) (positions waits : List ℕ)
     (plan : IsPlan q.window.minutes (16 * batches_of q.window.minutes) q.searched.now positions waits)
     (skips : SkipsNothing q.network.now q.origin.0 q.window.first q.window.minutes q.searched.now positions) (width : ℕ)
     (found bases : List ℕ) (told : AreToldFrom q width found bases 0) (p m : ℕ) (there : p < q.network.now.stops) (l : m
@@ -103,7 +103,7 @@ module _ (q : Query) (ok : IsNet q.network.now) (asked : IsAsked q) (positions w
         let next = from_next in
         let wait : slice_index waits m ≡ departure_at q at - departure q.window m = omega (arith, waits_so, up) in
         filled_in q.network.now q.origin.0 (departure q.window m) (departure_at q at) (omega (arith, up)) (skips m l) ok
-        asked.origin (asked.fits.on_axis (slice_index q.searched.now at) (asked.searched.within at stands.within))
+        valid.origin (valid.fits.on_axis (slice_index q.searched.now at) (valid.searched.within at stands.within))
         q.rides p next.0 (slice_index waits m) duration x next.1.least wait next.1.waited walked
 
     -- where each minute is searched, it is the least as it is
@@ -113,7 +113,7 @@ module _ (q : Query) (ok : IsNet q.network.now) (asked : IsAsked q) (positions w
         let whole = searched_whole q.window.minutes q.searched.now plan.are many in
         let within = stands.within in
         let up = stands.no_earlier in
-        let minutes = asked.searched.within at within in
+        let minutes = valid.searched.within at within in
         let same : slice_index q.searched.now at ≡ m = elim (cases_lt m at) [
           | inl less ↦ let sooner = stands.first m less in let e = whole m l in absurd (omega (arith, sooner, e))
           | inr ge ↦

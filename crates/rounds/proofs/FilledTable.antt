@@ -7,7 +7,7 @@ use Rattle.timetable.specs.declared.least.TheConstants.{NEVER}
 use Rattle.timetable.specs.Least.{IsLeastOrNever}
 use Rattle.useful_minutes.proofs.FilledLabels.{one_stop, position_before}
 use Rattle.rounds.specs.Table.{batches_of, known_of, IsLeastOrNone}
-use Rattle.rounds.specs.Batches.{AreDeadFrom}
+use Rattle.rounds.specs.Batches.{AreUnusedFrom}
 
 -- a position is of one minute
 pub one_minute_of : (w p q m k : ℕ) → m < w → k < w → p * w + m ≡ q * w + k → m ≡ k
@@ -36,9 +36,9 @@ known_least P x is = elim (cases_eq x NEVER) [
 ]
 
 -- labels of NEVER alone are those of dead lanes
-pub all_dead : (stops count minutes : ℕ) (labels : List (List ℕ)) →
-    labels ≡ replicate (stops * batches_of minutes) (replicate 16 NEVER) → AreDeadFrom stops count minutes labels
-all_dead stops count minutes labels e p j there past l =
+pub all_unused : (stops count minutes : ℕ) (labels : List (List ℕ)) →
+    labels ≡ replicate (stops * batches_of minutes) (replicate 16 NEVER) → AreUnusedFrom stops count minutes labels
+all_unused stops count minutes labels e p j there past l =
     let w = batches_of minutes in
     let i = p * w + j / 16 in
     let within : i < stops * w = position_before w p stops (j / 16) there (omega (arith, l)) in

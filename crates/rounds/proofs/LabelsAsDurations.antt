@@ -15,7 +15,7 @@ use Rattle.timetable.specs.Journeys.{IsDuration}
 use Rattle.useful_minutes.proofs.FilledLabels.{position_before}
 use Rattle.rounds.specs.declared.window.Window.{Window}
 use Rattle.rounds.specs.Window.{departure, AreDurations}
-use Rattle.rounds.specs.Batches.{AreLabels}
+use Rattle.rounds.specs.Batches.{AreWindowDurations}
 use Rattle.rounds.specs.Table.{IsDurationTable, AreLanes, table_of, durations_of, batches_of, label_in, label_of}
 use Rattle.rounds.specs.Table.{known_of, at, IsLeastOrNone}
 use Rattle.rounds.proofs.FilledTable.{known_least}
@@ -69,7 +69,7 @@ part_at labels minutes p m all r =
 -- the table that was filled: it is of a network whose stops have the numbers
 pub filled : (n m : Net) (origin : ℕ) (w : Window) (k : ℕ) (numbers : List ℕ) (labels : List (List ℕ)) → IsNet n →
     IsRenumbered (number_in numbers) n m → origin < n.stops → m.stops ≡ n.stops →
-    AreLanes n.stops w.minutes numbers labels → AreLabels m (slice_index numbers origin) w k labels →
+    AreLanes n.stops w.minutes numbers labels → AreWindowDurations m (slice_index numbers origin) w k labels →
     AreDurations n origin w k (table_of n.stops w.minutes numbers labels)
 filled n m origin w k numbers labels ok renumbered at_stop same are is =
     record {

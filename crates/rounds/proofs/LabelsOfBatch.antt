@@ -7,10 +7,10 @@ use Rattle.timetable.specs.declared.least.TheConstants.{NEVER}
 use Rattle.timetable.specs.Networks.{Net, IsNet}
 use Rattle.timetable.proofs.KnownParts.{all_at}
 use Rattle.trip_lanes.specs.Cut.{cut}
-use Rattle.rounds.specs.declared.bounded.Kept.{Kept}
+use Rattle.rounds.specs.declared.bounded.RoundTimes.{RoundTimes}
 use Rattle.rounds.specs.declared.query.Query.{Query}
 use Rattle.rounds.specs.Arrivals.{IsTold, NoneLate}
-use Rattle.rounds.specs.Batches.{AreKept, IsBaseTo, bounds_in, start_at}
+use Rattle.rounds.specs.Batches.{AreTimesFrom, IsBaseFor, as_labels, start_at}
 use Rattle.rounds.specs.Cut.{cut_net}
 use Rattle.rounds.specs.CappedLabels.{LaneStateTo}
 use Rattle.rounds.specs.State.{arrival}
@@ -61,7 +61,7 @@ lane_dead n ok base cap origin time rides ride ready some never state p there =
 
 -- bounds of NEVER are those of a departure at NEVER
 cleared_bounds : (stops base cap : ℕ) (kept : List ℕ) → kept ≡ replicate stops NEVER → base + cap ≤ NEVER →
-    bounds_in base cap kept ≡ replicate stops cap
+    as_labels base cap kept ≡ replicate stops cap
 cleared_bounds stops base cap kept e fits =
     let never : cut base cap NEVER ≡ cap = omega arith in
     let long = length-map (replicate stops NEVER) (cut base cap) ∙ length-replicate stops NEVER in
@@ -71,33 +71,33 @@ cleared_bounds stops base cap kept e fits =
     ∙ (ap (cut base cap) (get_or-replicate stops p NEVER 0 (omega (arith, long)))
     ∙ (never ∙ sym (get_or-replicate stops p cap 0 (omega (arith, long))))))
 
-pub kept_never : (n : Net) (ok : IsNet n) (base cap origin later rides : ℕ) (kept : List Kept) →
+pub never_times : (n : Net) (ok : IsNet n) (base cap origin later rides : ℕ) (kept : List RoundTimes) →
     All (λ x. (x.ride.items ≡ replicate n.stops NEVER) × (x.ready.items ≡ replicate n.stops NEVER)) kept →
-    base + cap ≤ NEVER → later ≡ NEVER → AreKept cap base n
+    base + cap ≤ NEVER → later ≡ NEVER → AreTimesFrom cap base n
     (record { stop = origin; time = cut base cap later }) rides kept
-kept_never n ok base cap origin later rides kept none fits late k x few here =
-    let e = all_at (λ (x : Kept). (x.ride.items ≡ replicate n.stops NEVER)
+never_times n ok base cap origin later rides kept none fits late k x few here =
+    let e = all_at (λ (x : RoundTimes). (x.ride.items ≡ replicate n.stops NEVER)
     × (x.ready.items ≡ replicate n.stops NEVER)) kept k x none here in
     never_state cap (cut_net base cap n) (cut_net_is_net base cap n ok)
-    (record { stop = origin; time = cut base cap later }) (omega arith) k (bounds_in base cap x.ride.items)
-    (bounds_in base cap x.ready.items)
+    (record { stop = origin; time = cut base cap later }) (omega arith) k (as_labels base cap x.ride.items)
+    (as_labels base cap x.ready.items)
     (cleared_bounds n.stops base cap x.ride.items e.0 fits)
     (cleared_bounds n.stops base cap x.ready.items e.1 fits)
 
 -- what is kept of a departure serves each base before it
-pub kept_rebased : (n : Net) (ok : IsNet n) (base cap origin time later rides : ℕ) (kept : List Kept) →
+pub times_rebased : (n : Net) (ok : IsNet n) (base cap origin time later rides : ℕ) (kept : List RoundTimes) →
     later < END_OF_AXIS → base ≤ later → (base ≡ 0) ⊎ (base < later) → (cap + END_OF_AXIS < NEVER → later ≤ base + 1) →
-    time ≡ later - base → AreKept cap base n (record { stop = origin; time = time }) rides kept → (sooner : ℕ) →
-    IsBaseTo cap later sooner → AreKept cap sooner n (record { stop = origin; time = cut sooner cap later }) rides kept
-kept_rebased n ok base cap origin time later rides kept early within before short is states sooner at k x few here =
-    let below : sooner ≤ base = elim at.live [
+    time ≡ later - base → AreTimesFrom cap base n (record { stop = origin; time = time }) rides kept → (sooner : ℕ) →
+    IsBaseFor cap later sooner → AreTimesFrom cap sooner n (record { stop = origin; time = cut sooner cap later }) rides kept
+times_rebased n ok base cap origin time later rides kept early within before short is states sooner at k x few here =
+    let below : sooner ≤ base = elim at.before [
       | inl none ↦ omega arith
       | inr some ↦ let high = short some.1 in
           omega (arith, some.0, high)
     ] in
-    let near : later < sooner + cap = elim at.near [ inl never ↦ omega arith | inr l ↦ l ] in
+    let near : later < sooner + cap = elim at.in_range [ inl never ↦ omega arith | inr l ↦ l ] in
     let live : (0 < time) ⊎ (base ≡ 0) = elim before [ inl none ↦ inr none | inr l ↦ inl (omega arith) ] in
     let live' : (0 < cut sooner cap later) ⊎ (sooner ≡ 0) =
-    elim at.live [ inl none ↦ inr none | inr l ↦ inl (omega (arith, l.0)) ] in
+    elim at.before [ inl none ↦ inr none | inr l ↦ inl (omega (arith, l.0)) ] in
     rebased n ok cap origin later base time sooner (cut sooner cap later) (omega arith) live
     (omega (arith, near, below)) live' below k x.ride.items x.ready.items (states k x few here)

@@ -8,10 +8,10 @@ use Rattle.useful_minutes.specs.Counted.{narrow_at}
 use Rattle.trip_lanes.specs.declared.lanes.TheConstants.{LANES}
 use Rattle.rounds.specs.declared.batches.Bounds.{Bounds}
 use Rattle.rounds.specs.declared.bounded.Batch.{Batch}
-use Rattle.rounds.specs.declared.narrow.FoundLabels.{FoundLabels}
+use Rattle.rounds.specs.declared.narrow.SearchedLabels.{SearchedLabels}
 use Rattle.rounds.specs.declared.query.Query.{Query}
 use Rattle.rounds.specs.declared.workspace.Workspace.{Workspace}
-use Rattle.rounds.specs.Batches.{AreBounds, IsLaterAt, IsSearchedAt, departure_at, start_at}
+use Rattle.rounds.specs.Batches.{AreBounds, IsBoundingDeparture, IsDepartureLabel, departure_at, start_at}
 use Rattle.rounds.specs.Searches.{arrival_in}
 
 -- the duration from a departure to the time that a label tells, which counts from a base; NEVER where the label is
@@ -38,18 +38,18 @@ pub record AreArrivals {R : Type 0} (lanes never : ℕ) (labels : R → List ℕ
     (w : Workspace R) : Type 0 where
   pub early : b.base < END_OF_AXIS
   pub whole : NEVER ≤ never + END_OF_AXIS → b.base ≡ 0
-  pub departs : (l : ℕ) → l < lanes →
-      IsSearchedAt q.window q.searched.now b.base never (from + l) (slice_index (labels b.departs) l)
+  pub departures : (l : ℕ) → l < lanes →
+      IsDepartureLabel q.window q.searched.now b.base never (from + l) (slice_index (labels b.departures) l)
   pub near : (l : ℕ) → l < lanes → from + l < length q.searched.now →
       departure_at q (from + l) + MOST_FOOT_SECONDS < b.base + never
   pub told : (l p : ℕ) → l < lanes → from + l < length q.searched.now → p < q.network.now.stops →
       (arrival_in labels w l p ≡ never → NoneLate q never b.base (departure_at q (from + l)) p) →
       IsTold q never b.base (departure_at q (from + l)) p (arrival_in labels w l p)
-  pub dead : (l p : ℕ) → l < lanes → length q.searched.now ≤ from + l → p < q.network.now.stops →
+  pub unused : (l p : ℕ) → l < lanes → length q.searched.now ≤ from + l → p < q.network.now.stops →
       arrival_in labels w l p ≡ never
 
--- the labels of the batch that begins at a position tell all arrivals of its departures
-pub record AreTold {R : Type 0} (lanes never : ℕ) (labels : R → List ℕ) (q : Query) (from base : ℕ)
+-- the labels of the batch that begins at position `from` are exact: they represent every arrival of its departures
+pub record AreExact {R : Type 0} (lanes never : ℕ) (labels : R → List ℕ) (q : Query) (from base : ℕ)
     (w : Workspace R) : Type 0 where
   pub early : base < END_OF_AXIS
   pub each : (l p : ℕ) → l < lanes → from + l < length q.searched.now → p < q.network.now.stops →
@@ -74,11 +74,11 @@ pub record AreAllTold (q : Query) (width : ℕ) (labels bases : List ℕ) : Type
 
 -- the labels from a position on tell all arrivals, and those of the departure there bound the batch before it; there is
 -- no whole batch past the searched minutes
-pub record AreFoundSoFar (q : Query) (b : Bounds) (f : FoundLabels) : Type 0 where
+pub record AreFoundSoFar (q : Query) (b : Bounds) (f : SearchedLabels) : Type 0 where
   pub room : HaveRoomFor q.network.now.stops f.width f.labels.items f.bases.items
   pub wide : length q.searched.now ≤ f.width
   pub few : f.width < length q.searched.now + LANES
   pub within : f.from ≤ f.width
-  pub later : IsLaterAt q f.from b.later
-  pub bounds : 0 < f.from → AreBounds 65535 q b.later b.kept.items
+  pub departure : IsBoundingDeparture q f.from b.departure
+  pub bounds : 0 < f.from → AreBounds 65535 q b.departure b.rounds.items
   pub told : AreToldFrom q f.width f.labels.items f.bases.items f.from

@@ -1,4 +1,4 @@
--- What is asked of a search, and the workspace that it takes.
+-- Valid queries of a search, and the lengths of its workspace.
 use Rattle.std.specs.Prelude.{◌≡◌, ◌+◌, ℕ, ◌<◌, ◌≤◌, length}
 use Rattle.timetable.specs.Lines.{LineTable, AreLinesOf}
 use Rattle.useful_minutes.specs.Plan.{AreMinutes}
@@ -7,15 +7,16 @@ use Rattle.rounds.specs.declared.workspace.Workspace.{Workspace}
 use Rattle.rounds.specs.Window.{Fits}
 use Rattle.rounds.specs.declared.window.TheConstants.{MOST_RIDES}
 
--- a stop, a window and the minutes of it to search, the lines of a network, and so many rides
-pub record IsAsked (q : Query) : Type 0 where
+-- a query that can be searched: the origin is a stop, the window fits, the minutes are in order, the lines are the
+-- network's, and rides are within the limit
+pub record IsValidQuery (q : Query) : Type 0 where
   pub origin : q.origin.0 < q.network.now.stops
   pub fits : Fits q.window
   pub rides : q.rides ≤ MOST_RIDES
   pub searched : AreMinutes q.window.minutes q.searched.now
   pub lines : AreLinesOf q.network.now.stops q.network.now.trips q.lines.now
 
--- the workspace has a position for each stop and line; of labels before one more, of no stop
+-- an entry for each stop or line; `before` has one more, scratch space of no stop
 pub record IsWorkspaceFor {R : Type 0} (stops : ℕ) (lines : LineTable) (t : Workspace R) : Type 0 where
   pub ride : length t.ride.items ≡ stops
   pub ready : length t.ready.labels.items ≡ stops

@@ -50,7 +50,7 @@ impl NarrowWorkspaces {
 
 /// The labels of the searched minutes, of each stop side by side. What they hold when a search begins doesn't matter.
 #[derive(Drop)]
-pub(crate) struct FoundLabels {
+pub(crate) struct SearchedLabels {
     /// By when each stop is reached, in seconds from the base of the minute. There are eight more, of no stop.
     pub labels: Vec<u16>,
     /// From when on the label at a position counts, in seconds on the axis.
@@ -61,10 +61,10 @@ pub(crate) struct FoundLabels {
     pub from: usize,
 }
 
-impl FoundLabels {
+impl SearchedLabels {
     /// Room for nothing yet.
     pub(crate) fn new(alloc: Global) -> Self {
-        FoundLabels {
+        SearchedLabels {
             labels: Vec::new(alloc),
             bases: Vec::new(alloc),
             width: 0,
@@ -138,7 +138,7 @@ fn find_batch<R: NarrowLabels>(
     bounds: &mut Bounds,
     workspace: &mut Workspace<R>,
     last: &mut LastArrivals,
-    found: &mut FoundLabels,
+    found: &mut SearchedLabels,
 ) -> Result<bool, AllocError>
     requires search { IsSearch 65535 query last.old.times.items }
     requires far { 480 * R.LANES + MOST_FOOT_SECONDS + 1 < R.NEVER }
@@ -169,7 +169,7 @@ fn find_next(
     bounds: &mut Bounds,
     workspaces: &mut NarrowWorkspaces,
     last: &mut LastArrivals,
-    found: &mut FoundLabels,
+    found: &mut SearchedLabels,
 ) -> Result<bool, AllocError>
     requires search { IsSearch 65535 query last.old.times.items }
     requires some { 0 < found.old.from }
@@ -210,7 +210,7 @@ pub(crate) fn run_narrow(
     query: Query<'_>,
     workspaces: &mut NarrowWorkspaces,
     last: &mut LastArrivals,
-    found: &mut FoundLabels,
+    found: &mut SearchedLabels,
 ) -> Result<bool, AllocError>
     requires search { IsSearch 65535 query last.old.times.items }
     ensures { IfOk result (λ told. IsTrue told →

@@ -1,11 +1,11 @@
-//! What is asked of a search.
+//! The input of a search.
 use crate::window::Window;
 use timetable::{Lines, Renumbered, StopNo};
 
-/// The least durations from a stop, for each departure of a window and journeys of at most so many rides.
+/// A search from `origin`, in the searched minutes of `window`, for journeys of at most `rides` rides.
 #[derive(Clone, Copy)]
 pub(crate) struct Query<'a> {
-    /// With each stop by its number.
+    /// The network, with stops by their search numbers.
     pub network: &'a Renumbered<'a>,
     /// The lines of the network.
     pub lines: &'a Lines,

@@ -3,12 +3,12 @@ ghost use Rattle.std.specs.Prelude.{ℕ, ◌*◌, ◌<◌, List, IfOk, OnOk};
 ghost use Rattle.useful_minutes.specs.Plan.{IsPlan, SkipsNothing};
 ghost use Rattle.trip_lanes.specs.declared.lanes.TheConstants.{LANES};
 ghost use Rattle.rounds.specs.Arrivals.{AreAllTold};
-ghost use Rattle.rounds.specs.Batches.{AreLabels, ArePacked};
-ghost use Rattle.rounds.specs.Query.{IsAsked};
+ghost use Rattle.rounds.specs.Batches.{AreWindowDurations, ArePackedDurations};
+ghost use Rattle.rounds.specs.Query.{IsValidQuery};
 ghost use Rattle.rounds.specs.Table.{batches_of};
 ghost use Rattle.rounds.specs.Window.{Fits};
 
-use crate::narrow::FoundLabels;
+use crate::narrow::SearchedLabels;
 use crate::query::Query;
 use crate::window::Window;
 use std::alloc::{AllocError, Global};
@@ -51,14 +51,14 @@ pub(crate) fn fill_skipped(
     waits: &[u32],
     labels: &mut [Lanes],
 ) -> Result<(), AllocError>
-    requires asked { IsAsked query }
+    requires query { IsValidQuery query }
     requires plan { IsPlan query.window.minutes (LANES * batches_of query.window.minutes) query.searched.now
         positions.now waits.now }
     requires skips { SkipsNothing query.network.now query.origin.0 query.window.first query.window.minutes
         query.searched.now positions.now }
-    requires packed { ArePacked query.network.now query.origin.0 query.window query.rides query.searched.now
+    requires packed { ArePackedDurations query.network.now query.origin.0 query.window query.rides query.searched.now
         labels.old }
-    ensures { OnOk result (AreLabels query.entry.network.now query.entry.origin.0 query.entry.window
+    ensures { OnOk result (AreWindowDurations query.entry.network.now query.entry.origin.0 query.entry.window
         query.entry.rides labels.new) }
 {
     query.network.known();
@@ -78,16 +78,16 @@ pub(crate) fn fill_skipped(
 pub(crate) fn count_all(
     alloc: Global,
     query: Query<'_>,
-    found: &FoundLabels,
+    found: &SearchedLabels,
     positions: &[u32],
 ) -> Result<Vec<Lanes>, AllocError>
-    requires asked { IsAsked query }
+    requires query { IsValidQuery query }
     requires plan { (waits : List ℕ) × IsPlan query.window.minutes (LANES * batches_of query.window.minutes)
         query.searched.now positions.now waits }
     requires skips { SkipsNothing query.network.now query.origin.0 query.window.first query.window.minutes
         query.searched.now positions.now }
     requires told { AreAllTold query found.now.width found.now.labels.items found.now.bases.items }
-    ensures { IfOk result (λ labels. AreLabels query.entry.network.now query.entry.origin.0 query.entry.window
+    ensures { IfOk result (λ labels. AreWindowDurations query.entry.network.now query.entry.origin.0 query.entry.window
         query.entry.rides labels.items) }
 {
     query.network.known();

@@ -6,11 +6,11 @@ ghost use Rattle.trip_lanes.specs.Lane.{lane, labels_in};
 ghost use Rattle.rounds.specs.Batches.{start_at};
 ghost use Rattle.rounds.specs.Cut.{cut_net};
 ghost use Rattle.rounds.specs.CappedLabels.{LaneStateTo};
-ghost use Rattle.rounds.specs.Query.{IsAsked, IsWorkspaceFor};
+ghost use Rattle.rounds.specs.Query.{IsValidQuery, IsWorkspaceFor};
 ghost use Rattle.rounds.specs.Searches.{AreLast, IsSearch};
 ghost use Rattle.rounds.specs.State.{arrival};
 
-use crate::bounded::{Batch, no_kept, run_bounded};
+use crate::bounded::{Batch, no_times, run_bounded};
 use crate::query::Query;
 use crate::workspace::Workspace;
 use std::alloc::{AllocError, Global};
@@ -32,8 +32,8 @@ fn run_first(
     query: Query<'_>,
     workspace: &mut Workspace<Lanes>,
 ) -> Result<(), AllocError>
-    requires asked { IsAsked query }
-    requires short { All (λ row. length row ≤ NEVER_VALUE) query.lines.now.lines }
+    requires query { IsValidQuery query }
+    requires ranks { All (λ row. length row ≤ NEVER_VALUE) query.lines.now.lines }
     requires workspace { IsWorkspaceFor query.network.now.stops query.lines.now workspace.old }
     ensures workspace { OnOk result (IsWorkspaceFor query.entry.network.now.stops query.entry.lines.now workspace.new) }
     ensures state { OnOk result (LaneStateTo NEVER_VALUE (cut_net 0 NEVER_VALUE query.entry.network.now)
@@ -42,17 +42,17 @@ fn run_first(
         (lane 0 (labels_in (λ row. row) workspace.new.ready.labels.items))) }
 {
     query.network.known();
-    let mut kept = no_kept(alloc, query.network.stops() as usize, query.rides)?;
-    let departs = Lanes::minutely(query.window.first, 1);
+    let mut rounds = no_times(alloc, query.network.stops() as usize, query.rides)?;
+    let departures = Lanes::minutely(query.window.first, 1);
     run_bounded(
         query,
         Batch {
             base: 0,
-            departs,
-            later: NEVER,
-            keeps: false,
+            departures,
+            bounded_by: NEVER,
+            saves_bounds: false,
         },
-        kept.as_mut_slice(),
+        rounds.as_mut_slice(),
         workspace,
     );
     Ok(())

@@ -3,8 +3,8 @@ ghost use Rattle.std.specs.Prelude.{◌≡◌, ◌≢◌, ℕ, ◌+◌, ◌*◌,
 ghost use Rattle.timetable.specs.declared.least.TheConstants.{NEVER as NEVER_VALUE};
 ghost use Rattle.trip_lanes.specs.Since.{IsSinceTo};
 ghost use Rattle.trip_lanes.specs.declared.lanes.TheConstants.{LANES as LANES_VALUE};
-ghost use Rattle.rounds.specs.Query.{IsAsked, IsWorkspaceFor};
-ghost use Rattle.rounds.specs.Searches.{AreFound, HaveRoom, arrival_in};
+ghost use Rattle.rounds.specs.Query.{IsValidQuery, IsWorkspaceFor};
+ghost use Rattle.rounds.specs.Searches.{HasPackedDurations, HaveRoom, arrival_in};
 
 use crate::batches::{no_bounds, run_batch};
 use crate::query::Query;
@@ -17,7 +17,7 @@ use trip_lanes::{LANES, LaneLabels, Lanes, since};
 fn write_batch(
     labels: &mut [Lanes],
     workspace: &Workspace<Lanes>,
-    departs: Lanes,
+    departures: Lanes,
     at: usize,
     batches: usize,
 )
@@ -28,10 +28,10 @@ fn write_batch(
         arrival_in (λ row. row) workspace.now l p ≤ NEVER_VALUE }
     requires since { (l p : ℕ) → l < LANES_VALUE → p < length workspace.now.ready.labels.items →
         arrival_in (λ row. row) workspace.now l p ≢ NEVER_VALUE →
-        slice_index departs l ≤ arrival_in (λ row. row) workspace.now l p }
+        slice_index departures l ≤ arrival_in (λ row. row) workspace.now l p }
     ensures same { length labels.new ≡ length labels.old }
     ensures written { (l p : ℕ) → l < LANES_VALUE → p < length workspace.now.ready.labels.items →
-        IsSinceTo NEVER_VALUE (slice_index departs l) (arrival_in (λ row. row) workspace.now l p)
+        IsSinceTo NEVER_VALUE (slice_index departures l) (arrival_in (λ row. row) workspace.now l p)
         (slice_index (slice_index_or labels.new (p * batches + at) []) l) }
     ensures kept { (p b : ℕ) → b < batches → b ≢ at →
         slice_index_or labels.new (p * batches + b) [] ≡ slice_index_or labels.old (p * batches + b) [] }
@@ -40,7 +40,7 @@ fn write_batch(
     let ready = workspace.ready.labels.as_slice();
     for stop in 0..ready.len() {
         let arrived = ride[stop].lower_of(ready[stop]);
-        labels[stop * batches + at] = since(arrived, departs);
+        labels[stop * batches + at] = since(arrived, departures);
     }
 }
 
@@ -52,10 +52,10 @@ pub(crate) fn run_window(
     workspace: &mut Workspace<Lanes>,
     labels: &mut [Lanes],
 ) -> Result<(), AllocError>
-    requires asked { IsAsked query }
+    requires query { IsValidQuery query }
     requires workspace { IsWorkspaceFor query.network.now.stops query.lines.now workspace.old }
     requires room { HaveRoom query labels.old }
-    ensures { OnOk result (AreFound query.entry labels.new) }
+    ensures { OnOk result (HasPackedDurations query.entry labels.new) }
 {
     query.network.known();
     let batches = (query.searched.len() + (LANES - 1)) / LANES;
@@ -64,7 +64,7 @@ pub(crate) fn run_window(
     for i in 0..batches {
         let at = batches - 1 - i;
         let batch = run_batch(query, LANES * at, &mut bounds, workspace);
-        write_batch(labels, workspace, batch.departs, at, chunks);
+        write_batch(labels, workspace, batch.departures, at, chunks);
     }
     Ok(())
 }

@@ -26,7 +26,8 @@ pub(crate) struct Readiness<R> {
 pub(crate) struct Workspace<R> {
     /// By when each stop is reached by a ride, for departures side by side.
     pub ride: Vec<R>,
-    /// Whether a ride reached the stop earlier in this round; before the first, whether journeys begin there.
+    /// Whether the ride label of the stop fell in some lane in this round; before the first round, whether the stop is
+    /// the origin.
     pub marked: Vec<bool>,
     pub ready: Readiness<R>,
     /// How far readiness fell at each stop since lines were scanned last.

@@ -7,20 +7,20 @@ use Rattle.trip_lanes.specs.Lane.{lane, labels_in}
 use Rattle.rounds.specs.Batches.{AreBounds, departure_at}
 use Rattle.rounds.proofs.BoundedStops.{written}
 use Rattle.rounds.proofs.SearchedBatches.{axis, spans, before_next}
-use Rattle.rounds.proofs.LabelsOfBatch.{lane_told, lane_dead, kept_rebased}
+use Rattle.rounds.proofs.LabelsOfBatch.{lane_told, lane_dead, times_rebased}
 use Rattle.rounds.proofs.batches.run_batch.Goals as goal
 
 pub overflow_add-first : goal.overflow_add-first
 overflow_add-first g c =
     let q = c.args.query in
-    let a = axis q.window c.requires.asked.fits q.searched.now c.requires.asked.searched g.R.LaneLabels.LANES
+    let a = axis q.window c.requires.query.fits q.searched.now c.requires.query.searched g.R.LaneLabels.LANES
     c.args.from g.met.R.LaneLabels.some c.requires.from in
     omega (arith, a)
 
 pub base_of-base-requires-clause-first : goal.base_of-base-requires-clause-first
 base_of-base-requires-clause-first g c =
     let q = c.args.query in
-    axis q.window c.requires.asked.fits q.searched.now c.requires.asked.searched g.R.LaneLabels.LANES
+    axis q.window c.requires.query.fits q.searched.now c.requires.query.searched g.R.LaneLabels.LANES
     c.args.from g.met.R.LaneLabels.some c.requires.from
 
 pub run_bounded-requires-clause-batch : goal.run_bounded-requires-clause-batch
@@ -30,39 +30,39 @@ run_bounded-requires-clause-batch g c =
     let lanes = g.R.LaneLabels.LANES in
     let from = c.args.from in
     let many = g.met.R.LaneLabels.some in
-    let fits = c.requires.asked.fits in
-    let are = c.requires.asked.searched in
+    let fits = c.requires.query.fits in
+    let are = c.requires.query.searched in
     let base = c.base_of-base.ensures in
-    let later = c.requires.later in
+    let later = c.requires.departure in
     record {
       base = base.fits;
-      departs = λ l h.
-          let d = c.departs_of-departs.ensures l h in
+      departures = λ l h.
+          let d = c.departure_labels-departures.ensures l h in
           elim (cases_lt (from + l) count) [
             | inl lt ↦
-                let t = d.live lt in
+                let t = d.used lt in
                 let s = spans q.window fits q.searched.now are lanes from many l (omega (arith, h)) lt in
-                omega (arith, t, s.1, base.near, h)
-            | inr ge ↦ let t = d.dead ge in omega (arith, t)
+                omega (arith, t, s.1, base.span, h)
+            | inr ge ↦ let t = d.unused ge in omega (arith, t)
           ];
       none_later = λ l h.
-          let d = c.departs_of-departs.ensures l h in
+          let d = c.departure_labels-departures.ensures l h in
           elim (cases_lt (from + lanes) count) [
             | inl more ↦
-                let e = later.within more in
+                let e = later.followed more in
                 let lt : from + l < count = omega (arith, h, more) in
-                let t = d.live lt in
+                let t = d.used lt in
                 let s = spans q.window fits q.searched.now are lanes from many l (omega (arith, h)) lt in
                 let next = before_next q.window fits q.searched.now are lanes from many more l h in
-                omega (arith, e, t, s.1, next, base.near, base.within, h)
+                omega (arith, e, t, s.1, next, base.span, base.no_later, h)
             | inr none ↦
-                let e = later.past none in
+                let e = later.last none in
                 elim (cases_lt (from + l) count) [
                   | inl lt ↦
-                      let t = d.live lt in
+                      let t = d.used lt in
                       let s = spans q.window fits q.searched.now are lanes from many l (omega (arith, h)) lt in
-                      omega (arith, t, e, s.1, base.near, base.fits, h)
-                  | inr ge ↦ let t = d.dead ge in omega (arith, t, e, base.fits)
+                      omega (arith, t, e, s.1, base.span, base.fits, h)
+                  | inr ge ↦ let t = d.unused ge in omega (arith, t, e, base.fits)
                 ]
           ];
     }
@@ -74,33 +74,33 @@ run_bounded-requires-clause-bounds g c =
     let lanes = g.R.LaneLabels.LANES in
     let from = c.args.from in
     let many = g.met.R.LaneLabels.some in
-    let fits = c.requires.asked.fits in
-    let are = c.requires.asked.searched in
+    let fits = c.requires.query.fits in
+    let are = c.requires.query.searched in
     let base = c.base_of-base.ensures in
     let a = axis q.window fits q.searched.now are lanes from many c.requires.from in
     let first : ℕ = departure_at q from in
-    let time : ℕ = c.args.bounds.now.later in
+    let time : ℕ = c.args.bounds.now.departure in
     let later : (time ≡ NEVER) ⊎ ((first ≤ time) × (time ≤ first + 480 * lanes)) =
     elim (cases_lt (from + lanes) count) [
       | inl more ↦
-          let e = c.requires.later.within more in
+          let e = c.requires.departure.followed more in
           let s = spans q.window fits q.searched.now are lanes from many lanes (omega arith) more in
           inr (omega (arith, e, s.0), omega (arith, e, s.1))
-      | inr none ↦ inl (c.requires.later.past none)
+      | inr none ↦ inl (c.requires.departure.last none)
     ] in
     rw c.as_mut_slice.ensures.value (c.requires.bounds.each c.base_of-base.result (record {
       fits = base.fits;
-      live = elim base.before [
+      before = elim base.before [
         | inl none ↦ inl none
         | inr l ↦ elim (cases_lt (g.R.LaneLabels.NEVER + END_OF_AXIS) NEVER) [
           | inl short ↦ inr (
             elim later [ inl e ↦ omega (arith, l, a, e) | inr e ↦ omega (arith, l, e.0) ],
             short,
           )
-          | inr long ↦ inl (base.long long)
+          | inr long ↦ inl (base.wide long)
         ]
       ];
-      near = elim later [ inl e ↦ inl e | inr e ↦ inr (omega (arith, e.1, base.near, base.within)) ];
+      in_range = elim later [ inl e ↦ inl e | inr e ↦ inr (omega (arith, e.1, base.span, base.no_later)) ];
     }))
 
 pub returns-clause-arrivals : goal.returns-clause-arrivals
@@ -112,33 +112,33 @@ returns-clause-arrivals g c =
     let never = g.R.LaneLabels.NEVER in
     let from = c.args.from in
     let many = g.met.R.LaneLabels.some in
-    let fits = c.requires.asked.fits in
-    let are = c.requires.asked.searched in
+    let fits = c.requires.query.fits in
+    let are = c.requires.query.searched in
     let base = c.base_of-base.ensures in
     let a = axis q.window fits q.searched.now are lanes from many c.requires.from in
     let ride : ℕ → List ℕ = λ l. lane l (labels_in g.R.LaneLabels.labels c.run_bounded.new.workspace.ride.items) in
     let ready : ℕ → List ℕ = λ l. lane l
     (labels_in g.R.LaneLabels.labels c.run_bounded.new.workspace.ready.labels.items) in
-    let time : ℕ → ℕ = λ l. slice_index (g.R.LaneLabels.labels c.departs_of-departs.result) l in
+    let time : ℕ → ℕ = λ l. slice_index (g.R.LaneLabels.labels c.departure_labels-departures.result) l in
     record {
-      early = omega (arith, a, base.within);
-      whole = base.long;
-      departs = c.departs_of-departs.ensures;
+      early = omega (arith, a, base.no_later);
+      whole = base.wide;
+      departures = c.departure_labels-departures.ensures;
       near = λ l h within.
           let s = spans q.window fits q.searched.now are lanes from many l (omega (arith, h)) within in
-          omega (arith, s.1, h, base.near, base.within);
+          omega (arith, s.1, h, base.span, base.no_later);
       told = λ l p h within there late.
-          let t = (c.departs_of-departs.ensures l h).live within in
+          let t = (c.departure_labels-departures.ensures l h).used within in
           let s = spans q.window fits q.searched.now are lanes from many l (omega (arith, h)) within in
           lane_told q c.known.ensures c.base_of-base.result never (time l) (departure_at q (from + l)) t
           (elim base.before [
             | inl none ↦ inr none
             | inr before ↦ inl (omega (arith, before, t, s.0))
-          ]) (ride l) (ready l) (c.run_bounded.ensures.states l h) p there (omega (arith, base.fits)) late;
-      dead = λ l p h past there.
+          ]) (ride l) (ready l) (c.run_bounded.ensures.labels l h) p there (omega (arith, base.fits)) late;
+      unused = λ l p h past there.
           lane_dead n c.known.ensures c.base_of-base.result never q.origin.0 (time l) q.rides (ride l) (ready l)
-          (omega (arith, base.near)) ((c.departs_of-departs.ensures l h).dead past)
-          (c.run_bounded.ensures.states l h) p there;
+          (omega (arith, base.span)) ((c.departure_labels-departures.ensures l h).unused past)
+          (c.run_bounded.ensures.labels l h) p there;
     }
 
 pub returns-clause-bounds : goal.returns-clause-bounds
@@ -148,20 +148,20 @@ returns-clause-bounds g c more =
     let never = g.R.LaneLabels.NEVER in
     let from = c.args.from in
     let base = c.base_of-base.ensures in
-    let a = axis q.window c.requires.asked.fits q.searched.now c.requires.asked.searched lanes from
+    let a = axis q.window c.requires.query.fits q.searched.now c.requires.query.searched lanes from
     g.met.R.LaneLabels.some c.requires.from in
     let some : 0 < lanes = omega (arith, g.met.R.LaneLabels.some) in
     let no_lane : from + 0 ≡ from = omega arith in
-    let head = (c.departs_of-departs.ensures 0 some).live (omega (arith, no_lane, c.requires.from)) in
+    let head = (c.departure_labels-departures.ensures 0 some).used (omega (arith, no_lane, c.requires.from)) in
     let head_same = ap (departure_at q) no_lane in
-    let is_kept = written c.args.bounds.now.kept c.run_bounded.new.kept c.requires.bounds.many
-    c.as_mut_slice.ensures.value c.as_mut_slice.ensures.len c.run_bounded.ensures.many in
-    let new : AreBounds never q (departure_at q from) c.run_bounded.new.kept =
+    let are_rounds = written c.args.bounds.now.rounds c.run_bounded.new.rounds c.requires.bounds.count
+    c.as_mut_slice.ensures.value c.as_mut_slice.ensures.len c.run_bounded.ensures.count in
+    let new : AreBounds never q (departure_at q from) c.run_bounded.new.rounds =
     record {
-      many = c.run_bounded.ensures.many;
-      each = kept_rebased q.network.now c.known.ensures c.base_of-base.result never q.origin.0
-          (slice_index (g.R.LaneLabels.labels c.departs_of-departs.result) 0) (departure_at q from)
-          q.rides c.run_bounded.new.kept a base.within base.before base.short
-          (omega (arith, head, head_same)) (c.run_bounded.ensures.kept (lt-ltb 0 from more));
+      count = c.run_bounded.ensures.count;
+      each = times_rebased q.network.now c.known.ensures c.base_of-base.result never q.origin.0
+          (slice_index (g.R.LaneLabels.labels c.departure_labels-departures.result) 0) (departure_at q from)
+          q.rides c.run_bounded.new.rounds a base.no_later base.before base.narrow
+          (omega (arith, head, head_same)) (c.run_bounded.ensures.times (lt-ltb 0 from more));
     } in
-    rw is_kept new
+    rw are_rounds new

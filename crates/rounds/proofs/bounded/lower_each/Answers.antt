@@ -2,7 +2,7 @@ use Rattle.std.proofs.Common.{◌≤◌, length, slice_index, refl, arith}
 use Rattle.std.proofs.lemmas.List.{length-map}
 use Rattle.timetable.proofs.LowersCompose.{lowers_alike_in}
 use Rattle.trip_lanes.specs.Lane.{lane, labels_in}
-use Rattle.rounds.proofs.BoundedStops.{one_more_kept}
+use Rattle.rounds.proofs.BoundedStops.{one_more_bound}
 use Rattle.rounds.proofs.LabelTables.{fits_after}
 use Rattle.rounds.proofs.bounded.lower_each.Goals as goal
 
@@ -14,9 +14,9 @@ lower_one-requires-clause-fits g c l h =
 
 pub loop-stop-preserved : goal.loop-stop-preserved
 loop-stop-preserved g c l h =
-    let kept = c.args.bound.now in
+    let bounds = c.args.bounds.now in
     let stop = c.loop-stop.stop in
-    one_more_kept c.args.base g.R.LaneLabels.NEVER kept stop (slice_index kept stop) (omega arith) refl
+    one_more_bound c.args.base g.R.LaneLabels.NEVER bounds stop (slice_index bounds stop) (omega arith) refl
     (c.loop-stop.invariant l h) (c.lower_one.ensures l h)
 
 pub returns : goal.returns

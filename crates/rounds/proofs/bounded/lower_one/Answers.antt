@@ -10,7 +10,7 @@ returns-then-bound-ne-NEVER g c l h =
     row_lowered g.R.LaneLabels.labels c.args.labels.now c.args.stop l c.index-labels-stop.result c.lower_of.result
     (cut c.args.base g.R.LaneLabels.NEVER c.args.bound) c.index-labels-stop.is (omega arith)
     (c.lower_of.ensures l h
-    ∙ ap (min (slice_index (g.R.LaneLabels.labels c.index-labels-stop.result) l)) (c.bound_of.ensures l h))
+    ∙ ap (min (slice_index (g.R.LaneLabels.labels c.index-labels-stop.result) l)) (c.as_label.ensures l h))
 
 pub returns-else-bound-ne-NEVER : goal.returns-else-bound-ne-NEVER
 returns-else-bound-ne-NEVER g c l h =

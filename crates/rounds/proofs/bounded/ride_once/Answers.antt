@@ -11,12 +11,12 @@ use Rattle.trip_lanes.specs.Cut.{cut}
 use Rattle.trip_lanes.specs.Lane.{lane, labels_in}
 use Rattle.trip_lanes.proofs.TripInOneLane.{lane_falls}
 use Rattle.trip_lanes.proofs.UnmarkedStops.{unmarked_still}
-use Rattle.rounds.specs.declared.bounded.Kept.{Kept}
-use Rattle.rounds.specs.Batches.{start_at, bounds_in}
+use Rattle.rounds.specs.declared.bounded.RoundTimes.{RoundTimes}
+use Rattle.rounds.specs.Batches.{start_at, as_labels}
 use Rattle.rounds.specs.Cut.{cut_net}
 use Rattle.rounds.specs.CappedLabels.{LaneStateTo}
 use Rattle.rounds.specs.Rounds.{IsSettled}
-use Rattle.rounds.proofs.BoundedStops.{none_noted, kept_long, written, written_long}
+use Rattle.rounds.proofs.BoundedStops.{none_noted, times_long, written, written_long}
 use Rattle.rounds.proofs.CutNetworks.{cut_net_is_net}
 use Rattle.rounds.proofs.LabelTables.{fits_after}
 use Rattle.rounds.proofs.LabelStates.{bounded_next}
@@ -46,13 +46,13 @@ lower_to-requires-clause-same g c =
     let never = g.R.LaneLabels.NEVER in
     let base = c.args.batch.base in
     let n = c.args.query.network.now in
-    let later = start_at c.args.query (cut base never c.args.batch.later) in
+    let later = start_at c.args.query (cut base never c.args.batch.bounded_by) in
     let k = c.args.rides in
-    let was = c.args.kept.now in
-    let x = get_or was (k + 1) c.index-kept-rides.result in
-    let long = kept_long base never (k + 1) n later x
-    (c.requires.kept.bounds (k + 1) x (omega arith) (omega arith)
-    (slice_get-get_or was (k + 1) c.index-kept-rides.result (omega (arith, c.requires.kept.many)))) in
+    let was = c.args.rounds.now in
+    let x = get_or was (k + 1) c.index-rounds-rides.result in
+    let long = times_long base never (k + 1) n later x
+    (c.requires.times.bounds (k + 1) x (omega arith) (omega arith)
+    (slice_get-get_or was (k + 1) c.index-rounds-rides.result (omega (arith, c.requires.times.count)))) in
     omega (
       arith,
       long.0,
@@ -65,17 +65,17 @@ lower_to-requires-clause-fits g c l p h =
     (state_of l g.R.LaneLabels.labels c.as_mut_slice-ride.ensures.value c.as_mut_slice-ready.ensures.value
     (c.requires.labels.states l h)).ride_fits p
 
-pub lower_to-requires-clause-bounded : goal.lower_to-requires-clause-bounded
-lower_to-requires-clause-bounded g c none =
+pub lower_to-requires-clause-unbounded : goal.lower_to-requires-clause-unbounded
+lower_to-requires-clause-unbounded g c none =
     let never = g.R.LaneLabels.NEVER in
     let base = c.args.batch.base in
     let k = c.args.rides in
-    let x = get_or c.args.kept.now (k + 1) c.index-kept-rides.result in
-    let bound = c.requires.kept.bounds (k + 1) x (omega arith) (omega arith)
-    (slice_get-get_or c.args.kept.now (k + 1) c.index-kept-rides.result (omega (arith, c.requires.kept.many))) in
+    let x = get_or c.args.rounds.now (k + 1) c.index-rounds-rides.result in
+    let bound = c.requires.times.bounds (k + 1) x (omega arith) (omega arith)
+    (slice_get-get_or c.args.rounds.now (k + 1) c.index-rounds-rides.result (omega (arith, c.requires.times.count))) in
     rw c.as_slice.ensures.value ((none_bound c.args.query.network.now c.known.ensures base never
-    c.args.query.origin.0 c.args.batch.later (k + 1) (bounds_in base never x.ride.items)
-    (bounds_in base never x.ready.items) (omega (arith, g.met.R.LaneLabels.room)) c.requires.batch.base
+    c.args.query.origin.0 c.args.batch.bounded_by (k + 1) (as_labels base never x.ride.items)
+    (as_labels base never x.ready.items) (omega (arith, g.met.R.LaneLabels.room)) c.requires.batch.base
     none bound).0)
 
 pub note_falls-requires-clause-stops : goal.note_falls-requires-clause-stops
@@ -84,13 +84,13 @@ note_falls-requires-clause-stops g c =
       arith,
       ap length c.as_mut_slice-ready.ensures.value,
       c.requires.workspace.ready,
-      c.requires.asked.lines.boarded.size,
+      c.requires.query.lines.boarded.size,
     )
 
 pub note_falls-requires-clause-in_range : goal.note_falls-requires-clause-in_range
 note_falls-requires-clause-in_range g c p line position b =
     let r = boarded_line c.args.query.network.now.stops c.args.query.network.now.trips c.args.query.lines.now
-    c.requires.asked.lines p line position b in
+    c.requires.query.lines p line position b in
     omega (arith, r, ap length c.as_mut_slice-due.ensures.value, c.requires.workspace.due)
 
 pub scan_lines-requires-clause-fits : goal.scan_lines-requires-clause-fits
@@ -103,34 +103,34 @@ scan_lines-requires-clause-fits g c l p h =
 pub scan_lines-requires-clause-before : goal.scan_lines-requires-clause-before
 scan_lines-requires-clause-before g c l h =
     let rows = labels_in g.R.LaneLabels.labels in
-    let x = get_or c.args.kept.now (c.args.rides + 1) c.index-kept-rides.result in
-    let bound = c.requires.kept.bounds (c.args.rides + 1) x (omega arith) (omega arith)
-    (slice_get-get_or c.args.kept.now (c.args.rides + 1) c.index-kept-rides.result
-    (omega (arith, c.requires.kept.many))) in
+    let x = get_or c.args.rounds.now (c.args.rides + 1) c.index-rounds-rides.result in
+    let bound = c.requires.times.bounds (c.args.rides + 1) x (omega arith) (omega arith)
+    (slice_get-get_or c.args.rounds.now (c.args.rides + 1) c.index-rounds-rides.result
+    (omega (arith, c.requires.times.count))) in
     let settled = settled_of l g.R.LaneLabels.labels c.as_mut_slice-ride.ensures.value
     c.as_mut_slice-ready.ensures.value c.as_mut_slice-before.ensures.value c.as_mut_slice-fallen.ensures.value
     (c.requires.labels.settled l h) in
     record {
       before = settled.was;
       fell = c.note_falls.ensures.falls l settled.was h settled.noted;
-      settled = λ p y within o. settled.settled (bounds_in c.args.batch.base g.R.LaneLabels.NEVER x.ride.items)
-          (bounds_in c.args.batch.base g.R.LaneLabels.NEVER x.ready.items) (lane l (rows c.lower_to.new.labels)) o.trip
+      settled = λ p y within o. settled.settled (as_labels c.args.batch.base g.R.LaneLabels.NEVER x.ride.items)
+          (as_labels c.args.batch.base g.R.LaneLabels.NEVER x.ready.items) (lane l (rows c.lower_to.new.labels)) o.trip
           o.t bound (rw c.as_slice.ensures.value at (c.lower_to.ensures l h)) (rw c.trips.ensures at o.runs) p y within
           o.carries;
     }
 
-pub bound_ready-requires-clause-bound : goal.bound_ready-requires-clause-bound
-bound_ready-requires-clause-bound g c =
+pub bound_ready-requires-clause-same : goal.bound_ready-requires-clause-same
+bound_ready-requires-clause-same g c =
     let never = g.R.LaneLabels.NEVER in
     let base = c.args.batch.base in
     let n = c.args.query.network.now in
-    let later = start_at c.args.query (cut base never c.args.batch.later) in
+    let later = start_at c.args.query (cut base never c.args.batch.bounded_by) in
     let k = c.args.rides in
-    let was = c.args.kept.now in
-    let x = get_or was (k + 1) c.index-kept-rides.result in
-    let long = kept_long base never (k + 1) n later x
-    (c.requires.kept.bounds (k + 1) x (omega arith) (omega arith)
-    (slice_get-get_or was (k + 1) c.index-kept-rides.result (omega (arith, c.requires.kept.many)))) in
+    let was = c.args.rounds.now in
+    let x = get_or was (k + 1) c.index-rounds-rides.result in
+    let long = times_long base never (k + 1) n later x
+    (c.requires.times.bounds (k + 1) x (omega arith) (omega arith)
+    (slice_get-get_or was (k + 1) c.index-rounds-rides.result (omega (arith, c.requires.times.count)))) in
     omega (
       arith,
       long.1,
@@ -138,17 +138,17 @@ bound_ready-requires-clause-bound g c =
       (ap length c.as_mut_slice-ready.ensures.value ∙ c.requires.workspace.ready),
     )
 
-pub bound_ready-requires-clause-bounded : goal.bound_ready-requires-clause-bounded
-bound_ready-requires-clause-bounded g c none =
+pub bound_ready-requires-clause-unbounded : goal.bound_ready-requires-clause-unbounded
+bound_ready-requires-clause-unbounded g c none =
     let never = g.R.LaneLabels.NEVER in
     let base = c.args.batch.base in
     let k = c.args.rides in
-    let x = get_or c.args.kept.now (k + 1) c.index-kept-rides.result in
-    let bound = c.requires.kept.bounds (k + 1) x (omega arith) (omega arith)
-    (slice_get-get_or c.args.kept.now (k + 1) c.index-kept-rides.result (omega (arith, c.requires.kept.many))) in
+    let x = get_or c.args.rounds.now (k + 1) c.index-rounds-rides.result in
+    let bound = c.requires.times.bounds (k + 1) x (omega arith) (omega arith)
+    (slice_get-get_or c.args.rounds.now (k + 1) c.index-rounds-rides.result (omega (arith, c.requires.times.count))) in
     rw c.as_slice-2.ensures.value ((none_bound c.args.query.network.now c.known.ensures base never
-    c.args.query.origin.0 c.args.batch.later (k + 1) (bounds_in base never x.ride.items)
-    (bounds_in base never x.ready.items) (omega (arith, g.met.R.LaneLabels.room)) c.requires.batch.base
+    c.args.query.origin.0 c.args.batch.bounded_by (k + 1) (as_labels base never x.ride.items)
+    (as_labels base never x.ready.items) (omega (arith, g.met.R.LaneLabels.room)) c.requires.batch.base
     none bound).1)
 
 pub bound_ready-requires-clause-fits : goal.bound_ready-requires-clause-fits
@@ -172,11 +172,11 @@ transfer_marked-requires-clause-settled g c l x h within none =
     let n = c.args.query.network.now in
     let ok = cut_net_is_net base never n c.known.ensures in
     let k = c.args.rides in
-    let later = start_at c.args.query (cut base never c.args.batch.later) in
-    let o = start_at c.args.query (slice_index (g.R.LaneLabels.labels c.args.batch.departs) l) in
-    let bound = c.requires.kept.bounds (k + 1) (get_or c.args.kept.now (c.args.rides + 1) c.index-kept-rides.result)
-    (omega arith) (omega arith) (slice_get-get_or c.args.kept.now (c.args.rides + 1) c.index-kept-rides.result
-    (omega (arith, c.requires.kept.many))) in
+    let later = start_at c.args.query (cut base never c.args.batch.bounded_by) in
+    let o = start_at c.args.query (slice_index (g.R.LaneLabels.labels c.args.batch.departures) l) in
+    let bound = c.requires.times.bounds (k + 1) (get_or c.args.rounds.now (c.args.rides + 1) c.index-rounds-rides.result)
+    (omega arith) (omega arith) (slice_get-get_or c.args.rounds.now (c.args.rides + 1) c.index-rounds-rides.result
+    (omega (arith, c.requires.times.count))) in
     let lowered = rows c.lower_to.new.labels in
     let ridden = rows c.scan_lines.new.ride in
     let there : x < n.stops =
@@ -190,56 +190,56 @@ transfer_marked-requires-clause-settled g c l x h within none =
     (lane l (rows c.as_mut_slice-ride.result.now))
     (lane l (rows c.as_mut_slice-ready.result.now)) (lane l lowered) (lane l ridden)
     (lane l (rows c.bound_ready.new.labels))
-    (bounds_in base never (get_or c.args.kept.now (c.args.rides + 1) c.index-kept-rides.result).ride.items)
-    (bounds_in base never (get_or c.args.kept.now (c.args.rides + 1) c.index-kept-rides.result).ready.items)
+    (as_labels base never (get_or c.args.rounds.now (c.args.rides + 1) c.index-rounds-rides.result).ride.items)
+    (as_labels base never (get_or c.args.rounds.now (c.args.rides + 1) c.index-rounds-rides.result).ready.items)
     (state_of l g.R.LaneLabels.labels c.as_mut_slice-ride.ensures.value c.as_mut_slice-ready.ensures.value
     (c.requires.labels.states l h)) bound (rw c.as_slice.ensures.value at (c.lower_to.ensures l h))
     (rw c.as_slice-2.ensures.value at (c.bound_ready.ensures.lanes l h)) x there still)
 
-pub keep_both-requires-clause-ride : goal.keep_both-requires-clause-ride
-keep_both-requires-clause-ride g c =
+pub save_both-requires-clause-ride : goal.save_both-requires-clause-ride
+save_both-requires-clause-ride g c =
     let never = g.R.LaneLabels.NEVER in
     let base = c.args.batch.base in
     let n = c.args.query.network.now in
-    let later = start_at c.args.query (cut base never c.args.batch.later) in
+    let later = start_at c.args.query (cut base never c.args.batch.bounded_by) in
     let k = c.args.rides in
-    let was = c.args.kept.now in
-    let x = get_or was (k + 1) c.index-kept-rides.result in
-    let long = kept_long base never (k + 1) n later x
-    (c.requires.kept.bounds (k + 1) x (omega arith) (omega arith)
-    (slice_get-get_or was (k + 1) c.index-kept-rides.result (omega (arith, c.requires.kept.many)))) in
+    let was = c.args.rounds.now in
+    let x = get_or was (k + 1) c.index-rounds-rides.result in
+    let long = times_long base never (k + 1) n later x
+    (c.requires.times.bounds (k + 1) x (omega arith) (omega arith)
+    (slice_get-get_or was (k + 1) c.index-rounds-rides.result (omega (arith, c.requires.times.count)))) in
     omega (
       arith,
       long.0,
-      ap (λ (y : Kept). length y.ride.items) c.index-kept-rides.is,
+      ap (λ (y : RoundTimes). length y.ride.items) c.index-rounds-rides.is,
       c.lower_to.auto.labels,
       c.scan_lines.auto.ride,
       (ap length c.as_mut_slice-ride.ensures.value ∙ c.requires.workspace.ride),
     )
 
-pub keep_both-requires-clause-ready : goal.keep_both-requires-clause-ready
-keep_both-requires-clause-ready g c =
+pub save_both-requires-clause-ready : goal.save_both-requires-clause-ready
+save_both-requires-clause-ready g c =
     let never = g.R.LaneLabels.NEVER in
     let base = c.args.batch.base in
     let n = c.args.query.network.now in
-    let later = start_at c.args.query (cut base never c.args.batch.later) in
+    let later = start_at c.args.query (cut base never c.args.batch.bounded_by) in
     let k = c.args.rides in
-    let was = c.args.kept.now in
-    let x = get_or was (k + 1) c.index-kept-rides.result in
-    let long = kept_long base never (k + 1) n later x
-    (c.requires.kept.bounds (k + 1) x (omega arith) (omega arith)
-    (slice_get-get_or was (k + 1) c.index-kept-rides.result (omega (arith, c.requires.kept.many)))) in
+    let was = c.args.rounds.now in
+    let x = get_or was (k + 1) c.index-rounds-rides.result in
+    let long = times_long base never (k + 1) n later x
+    (c.requires.times.bounds (k + 1) x (omega arith) (omega arith)
+    (slice_get-get_or was (k + 1) c.index-rounds-rides.result (omega (arith, c.requires.times.count)))) in
     omega (
       arith,
       long.1,
-      ap (λ (y : Kept). length y.ready.items) c.index-kept-rides.is,
+      ap (λ (y : RoundTimes). length y.ready.items) c.index-rounds-rides.is,
       c.bound_ready.auto.labels,
       c.transfer_marked.auto.ready,
       (ap length c.as_mut_slice-ready.ensures.value ∙ c.requires.workspace.ready),
     )
 
-pub keep_both-requires-clause-ride_fits : goal.keep_both-requires-clause-ride_fits
-keep_both-requires-clause-ride_fits g c p =
+pub save_both-requires-clause-ride_fits : goal.save_both-requires-clause-ride_fits
+save_both-requires-clause-ride_fits g c p =
     let never = g.R.LaneLabels.NEVER in
     let rows = labels_in g.R.LaneLabels.labels in
     let some : 0 < g.R.LaneLabels.LANES = omega (arith, g.met.R.LaneLabels.some) in
@@ -249,8 +249,8 @@ keep_both-requires-clause-ride_fits g c p =
     (c.requires.labels.states 0 some)).ride_fits (c.lower_to.ensures 0 some))
     (c.scan_lines.ensures.lanes 0 some) p
 
-pub keep_both-requires-clause-ready_fits : goal.keep_both-requires-clause-ready_fits
-keep_both-requires-clause-ready_fits g c p =
+pub save_both-requires-clause-ready_fits : goal.save_both-requires-clause-ready_fits
+save_both-requires-clause-ready_fits g c p =
     let never = g.R.LaneLabels.NEVER in
     let rows = labels_in g.R.LaneLabels.labels in
     let some : 0 < g.R.LaneLabels.LANES = omega (arith, g.met.R.LaneLabels.some) in
@@ -327,24 +327,24 @@ returns-clause-labels g c =
     let cn = cut_net base never n in
     let ok = cut_net_is_net base never n c.known.ensures in
     let limit : never ≤ NEVER = omega (arith, c.requires.batch.base) in
-    let later = start_at c.args.query (cut base never c.args.batch.later) in
-    let departs = g.R.LaneLabels.labels c.args.batch.departs in
+    let later = start_at c.args.query (cut base never c.args.batch.bounded_by) in
+    let departures = g.R.LaneLabels.labels c.args.batch.departures in
     let some : 0 < g.R.LaneLabels.LANES = omega (arith, g.met.R.LaneLabels.some) in
     let k = c.args.rides in
-    let was = c.args.kept.now in
-    let bound = c.requires.kept.bounds (k + 1) (get_or c.args.kept.now (c.args.rides + 1) c.index-kept-rides.result)
-    (omega arith) (omega arith) (slice_get-get_or c.args.kept.now (c.args.rides + 1) c.index-kept-rides.result
-    (omega (arith, c.requires.kept.many))) in
+    let was = c.args.rounds.now in
+    let bound = c.requires.times.bounds (k + 1) (get_or c.args.rounds.now (c.args.rides + 1) c.index-rounds-rides.result)
+    (omega arith) (omega arith) (slice_get-get_or c.args.rounds.now (c.args.rides + 1) c.index-rounds-rides.result
+    (omega (arith, c.requires.times.count))) in
     let lanes : (l : ℕ) → l < g.R.LaneLabels.LANES →
-    LaneStateTo never cn (start_at c.args.query (slice_index departs l)) (k + 1)
+    LaneStateTo never cn (start_at c.args.query (slice_index departures l)) (k + 1)
     (lane l (rows c.scan_lines.new.ride)) (lane l (rows c.transfer_marked.new.ready)) = λ l h.
-    bounded_next never cn ok (start_at c.args.query (slice_index departs l)) later c.requires.asked.origin refl
+    bounded_next never cn ok (start_at c.args.query (slice_index departures l)) later c.requires.query.origin refl
     (c.requires.batch.none_later l h) limit k (lane l (rows c.as_mut_slice-ride.result.now))
     (lane l (rows c.as_mut_slice-ready.result.now))
     (lane l (rows c.lower_to.new.labels)) (lane l (rows c.scan_lines.new.ride))
     (lane l (rows c.bound_ready.new.labels)) (lane l (rows c.transfer_marked.new.ready))
-    (bounds_in base never (get_or c.args.kept.now (c.args.rides + 1) c.index-kept-rides.result).ride.items)
-    (bounds_in base never (get_or c.args.kept.now (c.args.rides + 1) c.index-kept-rides.result).ready.items)
+    (as_labels base never (get_or c.args.rounds.now (c.args.rides + 1) c.index-rounds-rides.result).ride.items)
+    (as_labels base never (get_or c.args.rounds.now (c.args.rides + 1) c.index-rounds-rides.result).ready.items)
     (state_of l g.R.LaneLabels.labels c.as_mut_slice-ride.ensures.value c.as_mut_slice-ready.ensures.value
     (c.requires.labels.states l h)) bound (rw c.as_slice.ensures.value at (c.lower_to.ensures l h))
     (rw c.trips.ensures at (c.scan_lines.ensures.lanes l h))
@@ -367,11 +367,11 @@ returns-clause-labels g c =
             c.bound_ready.new.fallen c.bound_ready.ensures.none);
         settled = λ next next_ready lowered trip t more lower runs.
             round_settled never cn ok later
-            (start_at c.args.query (slice_index departs l)) k (lane l (rows c.as_mut_slice-ride.result.now))
+            (start_at c.args.query (slice_index departures l)) k (lane l (rows c.as_mut_slice-ride.result.now))
             (lane l (rows c.as_mut_slice-ready.result.now)) (lane l (rows c.lower_to.new.labels))
             (lane l (rows c.scan_lines.new.ride)) (lane l (rows c.bound_ready.new.labels)) lowered
-            (bounds_in base never (get_or was (k + 1) c.index-kept-rides.result).ride.items)
-            (bounds_in base never (get_or was (k + 1) c.index-kept-rides.result).ready.items)
+            (as_labels base never (get_or was (k + 1) c.index-rounds-rides.result).ride.items)
+            (as_labels base never (get_or was (k + 1) c.index-rounds-rides.result).ready.items)
             next next_ready (state_of l g.R.LaneLabels.labels c.as_mut_slice-ride.ensures.value
             c.as_mut_slice-ready.ensures.value
             (c.requires.labels.states l h)) (lanes l h).ride_len bound more
@@ -380,8 +380,8 @@ returns-clause-labels g c =
       });
     }
 
-pub returns-clause-kept : goal.returns-clause-kept
-returns-clause-kept g c =
+pub returns-clause-times : goal.returns-clause-times
+returns-clause-times g c =
     let never = g.R.LaneLabels.NEVER in
     let base = c.args.batch.base in
     let rows = labels_in g.R.LaneLabels.labels in
@@ -389,42 +389,42 @@ returns-clause-kept g c =
     let cn = cut_net base never n in
     let ok = cut_net_is_net base never n c.known.ensures in
     let limit : never ≤ NEVER = omega (arith, c.requires.batch.base) in
-    let later = start_at c.args.query (cut base never c.args.batch.later) in
-    let departs = g.R.LaneLabels.labels c.args.batch.departs in
+    let later = start_at c.args.query (cut base never c.args.batch.bounded_by) in
+    let departures = g.R.LaneLabels.labels c.args.batch.departures in
     let some : 0 < g.R.LaneLabels.LANES = omega (arith, g.met.R.LaneLabels.some) in
     let k = c.args.rides in
-    let bound = c.requires.kept.bounds (k + 1) (get_or c.args.kept.now (c.args.rides + 1) c.index-kept-rides.result)
-    (omega arith) (omega arith) (slice_get-get_or c.args.kept.now (c.args.rides + 1) c.index-kept-rides.result
-    (omega (arith, c.requires.kept.many))) in
+    let bound = c.requires.times.bounds (k + 1) (get_or c.args.rounds.now (c.args.rides + 1) c.index-rounds-rides.result)
+    (omega arith) (omega arith) (slice_get-get_or c.args.rounds.now (c.args.rides + 1) c.index-rounds-rides.result
+    (omega (arith, c.requires.times.count))) in
     let lanes : (l : ℕ) → l < g.R.LaneLabels.LANES →
-    LaneStateTo never cn (start_at c.args.query (slice_index departs l)) (k + 1)
+    LaneStateTo never cn (start_at c.args.query (slice_index departures l)) (k + 1)
     (lane l (rows c.scan_lines.new.ride)) (lane l (rows c.transfer_marked.new.ready)) = λ l h.
-    bounded_next never cn ok (start_at c.args.query (slice_index departs l)) later c.requires.asked.origin refl
+    bounded_next never cn ok (start_at c.args.query (slice_index departures l)) later c.requires.query.origin refl
     (c.requires.batch.none_later l h) limit k (lane l (rows c.as_mut_slice-ride.result.now))
     (lane l (rows c.as_mut_slice-ready.result.now))
     (lane l (rows c.lower_to.new.labels)) (lane l (rows c.scan_lines.new.ride))
     (lane l (rows c.bound_ready.new.labels)) (lane l (rows c.transfer_marked.new.ready))
-    (bounds_in base never (get_or c.args.kept.now (c.args.rides + 1) c.index-kept-rides.result).ride.items)
-    (bounds_in base never (get_or c.args.kept.now (c.args.rides + 1) c.index-kept-rides.result).ready.items)
+    (as_labels base never (get_or c.args.rounds.now (c.args.rides + 1) c.index-rounds-rides.result).ride.items)
+    (as_labels base never (get_or c.args.rounds.now (c.args.rides + 1) c.index-rounds-rides.result).ready.items)
     (state_of l g.R.LaneLabels.labels c.as_mut_slice-ride.ensures.value c.as_mut_slice-ready.ensures.value
     (c.requires.labels.states l h)) bound (rw c.as_slice.ensures.value at (c.lower_to.ensures l h))
     (rw c.trips.ensures at (c.scan_lines.ensures.lanes l h))
     (rw c.as_slice-2.ensures.value at (c.bound_ready.ensures.lanes l h))
     (rw c.feet.ensures at (c.transfer_marked.ensures.lanes l h)) in
     record {
-      many = search rules;
-      own = λ keeps j x below here.
+      count = search rules;
+      own = λ saves j x below here.
           elim (cases_lt j (k + 1)) [
-            | inl lt ↦ c.requires.kept.own keeps j x (omega arith)
-                (sym (set_other c.args.kept.now (k + 1) j c.keep_both.new.kept (λ e. omega arith)) ∙ here)
+            | inl lt ↦ c.requires.times.own saves j x (omega arith)
+                (sym (set_other c.args.rounds.now (k + 1) j c.save_both.new.times (λ e. omega arith)) ∙ here)
             | inr ge ↦
                 let e : j ≡ k + 1 = omega arith in
                 let here' = rw e at here in
-                let is : c.keep_both.new.kept ≡ x =
-                same_Some _ _ (sym (set_same c.args.kept.now (k + 1) c.keep_both.new.kept (omega arith))
+                let is : c.save_both.new.times ≡ x =
+                same_Some _ _ (sym (set_same c.args.rounds.now (k + 1) c.save_both.new.times (omega arith))
                 ∙ here') in
-                rw (e, ← is, c.keep_both.ensures.ride keeps, c.keep_both.ensures.ready keeps) (lanes 0 some)
+                rw (e, ← is, c.save_both.ensures.ride saves, c.save_both.ensures.ready saves) (lanes 0 some)
           ];
-      bounds = λ j x more few here. c.requires.kept.bounds j x (omega arith) few
-          (sym (set_other c.args.kept.now (k + 1) j c.keep_both.new.kept (λ e. omega arith)) ∙ here);
+      bounds = λ j x more few here. c.requires.times.bounds j x (omega arith) few
+          (sym (set_other c.args.rounds.now (k + 1) j c.save_both.new.times (λ e. omega arith)) ∙ here);
     }

@@ -1,5 +1,5 @@
 use Rattle.rounds.specs.Query.{IsWorkspaceFor}
-use Rattle.rounds.specs.Rounds.{AreAfter, AreKeptAfter}
+use Rattle.rounds.specs.Rounds.{AreAfter, AreTimesAfter}
 use Rattle.rounds.proofs.bounded.run_bounded.Given as goal
 
 abbrev pub invariant-loop-k : goal.invariant-loop-k
@@ -9,5 +9,5 @@ invariant-loop-k g v =
     record {
       workspace : IsWorkspaceFor v.query.network.now.stops v.query.lines.now v.workspace;
       labels : AreAfter g.R.LaneLabels.LANES never rows v.query v.fn.batch v.k v.workspace;
-      kept : AreKeptAfter never rows v.query v.fn.batch v.k v.kept;
+      times : AreTimesAfter never rows v.query v.fn.batch v.k v.rounds;
     }

@@ -26,7 +26,7 @@ returns-clause-found g c _ =
     let bases_are = written f.bases c.write_bases.new.bases refl had_bases c.as_mut_slice-bases.ensures.len
     (bases.same ∙ ap length had_bases) in
     let ready = c.in_ok-base.ensures.workspace.ready in
-    let told = rw c.in-Some.is at c.in_ok-base.ensures.told in
+    let told = rw c.in-Some.is at c.in_ok-base.ensures.exact in
     record {
       room = rw (labels_are, bases_are) (record {
         places = omega (arith, old.room.places, found.same, ap length had_labels);
@@ -35,8 +35,9 @@ returns-clause-found g c _ =
       wide = old.wide;
       few = old.few;
       within = omega (arith, old.within);
-      later = c.in_ok-base.ensures.later;
-      bounds = λ more. subst (λ (x : ℕ). AreBounds x q c.try_batch.new.bounds.later c.try_batch.new.bounds.kept.items)
+      departure = c.in_ok-base.ensures.departure;
+      bounds = λ more. subst (λ (x : ℕ). AreBounds x q c.try_batch.new.bounds.departure
+          c.try_batch.new.bounds.rounds.items)
           g.met.R.NarrowLabels.narrow (c.in_ok-base.ensures.bounds more);
       told = rw (labels_are, bases_are) (record {
         early = λ j le l. elim (cases_lt j f.from) [

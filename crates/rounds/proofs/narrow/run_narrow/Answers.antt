@@ -6,8 +6,8 @@ use Rattle.rounds.proofs.narrow.run_narrow.Goals as goal
 pub fit-requires-clause-width : goal.fit-requires-clause-width
 fit-requires-clause-width c =
     let q = c.args.query in
-    let searched = few_searched q.window.minutes q.searched.now c.requires.search.asked.searched in
-    let minutes = c.requires.search.asked.fits.few in
+    let searched = few_searched q.window.minutes q.searched.now c.requires.search.query.searched in
+    let minutes = c.requires.search.query.fits.few in
     omega (arith, searched, minutes)
 
 pub loop-found-init : goal.loop-found-init
@@ -28,9 +28,9 @@ loop-found-init c =
         wide = wide;
         few = omega (arith, size);
         within = omega (arith, size, none);
-        later = record {
-          past = λ _. c.in_ok-bounds.ensures.later;
-          within = λ more. absurd (omega (arith, more, past));
+        departure = record {
+          last = λ _. c.in_ok-bounds.ensures.departure;
+          followed = λ more. absurd (omega (arith, more, past));
         };
         bounds = λ _. c.in_ok-bounds.ensures.bounds 65535;
         told = record {

@@ -60,7 +60,7 @@ count_durations-requires-clause-since c p m there l =
     let told = handed q c.args.found.now.width c.as_slice.result.now c.as_slice-bases.result.now
     c.args.found.now.labels.items c.args.found.now.bases.items c.as_slice.ensures.value
     c.as_slice-bases.ensures.value c.requires.told in
-    counted_since q c.known.ensures c.requires.asked c.args.positions.now c.requires.plan.0 c.requires.plan.1
+    counted_since q c.known.ensures c.requires.query c.args.positions.now c.requires.plan.0 c.requires.plan.1
     c.requires.skips c.args.found.now.width c.as_slice.result.now
     (take (length q.searched.now) c.as_slice-bases.result.now) told p m (omega (arith, there, c.stops-stops.ensures)) l
 
@@ -93,20 +93,20 @@ returns c =
           rw (v.labels-is, is_new) (record {
             size = long;
             each = λ p m there l.
-                counted_in q c.known.ensures c.requires.asked c.args.positions.now c.requires.plan.0 plan
+                counted_in q c.known.ensures c.requires.query c.args.positions.now c.requires.plan.0 plan
                 c.requires.skips c.args.found.now.width c.as_slice.result.now bases told p m there l
                 (label_of w.minutes c.in_ok-labels.labels.items p m)
                 (counted.counted chunks p m plan.long (omega (arith, there, stops)) l)
                 (label_of w.minutes v.walk_alone.new.labels p m) (rw same at (walked.walked p m there l));
-            dead = λ p m there late l. rw same at (walked.kept p m there late l) ∙ past p m there late l;
+            unused = λ p m there late l. rw same at (walked.kept p m there late l) ∙ past p m there late l;
           })
       | else-searched-minutes v ↦ rw v.labels-is (record {
         size = size;
         each = λ p m there l.
-            counted_whole q c.known.ensures c.requires.asked c.args.positions.now c.requires.plan.0 plan
+            counted_whole q c.known.ensures c.requires.query c.args.positions.now c.requires.plan.0 plan
             c.requires.skips c.args.found.now.width c.as_slice.result.now bases told p m there l
             (label_of w.minutes c.in_ok-labels.labels.items p m)
             (counted.counted chunks p m plan.long (omega (arith, there, stops)) l) v.if-searched-minutes.false;
-        dead = past;
+        unused = past;
       })
     ]

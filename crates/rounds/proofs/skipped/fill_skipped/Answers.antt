@@ -63,16 +63,16 @@ returns c =
           let waits = s.waits in let up = s.no_earlier in omega (arith, waits, up) in
           let up = s.no_earlier in
           filled_in n q.origin.0 (departure w m) (departure w (slice_index searched j)) (omega (arith, up))
-          (c.requires.skips m l) c.known.ensures c.requires.asked.origin
-          (c.requires.asked.fits.on_axis (slice_index searched j) (plan.are.within j s.within)) q.rides p
+          (c.requires.skips m l) c.known.ensures c.requires.query.origin
+          (c.requires.query.fits.on_axis (slice_index searched j) (plan.are.within j s.within)) q.rides p
           (label_of w.minutes c.args.labels.now p j) (slice_index c.args.waits.now m)
           (label_of w.minutes c.fill_in.new.labels p m) (label_of w.minutes c.walk_alone.new.labels p m)
           (packed.each p j there s.within) wait label (walked.walked p m there l);
-      dead = λ p m there past l.
+      unused = λ p m there past l.
           let kept = walked.kept p m there past l in
           let label = filled.filled chunks p m room (omega (arith, there, stops)) (omega (arith, l, room)) in
           let after = plan.past m past l in
-          let none = packed.dead p (length searched) there (omega arith) (omega (arith, few, past, l)) in
+          let none = packed.unused p (length searched) there (omega arith) (omega (arith, few, past, l)) in
           let same = ap (λ (x : ℕ). label_of w.minutes c.args.labels.now p x) after in
           omega (arith, kept, label, same, none);
     }
@@ -90,5 +90,5 @@ returns-then-query-minutes c =
           let same = searched_whole w.minutes q.searched.now c.requires.plan.are (omega (arith, many)) m l in
           subst (λ (x : ℕ). IsLeastOrNever (IsDuration q.network.now q.origin.0 (departure w x) q.rides p)
           (label_of w.minutes c.args.labels.now p m)) same (packed.each p m there (omega (arith, many, l)));
-      dead = λ p m there past l. packed.dead p m there (omega (arith, many, past)) l;
+      unused = λ p m there past l. packed.unused p m there (omega (arith, many, past)) l;
     }

@@ -8,8 +8,8 @@ use Rattle.timetable.specs.Journeys.{IsDuration}
 use Rattle.trip_lanes.specs.Since.{IsSinceTo}
 use Rattle.useful_minutes.proofs.SearchedMinutes.{few_searched}
 use Rattle.rounds.specs.Arrivals.{AreArrivals, IsTold}
-use Rattle.rounds.specs.Batches.{IsLaterAt, departure_at}
-use Rattle.rounds.specs.Query.{IsAsked}
+use Rattle.rounds.specs.Batches.{IsBoundingDeparture, departure_at}
+use Rattle.rounds.specs.Query.{IsValidQuery}
 use Rattle.rounds.specs.Searches.{arrival_in}
 use Rattle.rounds.specs.Table.{batches_of, label_of}
 use Rattle.rounds.specs.declared.bounded.Batch.{Batch}
@@ -18,7 +18,7 @@ use Rattle.rounds.specs.declared.workspace.Workspace.{Workspace}
 use Rattle.rounds.proofs.LabelsOfBatch.{none_late_whole}
 use Rattle.rounds.proofs.wide.run_window.Goals as goal
 
-module _ (q : Query) (ok : IsNet q.network.now) (asked : IsAsked q) (from : ℕ) (b : Batch (List ℕ))
+module _ (q : Query) (ok : IsNet q.network.now) (valid : IsValidQuery q) (from : ℕ) (b : Batch (List ℕ))
     (w : Workspace (List ℕ)) (are : AreArrivals 16 NEVER (λ (row : List ℕ). row) q from b w) (l p : ℕ) (h : l < 16)
     (there : p < q.network.now.stops) where
   -- wide labels count from 0
@@ -29,32 +29,32 @@ module _ (q : Query) (ok : IsNet q.network.now) (asked : IsAsked q) (from : ℕ)
   all_told : from + l < length q.searched.now →
       IsTold q NEVER b.base (departure_at q (from + l)) p (arrival_in (λ (row : List ℕ). row) w l p)
   all_told within =
-      are.told l p h within there (λ _. none_late_whole q ok asked.origin NEVER b.base (departure_at q (from + l)) p
-      (asked.fits.on_axis (slice_index q.searched.now (from + l)) (asked.searched.within (from + l) within))
+      are.told l p h within there (λ _. none_late_whole q ok valid.origin NEVER b.base (departure_at q (from + l)) p
+      (valid.fits.on_axis (slice_index q.searched.now (from + l)) (valid.searched.within (from + l) within))
       (omega arith))
 
   all_fit : arrival_in (λ (row : List ℕ). row) w l p ≤ NEVER
   all_fit = elim (cases_lt (from + l) (length q.searched.now)) [
     | inl lt ↦ (all_told lt).fits
-    | inr ge ↦ let e = are.dead l p h ge there in omega (arith, e)
+    | inr ge ↦ let e = are.unused l p h ge there in omega (arith, e)
   ]
 
   all_since : arrival_in (λ (row : List ℕ). row) w l p ≢ NEVER →
-      slice_index b.departs l ≤ arrival_in (λ (row : List ℕ). row) w l p
+      slice_index b.departures l ≤ arrival_in (λ (row : List ℕ). row) w l p
   all_since reached = elim (cases_lt (from + l) (length q.searched.now)) [
     | inl lt ↦
-        let t = (are.departs l h).live lt in
+        let t = (are.departures l h).used lt in
         let after = (all_told lt).after reached in
         omega (arith, t, after, no_base)
-    | inr ge ↦ absurd (reached (are.dead l p h ge there))
+    | inr ge ↦ absurd (reached (are.unused l p h ge there))
   ]
 
   -- so what counts from the departure is the least duration
   all_least : from + l < length q.searched.now → (d : ℕ) →
-      IsSinceTo NEVER (slice_index b.departs l) (arrival_in (λ (row : List ℕ). row) w l p) d →
+      IsSinceTo NEVER (slice_index b.departures l) (arrival_in (λ (row : List ℕ). row) w l p) d →
       IsLeastOrNever (IsDuration q.network.now q.origin.0 (departure_at q (from + l)) q.rides p) d
   all_least within d since =
-      let t = (are.departs l h).live within in
+      let t = (are.departures l h).used within in
       (all_told within).least d (record {
         never_so = since.never_so;
         counted = λ reached. let e = since.since reached in omega (arith, e, t, no_base);
@@ -65,7 +65,7 @@ loop-i-init c =
     record {
       workspace = c.requires.workspace;
       room = c.requires.room;
-      later = record { past = λ _. c.in_ok-bounds.ensures.later; within = λ more. absurd (omega (arith, more)) };
+      departure = record { last = λ _. c.in_ok-bounds.ensures.departure; followed = λ more. absurd (omega (arith, more)) };
       bounds = λ _. c.in_ok-bounds.ensures.bounds NEVER;
       each = λ p j there le l. absurd (omega (arith, le, l));
     }
@@ -73,19 +73,19 @@ loop-i-init c =
 pub write_batch-requires-clause-at : goal.write_batch-requires-clause-at
 write_batch-requires-clause-at c =
     let q = c.args.query in
-    let few = few_searched q.window.minutes q.searched.now c.requires.asked.searched in
+    let few = few_searched q.window.minutes q.searched.now c.requires.query.searched in
     omega (arith, few, c.loop-i-test.true)
 
 pub write_batch-requires-clause-fits : goal.write_batch-requires-clause-fits
 write_batch-requires-clause-fits c l p h within =
-    all_fit c.args.query c.known.ensures c.requires.asked
+    all_fit c.args.query c.known.ensures c.requires.query
     (16 * ((length c.args.query.searched.now + 15) / 16 - 1 - c.loop-i.i)) c.run_batch-batch.result
     c.run_batch-batch.new.workspace c.run_batch-batch.ensures.arrivals l p h
     (omega (arith, within, c.run_batch-batch.ensures.workspace.ready))
 
 pub write_batch-requires-clause-since : goal.write_batch-requires-clause-since
 write_batch-requires-clause-since c l p h within =
-    all_since c.args.query c.known.ensures c.requires.asked
+    all_since c.args.query c.known.ensures c.requires.query
     (16 * ((length c.args.query.searched.now + 15) / 16 - 1 - c.loop-i.i)) c.run_batch-batch.result
     c.run_batch-batch.new.workspace c.run_batch-batch.ensures.arrivals l p h
     (omega (arith, within, c.run_batch-batch.ensures.workspace.ready))
@@ -104,14 +104,14 @@ loop-i-preserved c =
     let chunks = batches_of q.window.minutes in
     let new = c.write_batch.new.labels in
     let write = c.write_batch.ensures in
-    let few = few_searched q.window.minutes q.searched.now c.requires.asked.searched in
+    let few = few_searched q.window.minutes q.searched.now c.requires.query.searched in
     let within : (p : ℕ) → p < n.stops → p < length c.run_batch-batch.new.workspace.ready.labels.items =
     λ p there. omega (arith, there, are.workspace.ready) in
     let since : (p j : ℕ) → p < n.stops → at ≡ j / 16 →
-    IsSinceTo NEVER (slice_index c.run_batch-batch.result.departs (j % 16))
+    IsSinceTo NEVER (slice_index c.run_batch-batch.result.departures (j % 16))
     (arrival_in (λ (row : List ℕ). row) c.run_batch-batch.new.workspace (j % 16) p)
     (label_of q.window.minutes new p j) = λ p j there here.
-    subst (λ (x : ℕ). IsSinceTo NEVER (slice_index c.run_batch-batch.result.departs (j % 16))
+    subst (λ (x : ℕ). IsSinceTo NEVER (slice_index c.run_batch-batch.result.departures (j % 16))
     (arrival_in (λ (row : List ℕ). row) c.run_batch-batch.new.workspace (j % 16) p)
     (slice_index (slice_index_or new (p * chunks + x) []) (j % 16))) here
     (write.written (j % 16) p (omega arith) (within p there)) in
@@ -123,23 +123,23 @@ loop-i-preserved c =
       workspace = are.workspace;
       room = record {
         size = write.same ∙ old.room.size;
-        dead = λ p j there past l. elim (cases_eq at (j / 16)) [
+        unused = λ p j there past l. elim (cases_eq at (j / 16)) [
           | inl here ↦
               (since p j there here).never_so
-              (are.arrivals.dead (j % 16) p (omega arith) (omega (arith, here, past)) there)
-          | inr other ↦ kept p j l other ∙ old.room.dead p j there past l
+              (are.arrivals.unused (j % 16) p (omega arith) (omega (arith, here, past)) there)
+          | inr other ↦ kept p j l other ∙ old.room.unused p j there past l
         ];
       };
-      later =
+      departure =
           let e : 16 * (batches - 1 - i) ≡ 16 * (batches - (i + 1)) = omega arith in
-          subst (λ (x : ℕ). IsLaterAt q x c.run_batch-batch.new.bounds.later) e are.later;
+          subst (λ (x : ℕ). IsBoundingDeparture q x c.run_batch-batch.new.bounds.departure) e are.departure;
       bounds = λ more. are.bounds (omega (arith, more));
       each = λ p j there le l. elim (cases_eq at (j / 16)) [
         | inl here ↦
             let place : 16 * at + j % 16 ≡ j = omega (arith, here) in
             subst (λ (x : ℕ). IsLeastOrNever (IsDuration n q.origin.0 (departure_at q x) q.rides p)
             (label_of q.window.minutes new p j)) place
-            (all_least q c.known.ensures c.requires.asked (16 * at) c.run_batch-batch.result
+            (all_least q c.known.ensures c.requires.query (16 * at) c.run_batch-batch.result
             c.run_batch-batch.new.workspace are.arrivals (j % 16) p (omega arith) there (omega (arith, place, l))
             (label_of q.window.minutes new p j) (since p j there here))
         | inr other ↦
@@ -155,5 +155,5 @@ returns c =
     record {
       size = inv.room.size;
       each = λ p j there l. inv.each p j there (omega (arith, c.loop-i-test.false)) l;
-      dead = inv.room.dead;
+      unused = inv.room.unused;
     }

@@ -2,7 +2,7 @@ use Rattle.std.proofs.Common.{ℕ, ◌-◌, ◌*◌, ◌<◌, ◌≤◌, length}
 use Rattle.timetable.specs.declared.least.TheConstants.{NEVER}
 use Rattle.timetable.specs.Least.{IsLeastOrNever}
 use Rattle.timetable.specs.Journeys.{IsDuration}
-use Rattle.rounds.specs.Batches.{AreBounds, IsLaterAt, departure_at}
+use Rattle.rounds.specs.Batches.{AreBounds, IsBoundingDeparture, departure_at}
 use Rattle.rounds.specs.Table.{label_of}
 use Rattle.rounds.specs.Query.{IsWorkspaceFor}
 use Rattle.rounds.specs.Searches.{HaveRoom}
@@ -13,8 +13,8 @@ invariant-loop-i v =
     record {
       workspace : IsWorkspaceFor v.query.network.now.stops v.query.lines.now v.workspace;
       room : HaveRoom v.query v.labels;
-      later : IsLaterAt v.query (16 * (v.batches - v.i)) v.bounds.later;
-      bounds : v.i < v.batches → AreBounds NEVER v.query v.bounds.later v.bounds.kept.items;
+      departure : IsBoundingDeparture v.query (16 * (v.batches - v.i)) v.bounds.departure;
+      bounds : v.i < v.batches → AreBounds NEVER v.query v.bounds.departure v.bounds.rounds.items;
       each : (p j : ℕ) → p < v.query.network.now.stops → 16 * (v.batches - v.i) ≤ j →
           j < length v.query.searched.now →
           IsLeastOrNever (IsDuration v.query.network.now v.query.origin.0 (departure_at v.query j) v.query.rides p)

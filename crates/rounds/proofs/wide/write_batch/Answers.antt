@@ -48,7 +48,7 @@ since-requires-clause-later c l h reached =
     c.lower_of-arrived.ensures h in
     let late : arrival (lane l (labels_in (λ (row : List ℕ). row) ride))
     (lane l (labels_in (λ (row : List ℕ). row) ready)) s ≢ NEVER →
-    slice_index c.args.departs l ≤ arrival (lane l (labels_in (λ (row : List ℕ). row) ride))
+    slice_index c.args.departures l ≤ arrival (lane l (labels_in (λ (row : List ℕ). row) ride))
     (lane l (labels_in (λ (row : List ℕ). row) ready)) s =
     rw (c.as_slice-ride.ensures.value, c.as_slice-ready.ensures.value) (c.requires.since l s h in_ready) in
     let then = late (λ e. reached (low ∙ e)) in
@@ -76,16 +76,16 @@ loop-stop-preserved c =
       written = λ l p h below. elim (cases_lt p s) [
         | inl less ↦
             let kept = apart rows times w s b p b c.requires.at c.requires.at (λ e. let same = e.0 in omega arith) in
-            subst (λ (row : List ℕ). IsSinceTo NEVER (slice_index c.args.departs l) (label l p) (slice_index row l))
+            subst (λ (row : List ℕ). IsSinceTo NEVER (slice_index c.args.departures l) (label l p) (slice_index row l))
             (sym kept) (old.written l p h less)
         | inr ge ↦
             let e : p ≡ s = omega arith in
             let here = placed rows times w s b room in
             let low = low_of ride ready s l c.lower_of-arrived.result in_ride c.loop-stop-test.true
             c.lower_of-arrived.ensures h in
-            rw e (subst (λ (row : List ℕ). IsSinceTo NEVER (slice_index c.args.departs l) (label l s)
+            rw e (subst (λ (row : List ℕ). IsSinceTo NEVER (slice_index c.args.departures l) (label l s)
             (slice_index row l)) (sym here)
-            (subst (λ (x : ℕ). IsSinceTo NEVER (slice_index c.args.departs l) x (slice_index times l)) low
+            (subst (λ (x : ℕ). IsSinceTo NEVER (slice_index c.args.departures l) x (slice_index times l)) low
             (c.since.ensures l h)))
       ];
       kept = λ p k l ne. apart rows times w s b p k c.requires.at l (λ e. ne e.1) ∙ old.kept p k l ne;

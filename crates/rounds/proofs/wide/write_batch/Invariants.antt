@@ -10,7 +10,7 @@ invariant-loop-stop v =
     record {
       same : length v.labels ≡ length v.initial.labels;
       written : (l p : ℕ) → l < 16 → p < v.stop →
-          IsSinceTo NEVER (slice_index v.fn.departs l)
+          IsSinceTo NEVER (slice_index v.fn.departures l)
           (arrival (lane l (labels_in (λ row. row) v.ride)) (lane l (labels_in (λ row. row) v.ready)) p)
           (slice_index (slice_index_or v.labels (p * v.batches + v.at) []) l);
       kept : (p b : ℕ) → b < v.batches → b ≢ v.at →

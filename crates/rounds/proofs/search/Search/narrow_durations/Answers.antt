@@ -1,6 +1,6 @@
 use Rattle.std.proofs.Common.{rules, ◌≡◌, arith}
 use Rattle.rounds.proofs.LastArrivals.{last_from}
-use Rattle.rounds.proofs.search.Search.by_narrow.Goals as goal
+use Rattle.rounds.proofs.search.Search.narrow_durations.Goals as goal
 
 pub run_narrow-requires : goal.run_narrow-requires
 run_narrow-requires c =
@@ -9,12 +9,12 @@ run_narrow-requires c =
     c.in_ok-self.ensures.items_if_clones_equal (λ y h. search rules) in
     record {
       search = record {
-        asked = c.requires.asked;
-        short = λ k d l.
-            let few = c.are_ranked.ensures.0 c.if-not-are_ranked.false in
-            let h = c.longest-most.ensures k d l in
+        query = c.requires.query;
+        ranks = λ k d l.
+            let few = c.ranks_fit.ensures.0 c.if-not-ranks_fit.false in
+            let h = c.longest-trips.ensures k d l in
             omega (arith, h, few);
-        late = record {
+        last_arrivals = record {
           none_later = rw all (last_from q.network.now c.known.ensures q.origin.0 q.window.first q.rides
               c.last_arrivals.result.now c.last_arrivals.ensures);
           few = rw all c.last_arrivals.ensures.early;
