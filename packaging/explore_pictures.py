@@ -11,16 +11,16 @@ Chromium, Pillow, flask and jinja2.
 
 import contextlib
 import io
+import subprocess
 import sys
 from pathlib import Path
 from typing import Iterator
 
 ROOT = Path(__file__).resolve().parent.parent
-sys.path.append(str(ROOT / "bench"))
+sys.path[:0] = [str(ROOT / folder) for folder in ("bench", "tools/tests", "tools/src")]
 
-from parts.explore import served  # noqa: E402  sets the path of the next one
 from browser import Browser as Browser  # noqa: E402
-from shared import parser_of as parser_of  # noqa: E402
+from shared import DATE, TOOLS, parser_of as parser_of  # noqa: E402
 
 START, END, CELL = "B00170S", "B00088N", "r10c07"
 ROUTE, EVERY = "0013 (L0013)", "6"  # minutes
@@ -38,6 +38,20 @@ NAMES = (
 )
 
 
+@contextlib.contextmanager
+def served(feed: Path, program: str | None, *more: str) -> Iterator[str]:
+    """A server of a feed while the block runs: its address."""
+    jobs = ["--opportunities", str(feed / "opportunities.csv")]
+    words = [str(feed), "--date", DATE, *jobs, *(["--program", program] if program else []), "--no-browser", *more]
+    process = subprocess.Popen([sys.executable, TOOLS, "explore", *words], stdout=subprocess.PIPE, text=True)
+    try:
+        assert process.stdout is not None
+        yield process.stdout.readline().strip()
+    finally:
+        process.terminate()
+        process.wait(30)
+
+
 def pictures_of_stops(browser: Browser) -> Iterator[bytes]:
     """What a stop reaches, with a journey and without; the route that is changed; and the change in two ways."""
     browser.click(START)
@@ -46,9 +60,9 @@ def pictures_of_stops(browser: Browser) -> Iterator[bytes]:
     browser.click(END)
     browser.press("#clicks [value=start]")
     browser.awaited("while (journey.found === null) await new Promise((it) => setTimeout(it, 20));")
-    yield picture_of(browser, "#clicks")
+    yield picture_of(browser)
     browser.run("journey.end = -1")
-    yield picture_of(browser, "#clicks")
+    yield picture_of(browser)
     browser.press("#areas")
     browser.awaited("await routes.read_;")
     browser.press("#change-part summary")
@@ -60,18 +74,21 @@ def pictures_of_stops(browser: Browser) -> Iterator[bytes]:
     browser.run("document.getElementById('change-part').open = false")
     yield picture_of(browser, "#heading")
     browser.press("#beside")
-    yield picture_of(browser, "#clicks")
+    yield picture_of(browser)
 
 
 def pictures_of_cells(browser: Browser) -> Iterator[bytes]:
     """What a cell reaches."""
     browser.click(CELL)
-    yield picture_of(browser, "#clicks")
+    yield picture_of(browser)
 
 
-def picture_of(browser: Browser, selector: str) -> bytes:
-    """The window, with a part of the panel at its top."""
-    browser.run("document.querySelector(arguments[0]).scrollIntoView()", selector)
+def picture_of(browser: Browser, selector: str = "") -> bytes:
+    """The window, with the panel from its beginning or from a part on; nothing has the focus."""
+    browser.run("document.activeElement.blur(); document.getElementById('tip').hidden = true")
+    browser.run("document.getElementById('panel').scrollTop = 0")
+    if selector:
+        browser.run("document.querySelector(arguments[0]).scrollIntoView()", selector)
     browser.settle()
     found: bytes = browser.driver.get_screenshot_as_png()
     return found
@@ -88,8 +105,9 @@ def fewer_colours(picture: bytes) -> bytes:
 
 def pictures(town: Path, program: str | None) -> Iterator[bytes]:
     """The pictures, in the order of their names."""
-    for make, words in ((pictures_of_stops, []), (pictures_of_cells, ["--grid", GRID])):
-        with served(town, program, *words) as (_, address), contextlib.closing(Browser()) as browser:
+    footpaths = ["--footpaths", str(town / "footpaths.csv")]
+    for make, words in ((pictures_of_stops, footpaths), (pictures_of_cells, ["--grid", GRID])):
+        with served(town, program, *words) as address, contextlib.closing(Browser()) as browser:
             browser.size(*SIZE)
             browser.visit(address)
             yield from make(browser)

@@ -57,7 +57,7 @@ def test_the_index_lists_every_page() -> None:
 
 def test_every_picture_is_shown() -> None:
     links = "\n".join(page.read_text() for page in PAGES)
-    assert [path.name for path in (DOCS / "images").iterdir() if f"images/{path.name})" not in links] == []
+    assert [path.name for path in (DOCS / "images").glob("*.png") if f"images/{path.name})" not in links] == []
 
 
 def test_files_that_sources_and_pages_mention_exist() -> None:
