@@ -6,6 +6,7 @@
     .ci/run --quick               a first answer in minutes; proves nothing
     .ci/run --planted [CRATE ..]  tries the bugs in crates/CRATE/planted, of these crates or of all, and notes in
                                   planted.lock which crates had all refused
+    .ci/run --lock                notes there what the gate tried on this machine
 
 `rt ci` proves every crate and its tests, tries every must-fail edit, and runs every test and program. Then the planted
 bugs of the crates that changed since they were all refused are tried, and those of one crate that the commit draws. The
@@ -28,6 +29,7 @@ from concurrent.futures import ThreadPoolExecutor
 from dataclasses import dataclass
 from pathlib import Path
 
+import lock
 import planted
 import repository
 from progress import Progress, Sampler
@@ -155,6 +157,7 @@ def arguments_of(arguments: list[str]) -> argparse.Namespace:
     part = parser.add_mutually_exclusive_group()
     part.add_argument("--anew", action="store_true", help="prove and try all, kept or not")
     part.add_argument("--quick", action="store_true", help="run tests without any proof")
+    part.add_argument("--lock", action="store_true", help="write planted.lock by what was tried on this machine")
     part.add_argument("--planted", nargs="*", metavar="CRATE", help="try the planted bugs, and nothing else")
     return parser.parse_args(arguments)
 
@@ -162,6 +165,9 @@ def arguments_of(arguments: list[str]) -> argparse.Namespace:
 def run(root: Path, command: list[str]) -> int:
     """Runs the gate of the repository at `root`, or a part of it, and returns the exit status."""
     arguments = arguments_of(command)
+    if arguments.lock:
+        planted.note_kept(root, lock.digests(root))
+        return 0
     if arguments.planted is not None:
         count = planted.try_named(root, arguments.planted, jobs())
     else:

@@ -60,8 +60,13 @@ def try_named(root: Path, names: list[str], jobs: int) -> Count:
     """Tries the planted bugs of these crates, or of all, and notes in the lock file those of which all were refused."""
     digests = {crate: digest for crate, digest in lock.digests(root).items() if crate in names or not names}
     count = try_crates(root, digests, jobs)
-    lock.lock(root, {crate: digest for crate, digest in digests.items() if digest in lock.kept()})
+    note_kept(root, digests)
     return count
+
+
+def note_kept(root: Path, digests: dict[str, str]) -> None:
+    """Notes in the lock file those of these crates whose planted bugs were all refused on this machine."""
+    lock.lock(root, {crate: digest for crate, digest in digests.items() if digest in lock.kept()})
 
 
 def try_changed(root: Path, is_anew: bool, jobs: int) -> Count:
@@ -77,7 +82,7 @@ def try_changed(root: Path, is_anew: bool, jobs: int) -> Count:
     print(f"drawn from the others: {', '.join(drawn) or 'none'}; to be tried: {', '.join(left) or 'none'}", flush=True)
     count = try_crates(root, left, jobs)
     if changed and not count.failed:
-        print(f"`.ci/run --planted {' '.join(changed)}` notes these in {lock.FILE}")
+        print(f"commit {lock.FILE} after `.ci/run --lock`: else each gate tries these again: {', '.join(changed)}")
     return count
 
 

@@ -213,9 +213,11 @@ def test_the_gate_tries_what_changed_and_one_more(small: Gate, file: str, old: s
     lock.cache().unlink()
     run = small.run()
     assert run.status == 0 and tried < crates_tried(run) and len(crates_tried(run)) == len(tried) + 1
-    assert f"`.ci/run --planted {' '.join(sorted(tried))}` notes these in {lock.FILE}" in run.lines
+    assert any(line.endswith(f"else each gate tries these again: {', '.join(sorted(tried))}") for line in run.lines)
     assert crates_tried(small.run()) == set()
     assert crates_tried(small.run("--anew")) == crates_tried(run)
+    assert small.run("--lock").calls == ["version repository"]
+    assert lock.locked(small.repository.root) == lock.digests(small.repository.root)
 
 
 def test_the_commit_draws_one_crate() -> None:
