@@ -1,4 +1,4 @@
-"""What the benchmark should show: goals, with the reason where a goal is known to be hard to meet."""
+"""Goals for the figures of the benchmark, with the reason where one is hard to meet."""
 
 from collections.abc import Callable, Iterator
 from dataclasses import dataclass

@@ -6,7 +6,7 @@ from typing import Any
 from record import ROOT
 from summaries import Results, shown
 
-PICTURE = ROOT / "docs" / "images" / "growth.svg"
+PICTURE = ROOT / "bench" / "growth.svg"
 PROGRAMS = {"ttm": "#1b6ca8", "range RAPTOR": "#d1495b", "textbook RAPTOR": "#8d99ae"}
 MARKS = {"town": "s", "city": "o", "region": "^"}
 OF_STOPS = ("town", "region", "city", "metropolis")  # by their numbers of stops

@@ -118,7 +118,7 @@ def speed_of(results: Results) -> Iterator[str]:
 
 
 def with_speed(readme: str, results: Results) -> str:
-    """README with its part on speed, which is between two markers, written anew if the search was measured."""
+    """README with a new part on speed between its two markers, or unchanged if the search wasn't measured."""
     text = "\n\n".join(map(wrapped, speed_of(results)))
     pattern = re.compile(f"{re.escape(BEGIN)}\n.*?{re.escape(END)}", re.DOTALL)
     if len(pattern.findall(readme)) != 1:

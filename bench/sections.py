@@ -59,7 +59,7 @@ def search(results: Results) -> Iterator[str]:
         rows.append([feed, *counts, *map(cell, [times[0], times[1], ratios[0], times[2], ratios[1]])])
     head = ["Network", "Stops", "Stop times", "`ttm`, ms", "range RAPTOR, ms", "times as fast"]
     yield table([*head, "textbook RAPTOR, ms", "times as fast"], rows, numbers=True)
-    yield "![How the time of a search grows with stops and with minutes](../docs/images/growth.svg)"
+    yield "![How the time of a search grows with stops and with minutes](growth.svg)"
 
 
 def windows(results: Results) -> Iterator[str]:

@@ -1,4 +1,4 @@
-"""What a run of the benchmark is asked for, and the programs that it measures."""
+"""The setting of a run of the benchmark: its options, its feeds, and the programs that it measures."""
 
 import os
 import shutil
@@ -100,6 +100,6 @@ def figures_in(text: str) -> dict[str, int]:
 def printed(command: Sequence[str]) -> dict[str, int]:
     """Runs a program and returns the whole numbers that it prints."""
     ran = subprocess.run(command, stdout=subprocess.PIPE, text=True)
-    if ran.returncode != 0:
-        stop(f"status {ran.returncode}: {' '.join(command)}")
+    if ran.returncode != 0 or "refused: " in ran.stdout:
+        stop(f"status {ran.returncode}: {' '.join(command)}\n{ran.stdout}")
     return figures_in(ran.stdout)

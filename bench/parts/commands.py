@@ -1,4 +1,4 @@
-"""What the commands of `ttm-tools` take on a matrix, on a feed and on streets: processor time and peak memory."""
+"""Processor time and peak memory of the commands of `ttm-tools`, on a matrix, on a feed and on streets."""
 
 import csv
 import re

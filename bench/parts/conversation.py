@@ -17,7 +17,7 @@ from ttm_tools import Network  # noqa: E402
 from ttm_tools.conversation import Conversation  # noqa: E402
 
 ONE_MINUTE = ["--from", "07:00", "--to", "07:00"]
-FIRST = 100  # questions until the memory is looked at
+FIRST = 100  # questions before the memory is first measured
 
 
 def drawn_origins(setting: Setting, feed: str, count: int) -> list[str]:

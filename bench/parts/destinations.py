@@ -1,4 +1,4 @@
-"""What a study takes with few destinations, or with access alone."""
+"""Time and memory of a study with few destinations, or with access alone."""
 
 from setting import Setting
 from shared import Study, stops_of, write_origins

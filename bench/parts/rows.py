@@ -1,4 +1,4 @@
-"""What percentiles, access and text take in addition to the search, and what more service days do."""
+"""The time that percentiles, access and text take in addition to the search, and that more service days take."""
 
 from setting import Setting, printed
 
