@@ -90,6 +90,19 @@ def test_the_module_runs_no_module_that_lies_in_the_working_directory(tmp_path: 
     assert (ran.returncode, ran.stderr.count("\n")) == (1, 1), ran.stderr
 
 
+def test_no_path_of_the_machine_is_in_what_is_sent_on(place: Place) -> None:
+    """People far away are reported by the name of their file, as the study's file has it."""
+    points = '[points]\ngrid = 400\ngrid_people = ["homes.csv"]\n'
+    named = '[opportunities]\nfiles = ["jobs.csv"]\ncolumn = "jobs"\npeople = "people.csv"\n'
+    path = place.lay_out(NO_MAPS.replace(named, points).replace("csv = true", "compare = false"))
+    place.write("homes.csv", "id,lat,lon,people", [["far", 50, 3, 9], ["farther", 51, 3, 7]])
+    assert place.ran("study", path)[2] == 0
+    line = "homes.csv: 16 of 16 people are outside all cells"
+    for name in ("report.md", "report.html", "study.json"):
+        text = (place.folder / "nine" / name).read_text().replace("\\", "")
+        assert line in text and str(place.folder) not in text, name
+
+
 @pytest.mark.parametrize("name", ["maps/mine.png", "inputs/feed/stops.txt", "parts/0001/matrix.csv", "notes.txt"])
 def test_a_folder_with_files_of_a_person_is_refused(bare: Place, name: str) -> None:
     path = bare.lay_out()

@@ -101,8 +101,8 @@ def facts_in(path: Path) -> dict[str, Any]:
 class Folder:
     """The folder of a study: what is in it, and which of its stages are done."""
 
-    def __init__(self, path: Path) -> None:
-        self.path = path
+    def __init__(self, path: Path, sources: Path | None = None) -> None:
+        self.path, self.sources = path, sources  # the folder, and that of the study's file
 
     def at(self, name: str) -> Path:
         return self.path / name
@@ -110,6 +110,11 @@ class Folder:
     def shown(self, text: str) -> str:
         """A text whose paths inside the folder begin there, as those of the study do wherever it lies."""
         return text.replace(f"{self.path.absolute()}{os.sep}", "")
+
+    def recorded(self, line: str) -> str:
+        """A line of a stage, whose paths begin in the study's folder or next to the study's file, as that has them."""
+        line = self.shown(line)
+        return line if self.sources is None else line.replace(f"{self.sources.absolute()}{os.sep}", "")
 
     @contextlib.contextmanager
     def shown_in_faults(self) -> Iterator[None]:
@@ -178,7 +183,7 @@ class Folder:
             self.at(name).parent.mkdir(parents=True, exist_ok=True)
         note([])
         with outputs_noted(note):
-            return [self.shown(line) for line in stage.make()]
+            return [self.recorded(line) for line in stage.make()]
 
     def do(self, stage: Stage) -> Record:
         """Does a stage, unless it was done."""

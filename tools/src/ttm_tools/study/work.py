@@ -37,7 +37,7 @@ def make_study(study: Study, out: Path, means: Means) -> None:
     needs(*packages_of(study))
     program = found_program()
     with held(out):
-        folder = Folder(out.resolve())
+        folder = Folder(out.resolve(), study.path.parent)
         with folder.shown_in_faults():
             make_in(folder, replace(study, folder=folder.path), program, means)
 
