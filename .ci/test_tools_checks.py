@@ -49,7 +49,7 @@ def test_only_tests_in_a_browser_are_run_again(
     (tmp_path / "test_late.py").write_text(TESTS)
     monkeypatch.setenv("PYTHONPATH", os.pathsep.join([str(TOOLS / "tests"), str(TOOLS / "src")]))
     monkeypatch.setattr(tools_checks, "ROOT", tmp_path)
-    assert tools_checks.tested(".", "-p", "no:cacheprovider") == Count(3, 1, 1)
+    assert tools_checks.tested(".") == Count(3, 1, 1)
     lines = [line for line in capsys.readouterr().out.splitlines() if line.startswith("run again: ")]
     assert lines == [
         "run again: test_late.py::test_with_a_browser_that_starts_later (setup): AssertionError: no browser",

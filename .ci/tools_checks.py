@@ -63,7 +63,8 @@ def tested(folder: str, *options: str) -> Count:
     """Runs the tests of a folder, and counts them by the report that pytest writes."""
     with tempfile.TemporaryDirectory(prefix="ttm-tests-") as room:
         report = Path(room) / "junit.xml"
-        status = run([PYTHON, "-m", "pytest", "-rfEs", f"--junitxml={report}", *options], ROOT / folder)
+        command = [PYTHON, "-m", "pytest", "-rfEs", "-p", "no:cacheprovider", f"--junitxml={report}", *options]
+        status = run(command, ROOT / folder)
         suite = ElementTree.parse(report).getroot().find("testsuite") if report.is_file() else None
     if suite is None:
         return Count(failed=1)
