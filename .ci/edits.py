@@ -22,10 +22,12 @@ from pathlib import Path
 import repository
 
 PROVED, REFUSED, WAITS, UNKNOWN = "proved", "refused", "waits", "unknown"
+HEAD = re.compile(r" *(?:pub(?:\([a-z]+\))? )?(?:(?:const|unsafe|final) )*fn (\w+)")
 VERDICT = re.compile(r"(fn|impl) (\S+): (proved|not proved|no proof: expected answers|no proof: it calls)\b")
 LOGIC = re.compile(r"logic=(proved|not-proved)\b")
 ERROR = re.compile(r"(?:\./)?(?:src|specs)/\S+:\d+:\d+: error(\[[\w-]+\])?: (?:(`[^`]*`): )?(.*)")
 OF_PROOF = re.compile(r"(?:note: )?(?:\./)?proofs/(\S+)/\w+\.antt:\d+:\d+: (.*)")
+UNPROVED = re.compile(r"note: (?:\./)?(src/\S+?):(\d+):\d+: it is not proved")
 NAMES_ONLY = re.compile(r"has no field|is not in scope|has no `|was not admitted")
 UNREADABLE = re.compile(r"is not in scope|has no field|is no name|operand is missing|expected the end|cannot continue")
 
@@ -102,12 +104,25 @@ def verdict_of(crate: str, edit: Edit, lines: list[str]) -> str:
     return {"proved": PROVED, "no proof: it calls": WAITS}.get(verdicts[0], REFUSED)
 
 
-def is_by_name(edit: Edit, lines: list[str]) -> bool:
-    """Whether all that a check finds in the proofs of the edit's function are names that the edit took away."""
+def is_by_name(edit: Edit, lines: list[str], source: str) -> bool:
+    """Whether all that a check finds wrong with the edit's function are names in its proofs that the edit took away: it
+    leaves no goal of the function open in this source.
+    """
     module, function = edit.function or ("", "")
-    folder = re.compile(re.escape(module.replace("::", "/")) + r"(/\w+)?/" + re.escape(function))
+    of_module = "" if module in ("lib", "main") else re.escape(module.replace("::", "/")) + "/"
+    folder = re.compile(of_module + r"(\w+/)?" + re.escape(function))
     found = [match[2] for match in map(OF_PROOF.match, lines) if match and folder.fullmatch(match[1])]
-    return bool(found) and all(NAMES_ONLY.search(text) for text in found)
+    goals = [int(match[2]) for match in map(UNPROVED.match, lines) if match and match[1] == edit.replacements[0][0]]
+    is_open = any(line in lines_of_function(source, function) for line in goals)
+    return bool(found) and not is_open and all(NAMES_ONLY.search(text) for text in found)
+
+
+def lines_of_function(source: str, function: str) -> range:
+    """The numbers of the lines of a function, up to the next one."""
+    heads = [(at, match[1]) for at, line in enumerate(source.split("\n"), 1) if (match := HEAD.match(line))]
+    starts = [at for at, name in heads if name == function]
+    ends = [at for at, _ in heads if starts and at > starts[0]]
+    return range(starts[0], ends[0] if ends else source.count("\n") + 2) if starts else range(0)
 
 
 def logic_of(lines: list[str]) -> str | None:
@@ -185,7 +200,7 @@ class Trial:
             half = len(chosen) // 2
             return self.together(chosen[:half]) + self.together(chosen[half:])
         for edit, verdict in verdicts.items():
-            if verdict == REFUSED and is_by_name(edit, lines):
+            if verdict == REFUSED and is_by_name(edit, lines, self.texts(edit.replacements[0][0])):
                 self.by_name.append(edit.name)
             if verdict in (PROVED, UNKNOWN):
                 edit.function = None

@@ -37,7 +37,7 @@ try)
 check)
     if grep -q 'count + [2-9]' src/lib.rt; then
         if grep -q 'count + 9' src/lib.rt; then
-            echo 'proofs/lib/bump/Answers.antt:7:46: error: module `Goals` has no `then-count`'
+            echo 'proofs/bump/Answers.antt:7:46: error: module `Goals` has no `then-count`'
         fi
         echo "fn $crate::bump: not proved"
         echo "logic=not-proved"
@@ -246,6 +246,16 @@ def test_a_refusal_by_a_missing_name_alone_is_said(small: Gate) -> None:
     run = small.run("--planted", "one")
     said = [line for line in run.lines if "only because a proof names" in line]
     assert (run.status, len(said)) == (0, 1) and said[0].startswith("one/lib.bump.nine_more.edit: ")
+
+
+def test_a_goal_that_is_left_open_is_no_missing_name(tmp_path: Path) -> None:
+    path = tmp_path / "lib.twice.once.edit"
+    path.write_text(ONCE)
+    names = "./proofs/twice/Answers.antt:5:60: error: `returns`: record `counts.twice.Lts.After` has no field `bump-2`"
+    at = 1 + TWICE.split("\n").index("pub fn twice(count: u32) -> u32")
+    for line, by_name in ((at, False), (at + 4, False), (at - 3, True)):
+        lines = [names, f"note: src/lib.rt:{line}:1: it is not proved that what the function ensures holds (`returns`)"]
+        assert edits.is_by_name(edits.Edit(path), lines, TWICE) == by_name
 
 
 def test_the_prover_refuses_what_it_should(
