@@ -5,12 +5,27 @@ allowed.
 import importlib.util
 import shutil
 import sys
-from typing import Sequence
+from typing import Any, Sequence
 
 from .escaping import printed
 
 
-class BadInput(Exception):
+class Fault(Exception):
+    """An error of the tools. It can be pickled, so that it reaches the process that waits for another one's work."""
+
+    def __reduce__(self) -> tuple[Any, ...]:
+        return rebuilt, (type(self), self.args, vars(self))
+
+
+def rebuilt(kind: type[Fault], arguments: tuple[Any, ...], values: dict[str, Any]) -> Fault:
+    """An error with the same text and values, whatever its class takes to make one."""
+    fault = kind.__new__(kind, *arguments)
+    fault.args = arguments
+    vars(fault).update(values)
+    return fault
+
+
+class BadInput(Fault):
     """What is wrong with an input. The header of a file is record 1."""
 
     status = 1
@@ -32,13 +47,13 @@ class BadInput(Exception):
         super().__init__(f"{place}: {found}" + (f"; allowed: {allowed}" if allowed else ""))
 
 
-class Lacking(Exception):
+class Lacking(Fault):
     """A package or a program that a command needs and that isn't here."""
 
     status = 1
 
 
-class WrongWords(Exception):
+class WrongWords(Fault):
     """Options that don't go together, or a value that no option takes."""
 
     status = 2
@@ -81,6 +96,9 @@ def needs_program(program: str, package: str) -> None:
         raise Lacking(f"no program {program}: apt-get install {package}")
 
 
+KEEP_E = ("ouses", "auses", "fuses", "muses", "cuses")  # houses, causes, excuses; else campuses, viruses
+
+
 def quantity(count: int, noun: str) -> str:
     """A number and its noun, in the plural if the number isn't one: `1 stop`, `2,000 stops`."""
     return f"{count:,} {noun}{'' if count == 1 else 's'}"
@@ -88,6 +106,10 @@ def quantity(count: int, noun: str) -> str:
 
 def singular(name: str) -> str:
     """The name of one of what a name counts: `job` for `jobs`; other names than plain plurals stay as they are."""
+    if name != "uses" and name.endswith("uses") and not name.endswith(KEEP_E):
+        return name.removesuffix("es")
+    if name.endswith("ovies"):
+        return name.removesuffix("s")
     for ending, one in (("ies", "y"), ("sses", "ss"), ("ches", "ch"), ("shes", "sh"), ("xes", "x")):
         if name.endswith(ending):
             return name.removesuffix(ending) + one

@@ -43,6 +43,9 @@ class Interrupted(BaseException):
         self.number = number
         super().__init__(f"ended by {signal.Signals(number).name}")
 
+    def __reduce__(self) -> tuple[type["Interrupted"], tuple[int]]:
+        return Interrupted, (self.number,)
+
     @property
     def status(self) -> int:
         return 128 + self.number

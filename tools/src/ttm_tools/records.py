@@ -15,7 +15,7 @@ import numpy as np
 import numpy.typing as npt
 
 from .faults import BadInput
-from .opening.tables import MOST_COLUMNS, looked_at
+from .opening.tables import MOST_COLUMNS, looked_at, parsed
 
 Texts = npt.NDArray[np.object_]
 
@@ -25,7 +25,7 @@ def records(path: str | Path) -> Iterator[tuple[int, list[str]]]:
     number = 0
     try:
         with open(looked_at(path), newline="", encoding="utf-8-sig", errors="surrogateescape") as file:
-            for fields in csv.reader(file):
+            for fields in parsed(file):
                 if fields:
                     number += 1
                     if number == 1 and len(fields) > MOST_COLUMNS:

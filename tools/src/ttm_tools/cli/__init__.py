@@ -6,7 +6,6 @@ import argparse
 import contextlib
 import importlib
 import logging
-import os
 import re
 import sys
 import tempfile
@@ -19,6 +18,7 @@ from ..faults import BadInput, Lacking, WrongWords, one_line
 from ..files import Interrupted, is_full, outputs_locked, unwind_on_signals
 from ..provenance import command_runs
 from .options import Parser
+from .streams import fault_of_output, fill_closed, give_up_output
 
 COMMANDS = (
     "prepare scenarios walks points split join compare access equity bands service explain map page long omx gis "
@@ -59,17 +59,25 @@ def status_of(args: argparse.Namespace) -> int:
     except MemoryError:
         line, status = begin + "out of memory", NO_MEMORY
     except BrokenPipeError:
-        os.dup2(os.open(os.devnull, os.O_WRONLY), sys.stdout.fileno())
+        give_up_output()
         return 1
     except OSError as fault:
-        name = (is_full(fault) and fault.filename2) or fault.filename or "output"
-        line, status = begin + one_line(f"{name}: {fault.strerror or fault}"), 1
+        line, status = begin + one_line(fault_of_file(fault)), 1
     except (Interrupted, KeyboardInterrupt) as end:
         line, status = begin + (one_line(end) or "interrupted"), end.status if isinstance(end, Interrupted) else 130
     except Exception as fault:
         line, status = begin + one_line(of_its_own(fault)), OF_ITS_OWN
     print(line, file=sys.stderr)
     return status
+
+
+def fault_of_file(fault: OSError) -> str:
+    """What is wrong with a file, or with the standard output, to which nothing more is written then."""
+    name = (is_full(fault) and fault.filename2) or fault.filename
+    if name is None:
+        give_up_output()
+        return fault_of_output(fault)
+    return f"{name}: {fault.strerror or fault}"
 
 
 @contextlib.contextmanager
@@ -102,15 +110,34 @@ def of_its_own(fault: Exception) -> str:
     return f"{message}; please report it with the log {path}"
 
 
+@contextlib.contextmanager
+def help_written() -> Iterator[None]:
+    """Ends the process with one line if the help that its words ask for cannot be written."""
+    try:
+        try:
+            yield
+        finally:
+            sys.stdout.flush()
+    except BrokenPipeError:
+        give_up_output()
+        sys.exit(1)
+    except OSError as fault:
+        print(f"ttm-tools: {one_line(fault_of_file(fault))}", file=sys.stderr)
+        sys.exit(1)
+
+
 def main(arguments: Sequence[str] | None = None) -> int:
     """The command's exit status: 0 the whole result, 1 bad input, 2 wrong arguments, 3 out of memory, 128 and a
     signal's number where that ended it.
     """
+    if arguments is None:
+        fill_closed()
     parser = parser_of()
     if not (sys.argv[1:] if arguments is None else arguments):
         parser.print_help(sys.stderr)
         parser.exit(2, "ttm-tools: error: the following arguments are required: COMMAND\n")
-    args, unknown = parser.parse_known_args(arguments)
+    with help_written():
+        args, unknown = parser.parse_known_args(arguments)
     if unknown:
         args.parser.error(f"unrecognized arguments: {' '.join(unknown)}")
     if arguments is None:

@@ -1,6 +1,5 @@
 """The records of a matrix as lines of bytes, and the cells of a line as numbers, all at once and never one by one."""
 
-import csv
 import io
 from typing import BinaryIO, Iterator
 
@@ -8,6 +7,7 @@ import numpy as np
 import numpy.typing as npt
 
 from ..faults import BadInput
+from ..opening.tables import parsed
 
 Seconds = npt.NDArray[np.float32]  # NaN where a stop isn't reached; whole seconds up to MOST are exact
 Bytes = npt.NDArray[np.uint8]
@@ -49,7 +49,7 @@ def content(record: bytes) -> bytes:
 def fields_of(record: bytes) -> list[str]:
     """All fields of a record as text."""
     text = io.StringIO(record.decode("utf-8", "surrogateescape"), newline="")
-    return next((fields for fields in csv.reader(text) if fields), [])
+    return next((fields for fields in parsed(text) if fields), [])
 
 
 def head_of(line: bytes, count: int) -> tuple[list[str], int]:

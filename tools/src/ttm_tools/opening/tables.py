@@ -2,8 +2,10 @@
 
 import csv
 import os
+import threading
 from functools import lru_cache
 from pathlib import Path
+from typing import Iterable, Iterator
 
 from ..faults import BadInput
 from .paths import regular
@@ -12,7 +14,22 @@ MOST_LINE = 1 << 20  # bytes
 MOST_COLUMNS = 10_000
 UTF_16 = (b"\xff\xfe", b"\xfe\xff")
 
-csv.field_size_limit(MOST_LINE)
+LIMIT = threading.Lock()  # of the limit of the csv module, which the whole process has
+
+
+def parsed(file: Iterable[str]) -> Iterator[list[str]]:
+    """The records of a table, with fields as long as a line may be; the limit of other readers is as it was."""
+    reader = csv.reader(file)
+    while True:
+        with LIMIT:
+            before = csv.field_size_limit(MOST_LINE)
+            try:
+                fields = next(reader, None)
+            finally:
+                csv.field_size_limit(before)
+        if fields is None:
+            return
+        yield fields
 
 
 def looked_at(path: str | Path) -> str | Path:
