@@ -104,7 +104,7 @@ def test_what_is_left_at_each_node_is_that_of_isochrones(town: Town, browser: Br
     for end in (10, 20, 30):
         minutes = np.array([np.inf if time == "" else -(-int(time) // 60) for time in times["base"]["A"]])
         metres = np.minimum(60 * (end - minutes), 900) * pace.speed
-        wanted = np.maximum(reach.left_at_nodes(np.where(minutes < end, metres, -1.0) - reach.beside), 0)
+        wanted = np.maximum(reach.left_at_nodes(np.where(minutes < end, metres, -1.0) - reach.connectors), 0)
         found = np.array(browser.run(f"return {ours}", end))
         far = (reach.latitudes[:, None] - latitudes) ** 2 + (reach.longitudes[:, None] - longitudes) ** 2
         nearest = far.argmin(axis=1)
