@@ -129,3 +129,22 @@ def test_drawn_matrices_as_plain_loops_say(town: Town, seed: int, monkeypatch: p
             arguments = ["--competition", kind, "--demand", town.path("people.csv"), "--decay", decay]
             found = access(town, *arguments, "--cutoffs", str(cutoff))
             assert found == pytest.approx(plain(kind, people, supply, weights), abs=2e-6)
+
+
+def test_people_many_half_lives_away_are_no_competition(town: Town) -> None:
+    # with a half-life of a minute, a weight after 17 hours is 2^-1020, near the least number there is
+    town.matrix(town_matrix(True, {"base": {"A": ["", 61_200, "", ""], "D": ["", 60, "", ""]}}))
+    town.write("jobs.csv", "stop_id,jobs", [["B", 10]])
+    town.write("people.csv", "stop_id,people", [["A", 100]])
+    for method in ("floating", "balanced", "availability"):
+        arguments = [
+            "--competition",
+            method,
+            "--demand",
+            town.path("people.csv"),
+            "--decay",
+            "exponential",
+            "--cutoffs",
+            "1",
+        ]
+        assert access(town, *arguments) == [0, 0]

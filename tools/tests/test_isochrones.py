@@ -166,3 +166,22 @@ def test_a_map_shows_the_areas_with_their_square_kilometres(town: Town, monkeypa
     assert "50 % of departures" in texts[2].replace("\n", " ")
     ran = town.ran("map", "isochrones", "--feed", town.feed, "--out", town.path("map.png"), town.file)
     assert ran[2] == 2 and "isochrones needs --origin" in ran[1]
+
+
+def test_bands_of_decimals_are_whole_seconds_as_cutoffs_are(town: Town) -> None:
+    town.matrix(town_matrix(True, {"base": {"A": [0, 123, "", ""]}}))
+    (area,) = isochrones(town, "--bands", "2.05")  # 2.05 * 60 is a little below 123
+    assert area["properties"]["reached"] == 2
+
+
+def test_many_streets_take_seconds(monkeypatch: pytest.MonkeyPatch) -> None:
+    from ttm_tools.walks.reach import strip
+
+    # 21 streets of 2 km from west to east and as many from south to north, each 100 m, in pieces both ways
+    ends = [(x, y, x + 0.1, y) for x in np.arange(20) / 10 for y in np.arange(21) / 10]
+    pieces = np.array([*ends, *[(y, x, v, u) for x, y, u, v in ends]])
+    pieces = np.concatenate([pieces, pieces[:, [2, 3, 0, 1]]])
+    area = strip(pieces, lambda east, north: (east, north), 20).area
+    # strips of 40 m cover all but 20 x 20 squares of 60 m; around them the edge with round corners
+    wanted = 2.04**2 - 400 * 0.06**2 - (4 - math.pi) * 0.02**2
+    assert area == pytest.approx(wanted, rel=1e-3)

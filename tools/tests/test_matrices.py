@@ -275,3 +275,9 @@ def test_a_chunk_that_is_damaged_is_told_and_other_forms_of_data_are_read(town: 
         file["data/cut_50"].id.write_direct_chunk((0, 0), b"no chunk")
     with pytest.raises(BadInput, match="damaged.omx: /data/cut_50: the chunk that begins with row 1 can't be read"):
         whole(open_matrix(town.path("damaged.omx")))
+
+
+def test_two_columns_of_one_name_are_refused(town: Town) -> None:
+    town.matrix(town_matrix(True).replace("A,B,C,D", "A,B,B,D"))
+    jobs = town.write("jobs.csv", "stop_id,jobs", [["B", 1]])
+    town.refused(f"{town.file}: record 1: two columns B", "access", "--opportunities", jobs, town.file)

@@ -125,3 +125,17 @@ def test_gis_has_columns_of_the_nearest(small: Town) -> None:
         ("C", 0, None),
     ]
     assert small.ran("gis", "--feed", small.feed, *arguments[:2], "--out", out, small.file)[2] == 2
+
+
+def test_large_numbers_keep_their_names_and_their_size(town: Town) -> None:
+    town.matrix(town_matrix(True, {"base": {"A": [0, 300, 900, 2400]}}))
+    people = town.write("people.csv", "stop_id,people", [["A", 999_999_999_999], ["B", 2]])
+    out = town.path("near.geojson")
+    arguments = ["--opportunities", people]
+    ran = town.ran(
+        "gis", "--feed", town.feed, *arguments, "--nearest", "1000001,1000003,1000000000000", "--out", out, town.file
+    )
+    assert ran[2] == 0, ran[1]
+    found = json.loads(Path(out).read_text())["features"][0]["properties"]
+    # A alone has one less than a billion thousands, so B is needed, 300 seconds away
+    assert [found[f"base_50_people_nearest_{count}"] for count in (1000001, 1000003, 1000000000000)] == [0, 0, 300]

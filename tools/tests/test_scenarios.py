@@ -156,7 +156,7 @@ def test_departures_are_added_between_those_that_are_there(small: Room) -> None:
         "  route R, D to A: 0 departures added to 1",
     ]
     services = {row["trip_id"]: row["service_id"] for row in rows(small, "out/trips.txt")}
-    assert [service for name, service in services.items() if "#" in name] == ["M", "M"]
+    assert [service for name, service in services.items() if "#" in name] == ["M", "W"]
 
 
 def test_three_times_as_often_is_two_more_in_each_gap(small: Room) -> None:
@@ -707,3 +707,45 @@ def test_help_and_the_page_list_the_actions_that_there_are(small: Room) -> None:
     assert status == 0 and help_table() in out
     assert all(callable(action.carry_out()) for action in LISTED)
     assert len({action.name for action in LISTED}) == len(LISTED)
+
+
+def test_departures_are_added_day_by_day(small: Room) -> None:
+    """M leaves A at 8:00, 8:20 and 9:20 on weekdays; on Mondays W leaves at 9:00 too."""
+    path = small.folder / "feed" / "stop_times.txt"
+    small.write(
+        "feed/trips.txt",
+        "route_id,service_id,trip_id,direction_id",
+        [["R", "M", "R1", 0], ["R", "M", "R2", 0], ["R", "W", "R3", 0], ["R", "M", "R4", 0]],
+    )
+    lines = [line for line in path.read_text().splitlines() if not line.startswith(("Q1", "S1"))]
+    path.write_text(
+        "\n".join([*lines, f"R4,{clock(560)},{clock(560)},A,1,0,0", f"R4,{clock(580)},{clock(580)},D,2,0,0", ""])
+    )
+    made(small, 'do = "headway"\nroute = "R"\ndirection = 0\ntimes = 2\nfrom = "08:00"\nto = "09:20"')
+    days = {row["service_id"]: row for row in rows(small, "out/calendar.txt")}
+    dates = [
+        (row["service_id"], row["date"])
+        for row in rows(small, "out/calendar_dates.txt")
+        if row["exception_type"] == "1"
+    ]
+
+    def departures(date: str, weekday: str) -> list[str]:
+        on = {name for name, row in days.items() if row[weekday] == "1"} | {name for name, day in dates if day == date}
+        trips = {row["trip_id"] for row in rows(small, "out/trips.txt") if row["service_id"] in on}
+        return sorted(own[0].split(" ")[1] for trip, own in calls(small, "out").items() if trip in trips)
+
+    # Monday: 8:00, 8:20, 9:00, 9:20, and a departure in the middle of each gap; Tuesday without that at 9:00
+    assert departures("20260504", "monday") == [
+        f"{time}:00" for time in ("08:00", "08:10", "08:20", "08:40", "09:00", "09:10", "09:20")
+    ]
+    assert departures("20260505", "tuesday") == [f"{time}:00" for time in ("08:00", "08:10", "08:20", "08:50", "09:20")]
+
+
+def test_more_departures_than_any_line_has_are_refused(small: Room) -> None:
+    line = 'do = "add_line"\nroute = "T"\nstops = ["A", "B"]\nseconds = [60]\ndays = "daily"\n'
+    plan = plan_of(small, line + 'departures = [{ first = "00:00", last = "120:00", every = 1 }]')
+    _, errors, status = small.ran("scenarios", small.path("feed"), plan, "--out", small.path("out"))
+    assert status == 1 and "makes 432,001 departures; allowed: at most 10,000 departures" in errors
+    plan = plan_of(small, 'do = "headway"\nroute = "R"\nevery = 1\nfrom = "00:00"\nto = "24:00"')
+    _, errors, status = small.ran("scenarios", small.path("feed"), plan, "--out", small.path("out"))
+    assert status == 1 and "makes 86,400 departures; allowed: at most 10,000 departures" in errors

@@ -11,7 +11,7 @@ import numpy as np
 from .. import progress
 from ..faults import BadInput
 from ..opening.paths import as_one_line, regular
-from ..records import shown
+from ..records import refuse_alike, shown
 from .layout import MatrixLayout, layout_of
 from .lines import (
     MOST,
@@ -72,6 +72,7 @@ class CsvMatrix(Matrix):
         found = layout_of(fields_of(record.removeprefix(b"\xef\xbb\xbf")))
         if found is None:
             raise BadInput(self.path, NO_MATRIX, record=1)
+        refuse_alike(self.path, found.stops, found.stops)
         if not record.endswith(b"\n"):
             raise BadInput(self.path, "truncated: the last line has no end")
         return found

@@ -20,7 +20,7 @@ from ..matrices import Matrix, Seconds, Share
 from .measure_list import DECAYS
 
 STEP = "step"
-NEARLY = 1 - 1e-12  # of a sum of decimals that is meant to be whole
+SLACK = 1e-6  # by which a sum of decimals that is meant to be whole may lack, at most a trillionth of it
 
 
 @dataclass(frozen=True)
@@ -123,7 +123,8 @@ def times_to(seconds: Seconds, numbers: Floats, counts: Sequence[float]) -> Floa
     times = []
     for column in numbers.T:
         sums = np.cumsum(column[order], axis=1)
-        places: list[npt.NDArray[np.intp]] = [(sums < count * NEARLY).sum(axis=1) for count in counts]
+        limits = [count - min(SLACK, 1e-12 * count) for count in counts]
+        places: list[npt.NDArray[np.intp]] = [(sums < limit).sum(axis=1) for limit in limits]
         times.append(np.take_along_axis(ordered, np.stack(places, axis=1), axis=1))
     return np.stack(times, axis=1)
 

@@ -17,6 +17,9 @@ from .access import Weighting, by_blocks
 from .measure_list import COMPETITIONS
 
 
+LEAST = 1e-100  # a lesser weight counts as none, since a supply divided by it is no number
+
+
 @dataclass(frozen=True)
 class Market:
     """Who competes for what, and how."""
@@ -58,7 +61,9 @@ class Thing:
         return np.flatnonzero(self.supply)
 
     def weights(self, seconds: Seconds) -> Floats:
-        return self.market.weighting.weights(seconds[:, self.used], self.cutoff)
+        found = self.market.weighting.weights(seconds[:, self.used], self.cutoff)
+        found[found < LEAST] = 0
+        return found
 
     def rates(self, demand: Floats) -> Floats:
         """What each person who competes for a destination has of it."""

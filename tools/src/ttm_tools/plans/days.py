@@ -1,5 +1,8 @@
 """On which days the trips of a plan run: a service of the feed, or a new one."""
 
+import itertools
+from typing import Sequence
+
 import numpy as np
 
 from ..gtfs.fields import WEEKDAYS, Mask
@@ -24,6 +27,23 @@ def service_of(base: Base, entry: Entry, services: set[str]) -> str:
         if (runs == union).all():
             return name
     return new_service(base, "+".join(names), union)
+
+
+def service_on(base: Base, entry: Entry, services: Sequence[str], runs: Mask) -> str:
+    """A service for some of the days of the first of some services: one of these with the same days, or a new one."""
+    for name in services:
+        if (runs == runs_of(base, name)).all() and (name == services[0] or name not in base.endless):
+            return name
+    service = services[0]
+    if service in base.endless:
+        message = "has no end, and other trips run there on some of its days"
+        raise entry.fault(f"{message}: end service {service} in calendar.txt", "times")
+    dates = [base.days.day(int(place)) for place in np.flatnonzero(runs)]
+    for number in itertools.count(1):
+        name = free(f"{service}+{number}", base.service_numbers)
+        if base.new_services.setdefault(name, dates) == dates:
+            return name
+    raise AssertionError("unreachable")
 
 
 def runs_of(base: Base, name: str) -> Mask:

@@ -99,6 +99,9 @@ def agree(study: Study, entries: dict[str, Entry]) -> None:
     refuse_both(run, "limits", "cutoffs")
     refuse_both(entries["results"], "within", "cutoff")
     refuse_both(walks, "none", "streets", "table")
+    for key in ("limit", "speed", "detour") if study.walks.table and not study.results.isochrones else ():
+        if walks.has(key):
+            raise walks.fault("doesn't go with table, whose walks are taken as they are", key, str(walks.values[key]))
     if study.walks.limit is not None and study.walks.limit > study.run.walk:
         message = f"is more than walk of [run], {study.run.walk}, so ttm would ignore the longer walks"
         raise walks.fault(message, "limit", str(study.walks.limit), "at most walk of [run]")

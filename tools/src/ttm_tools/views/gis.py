@@ -24,6 +24,7 @@ from ..measures.opportunities import Counts
 from ..opening.paths import as_one_line
 from ..points.areas import geometry_of, squares_of
 from ..records import shown, with_gaps
+from .access import decimal
 
 LAYER = "stops"
 
@@ -90,7 +91,7 @@ def with_nearest(
         places = [among[origins[row]] for row in rows]
         for (kind, what), (place, count) in itertools.product(enumerate(counts.names), enumerate(nearest_of)):
             column = placed(found[rows, kind, place], places, len(features.stops.identifiers))
-            columns[named(scenario, share, f"{shown(what)}_nearest_{count:g}")] = column
+            columns[named(scenario, share, f"{shown(what)}_nearest_{decimal(count)}")] = column
     return Features(features.stops, columns)
 
 

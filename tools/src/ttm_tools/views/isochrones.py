@@ -186,7 +186,7 @@ def isochrones_of(matrix: Matrix, ground: AreaGround, bands: Bands, counts: Coun
     for scenario, share in itertools.product(bands.scenarios, bands.shares):
         seconds = matrix.seconds(scenario, share, bands.origin).astype(np.float64)
         for minutes in bands.minutes:
-            limit = minutes * 60
+            limit = round(minutes * 60)
             shape, near = ground.shape_within(seconds, limit, bands.walking), seconds <= limit
             there = {} if counts is None else {name: float(counts.named(name)[near].sum()) for name in counts.names}
             sizes = float(shape.area), int(near.sum())

@@ -12,6 +12,8 @@ from .straight import Pace, points_of
 from .street_graph import build_graph, snap
 
 SHORTEST = 1e-6  # metres of a piece that isn't a crossing
+TILE = 0.5  # kilometres; areas of pieces are united tile by tile, which takes less time and memory than at once
+QUARTER = 8  # corners of a quarter of a circle
 
 
 @dataclass(frozen=True)
@@ -73,7 +75,19 @@ def reach_of(streets: Streets, latitudes: Floats, longitudes: Floats, pace: Pace
 
 def strip(pieces: Floats, kilometres: Callable[[Floats, Floats], tuple[Floats, Floats]], width: float) -> Any:
     """The area within some metres of pieces of streets, as a shape in kilometres."""
-    from shapely.geometry import MultiLineString
+    from shapely.geometry import LineString
+    from shapely.ops import unary_union
 
-    begin, end = (np.stack(kilometres(pieces[:, column], pieces[:, column + 1]), axis=1).tolist() for column in (0, 2))
-    return MultiLineString([(one, other) for one, other in zip(begin, end) if one != other]).buffer(width / 1000)
+    ends = np.concatenate([np.stack(kilometres(*pieces[:, place : place + 2].T), axis=1) for place in (0, 2)], axis=1)
+    ends = ends.round(6)
+    is_back = (ends[:, 0] > ends[:, 2]) | ((ends[:, 0] == ends[:, 2]) & (ends[:, 1] > ends[:, 3]))
+    ends = np.unique(np.where(is_back[:, None], ends[:, [2, 3, 0, 1]], ends), axis=0)  # a street is reached both ways
+    ends = ends[(ends[:, :2] != ends[:, 2:]).any(axis=1)]
+    tiles = np.floor((ends[:, :2] + ends[:, 2:]) / 2 / TILE)
+    order = np.lexsort(tiles.T)
+    breaks = np.flatnonzero((np.diff(tiles[order], axis=0) != 0).any(axis=1)) + 1
+    parts = [ends[some].reshape(-1, 2, 2).tolist() for some in np.split(order, breaks)]
+    areas = (
+        unary_union([LineString(line).buffer(width / 1000, QUARTER) for line in lines]) for lines in parts if lines
+    )
+    return unary_union(list(areas))

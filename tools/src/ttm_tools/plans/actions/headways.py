@@ -1,19 +1,20 @@
 """A route that runs at a headway, by copies of a typical trip; or several times as often, by trips in between."""
 
+import itertools
 from dataclasses import replace
-from typing import Sequence
+from typing import Iterator, Mapping, Sequence
 
 import numpy as np
 
 from ...faults import quantity
-from ...gtfs.fields import clock
+from ...gtfs.fields import Mask, clock
 from ..base import Headway
 from ..choice import chosen, directions_of, pattern_of, stop_shown
-from ..days import runs_of, service_of
+from ..days import runs_of, service_of, service_on
 from ...opening.kinds import TIME, whole
 from ...opening.toml_file import Entry
 from ..state import State, Trip, in_range
-from .lines import EVERY
+from .lines import EVERY, refuse_many
 
 MOST_TIMES = 60
 WHOLE_DAY = 'from = "00:00", to = "30:00"'  # past midnight too; where trips stay, later departures do no harm
@@ -30,6 +31,7 @@ def headway(state: State, entry: Entry) -> list[str]:
     groups = [group for trips in by_route.values() for group in directions_of(trips)]
     if entry.one_of("every", "times") == "every":
         times = range(start, end, entry.read("every", EVERY))
+        refuse_many(entry, len(times), "every")
         return [line for group in groups for line in thinned(state, entry, group, times, end)]
     sentences = [line for group in groups for line in oftener(state, entry, group, start, end)]
     if not state.changes:
@@ -110,13 +112,30 @@ def parts(row: Headway, start: int, end: int) -> list[Headway]:
     return rows
 
 
+def next_departures(
+    service: str, later: Sequence[tuple[int, str]], days: Mapping[str, Mask]
+) -> Iterator[tuple[int, Mask]]:
+    """The times of the next departure, each with the days of a service on which it is the next one."""
+    left = days[service].copy()
+    if not left.any():  # its days are too many to be listed
+        at = next((at for at, other in later if other == service), None)
+        if at is not None:
+            yield at, left
+        return
+    for at, departures in itertools.groupby(later, lambda departure: departure[0]):
+        on = left & np.any([days[other] for _, other in departures], axis=0)
+        if on.any():
+            yield at, on
+            left &= ~on
+
+
 def oftener(state: State, entry: Entry, trips: Sequence[Trip], start: int, end: int) -> list[str]:
     """For the trips of one direction: behind each departure of the period copies of its trip, evenly up to the next
-    departure from the same stop on one of its days; strictly before the end of the period.
+    departure from the same stop on the same day; strictly before the end of the period. Where the next departure isn't
+    the same on all days of the trip, the copies of some of the days have a service of their own.
     """
     times = entry.read("times", whole(2, MOST_TIMES))
     days = {name: runs_of(state.base, name) for name in {trip.service for trip in trips}}
-    beside = {a: {b for b in days if a == b or bool(np.any(days[a] & days[b]))} for a in days}
     known = [(int(trip.stop[0]), time, trip) for trip in trips for time in sorted(trip.departures)]
     inside = sorted((time, trip.label, stop) for stop, time, trip in known if start <= time < end)
     if not inside:
@@ -125,12 +144,12 @@ def oftener(state: State, entry: Entry, trips: Sequence[Trip], start: int, end: 
     added = 0
     for time, label, stop in inside:
         trip = by_label[label]
-        others = ((at, other) for place, at, other in known if place == stop and at > time)
-        gap = min((at for at, other in others if other.service in beside[trip.service]), default=time) - time
-        for part in range(1, times):
-            extra = time + gap * part // times
-            if time < extra < end and gap:
+        later = sorted((at, other.service) for place, at, other in known if place == stop and at > time)
+        for at, on in next_departures(trip.service, later, days):
+            extras = [time + (at - time) * part // times for part in range(1, times)]
+            for extra in (extra for extra in extras if time < extra < end):
                 added += 1
-                state.add(in_range(entry, copy_of(state, trip, added, extra, trip.service)))
+                service = service_on(state.base, entry, [trip.service, *days], on)
+                state.add(in_range(entry, copy_of(state, trip, added, extra, service)))
     ends = " to ".join(stop_shown(state, int(trips[0].stop[place])) for place in (0, -1))
     return [f"route {trips[0].route}, {ends}: {quantity(added, 'departure')} added to {len(inside):,}"]

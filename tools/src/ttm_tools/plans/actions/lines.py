@@ -17,6 +17,7 @@ from ..new_records import ROUTE_TYPE
 from ..state import State, Trip, in_range
 
 MOST = 86_400  # seconds between two stops
+MOST_DEPARTURES = 10_000  # of a period; one every ten seconds for more than a day
 EVERY = whole(1, 86_400)  # seconds
 PERIOD = {"first": TIME, "last": TIME, "every": EVERY}
 
@@ -64,8 +65,16 @@ def departures_of(entry: Entry) -> list[int]:
         first, last, every = (period.read(key, kind) for key, kind in PERIOD.items())
         if last < first:
             raise period.fault(f"is before first, {clock(first)}", "last", clock(last))
+        refuse_many(period, len(range(first, last + 1, every)), "every")
         times.update(range(first, last + 1, every))
     return sorted(times)
+
+
+def refuse_many(entry: Entry, count: int, column: str) -> None:
+    """Refuses more departures than any line has, each of which would be a trip."""
+    if count > MOST_DEPARTURES:
+        allowed = f"at most {MOST_DEPARTURES:,} departures"
+        raise entry.fault(f"makes {count:,} departures", column, str(entry.values.get(column)), allowed)
 
 
 def run_times(state: State, entry: Entry, way: Whole) -> tuple[Whole, int]:
