@@ -40,7 +40,9 @@ def run_pages(folder: Path) -> list[str]:
     texts = [(ROOT / "docs" / f"{name}.md").read_text(encoding="utf-8") for name in PAGES]
     for text in texts:
         pages.write_files(text, folder)
-    return pages.differences([one for text in texts for one in pages.commands(text)], folder, dict(os.environ))
+    path = os.pathsep.join([os.path.dirname(sys.executable), os.environ["PATH"]])
+    environment = {**os.environ, "PATH": path, "LC_ALL": "C.UTF-8"}
+    return pages.differences([one for text in texts for one in pages.commands(text)], folder, environment)
 
 
 def page_picture(page: Path) -> bytes:
@@ -53,15 +55,16 @@ def page_picture(page: Path) -> bytes:
 
 
 def make(program: Path, out: Path) -> list[str]:
-    """Writes the pictures into a folder; what a command printed instead of what its page says."""
+    """Writes the pictures into a folder, unless a command prints something else than its page says: then returns it."""
     with tempfile.TemporaryDirectory(prefix="ttm-pictures-") as name:
         folder = Path(name)
         lay_out(folder, program.resolve())
-        differing = run_pages(folder)
+        if differing := run_pages(folder):
+            return differing
         for there, here in MAPS.items():
             (out / here).write_bytes(fewer_colours((folder / there).read_bytes()))
         (out / PAGE).write_bytes(fewer_colours(page_picture(folder / "page.html")))
-        return differing
+        return []
 
 
 def main() -> int:
