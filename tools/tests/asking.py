@@ -36,6 +36,8 @@ def say(status, body):
     sys.stdout.buffer.write(b"answer %d %d\\n" % (status, len(body)) + body)
     sys.stdout.buffer.flush()
 print("ttm: stops: 2", file=sys.stderr, flush=True)
+if "20270101" in words:
+    print("ttm: warning: no trip runs on the date itself", file=sys.stderr, flush=True)
 if "--walk" in words and words[words.index("--walk") + 1] == "7":
     print("ttm: bad walk\\nttm: --walk is \\"7\\"; none of seven", file=sys.stderr, flush=True)
     sys.exit(2)

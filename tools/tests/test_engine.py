@@ -140,3 +140,15 @@ def test_questions_that_were_answered_are_no_refusal(last: str | None, line: str
     printed = ["ttm: stops: 3", "ttm: question 1: status 0, 26 bytes", "ttm: question: out of memory"]
     printed += ["ttm: question 12: status 2, 15 bytes", *([last] if last else [])]
     assert refusal_of("\n".join(printed).encode(), 5) == [line]
+
+
+def test_what_ttm_warns_of_is_a_warning(room: Room) -> None:
+    program = Path(room.path("ttm"))
+    line = "warning: no trip runs on the date itself; is it a date of the feed's calendar?"
+    matrix = "scenario,origin,share,access_1800,A\\nbase,A,50,1,0\\n"
+    twice = f'echo "ttm: {line}" >&2\n' * 2
+    program.write_text(f'#!/bin/sh\n{twice}printf "{matrix}"\n')
+    program.chmod(0o755)
+    with pytest.warns(UserWarning) as caught:
+        run(Run("feed", "20260504", ("08:00", "08:00")), room.path("m.csv"), program)
+    assert [str(item.message) for item in caught] == [line.removeprefix("warning: ")]

@@ -99,6 +99,10 @@ def test_what_is_refused(town: Town) -> None:
     town.matrix(town_matrix(True))
     arguments = ["isochrones", "--feed", town.feed, "--out", town.path("a.geojson"), "--origin"]
     town.refused(f"{town.file}: the scenario base has no origin B", *arguments, "B", town.file)
+    named = "the scenario base has no origin Alpha1; the nearest is 'Alpha'"
+    town.matrix(town_matrix(True, {"base": {"Alpha": [0, 1, 2, 3]}}))
+    assert named in town.ran(*arguments, "Alpha1", town.file)[1]
+    town.matrix(town_matrix(True))
     people = town.write("people.csv", "stop_id,people", [["Z", 1]])
     town.refused(f"{people}: record 2: no column is called Z", *arguments, "A", "--people", people, town.file)
     assert town.ran(*arguments[:4], town.path("a.shp"), "--origin", "A", town.file)[2] == 2

@@ -320,3 +320,11 @@ def test_a_feed_that_is_refused_is_told_as_by_a_run(room: Room, program: str) ->
             network.matrix(EIGHT)
     assert (raised.value.file, raised.value.record, raised.value.ended) == ("trips.txt", 2, 2)
     assert raised.value.column == "route_id"
+
+
+def test_what_the_process_warns_of_is_a_warning_once(room: Room) -> None:
+    with ttm_tools.Network(room.folder, "20270101", program=canned(room.folder)) as network:
+        with pytest.warns(UserWarning) as caught:
+            cell(network, EIGHT)
+            cell(network, NINE)
+    assert [str(item.message) for item in caught] == ["no trip runs on the date itself"]

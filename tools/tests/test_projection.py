@@ -2,6 +2,7 @@
 
 import json
 import math
+import random
 from pathlib import Path
 from typing import Any
 
@@ -155,3 +156,26 @@ def test_a_stop_far_from_all_others_is_reported(room: Room) -> None:
     # 6,180 km: the meridian from 5 to 60 degrees has 6,106 km (WGS 84), and FAR lies 10 degrees to the west too
     assert status == 0 and line.startswith(wanted)
     assert "middle of all stops" not in room.ran("prepare", "--check", feed(room))[0]
+
+
+@pytest.mark.parametrize("seed", range(4))
+def test_drawn_isochrones_have_the_area_of_their_circles(room: Room, seed: int) -> None:
+    pytest.importorskip("shapely")
+    draw = random.Random(seed)
+    centre = draw.uniform(-65, 65), draw.uniform(-179, 179)
+    # places 4 km apart, with up to 20 minutes left at a metre a second: no two circles meet
+    names = [f"P{number}" for number in range(16)]
+    spots = [place(*centre, 4000 * (number // 4), 4000 * (number % 4)) for number in range(16)]
+    room.write("stops.txt", "stop_id,stop_lat,stop_lon", [[name, *spot] for name, spot in zip(names, spots)])
+    times = [0, *[draw.choice(["", draw.randrange(1, 2400)]) for _ in names[1:]]]
+    matrix = room.folder / "m.csv"
+    matrix.write_text(town_matrix(True, {"base": {"P0": times}}, stops=names))
+    out, walk = room.path("areas.geojson"), ["--speed", "1", "--detour", "1", "--walk", "1200"]
+    feed_and_origin = ["--feed", str(room.folder), "--origin", "P0"]
+    ran = room.ran("isochrones", *feed_and_origin, *walk, "--bands", "20", "--out", out, str(matrix))
+    assert ran[2] == 0, ran[1]
+    (area,) = json.loads(Path(out).read_text())["features"]
+    left = [1200 - time for time in times if isinstance(time, int) and time < 1200]
+    corners = math.sin(2 * math.pi / 48) / (2 * math.pi / 48)  # a circle has 48 corners
+    wanted = sum(math.pi * (seconds / 1000) ** 2 for seconds in left) * corners
+    assert area["properties"]["square_km"] == pytest.approx(wanted, rel=1e-6, abs=1e-4)

@@ -306,3 +306,19 @@ def test_what_a_killed_run_left_in_the_cache_is_removed(room: Room, cache: None)
         if number == 0:
             entry.rename(dead)
     assert [path.name for path in left.iterdir()] == [entry.name]
+
+
+def test_snapping_takes_whatever_column_has_the_geometry(walking: r5py.TransportNetwork) -> None:
+    from ttm_tools.r5py.matrix import ends_of
+
+    beside = frame([(HOME[0] + 100, HOME[1])], ["home"])
+    renamed = beside.rename_geometry("place")
+    snapped = [ends_of(walking, given, None, True)[0] for given in (beside, renamed)]
+    apart = ends_of(walking, renamed, None, False)[0]
+    assert snapped[0].latitudes == snapped[1].latitudes != apart.latitudes
+
+
+def test_limits_of_isochrones_are_minutes_with_decimals() -> None:
+    from ttm_tools.r5py.isochrones import limits_of
+
+    assert limits_of([7.5, 3]) == [datetime.timedelta(minutes=3), datetime.timedelta(seconds=450)]

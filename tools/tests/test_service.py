@@ -216,3 +216,41 @@ def test_the_scenarios_of_a_plan_have_its_order(line: Room) -> None:
     assert [row["scenario"] for row in service(line, "--by", "all")] == names
     Path(line.path("scenarios.words")).unlink()
     assert [row["scenario"] for row in service(line, "--by", "all")] == ["today", "alpha", "more", "zebra"]
+
+
+@pytest.mark.parametrize("seed", range(4))
+def test_drawn_routes_with_loops_run_as_plain_loops_say(room: Room, seed: int) -> None:
+    draw = random.Random(seed)
+    east = {name: draw.randrange(20_000) for name in "ABCDE"}  # metres along the equator
+    room.stops(*[(name, 0, metres * EASTWARDS / METRE) for name, metres in east.items()])
+    room.write("routes.txt", "route_id", [["R"]])
+    room.write("calendar.txt", *CALENDAR)
+    ways = [[draw.choice("ABCDE") for _ in range(draw.randint(2, 7))] for _ in range(3)]
+    trips = {f"T{number}": (draw.choice(ways), draw.randrange(0, 86_400)) for number in range(12)}
+    room.write("trips.txt", "route_id,service_id,trip_id", [["R", "M", trip] for trip in trips])
+    calls = {
+        trip: [(begin + 120 * place, stop) for place, stop in enumerate(way)] for trip, (way, begin) in trips.items()
+    }
+    rows = [
+        [trip, *[f"{time // 3600}:{time // 60 % 60:02}:{time % 60:02}"] * 2, stop, place]
+        for trip, own in calls.items()
+        for place, (time, stop) in enumerate(own)
+    ]
+    room.write("stop_times.txt", STOP_TIMES, rows)
+    (row,) = service(room)
+    metres = sum(abs(east[a] - east[b]) for own in calls.values() for (_, a), (_, b) in zip(own, own[1:]))
+    assert float(row["vehicle_kilometres"]) == pytest.approx(metres / 1000, abs=0.006)
+    first = {
+        stop: [
+            next(time for time, at in own[:-1] if at == stop)
+            for own in calls.values()
+            if stop in [at for _, at in own[:-1]]
+        ]
+        for stop in east
+    }
+    most = max(map(len, first.values()))
+    gaps = {stop: np.diff(sorted(times)) / 60 for stop, times in first.items() if len(times) == most}
+    found = float(row["headway_minutes"] or "nan"), float(row["greatest_gap_minutes"] or "nan")
+    assert any(
+        found == pytest.approx((float(np.median(own)), float(own.max())), abs=1e-3) for own in gaps.values() if len(own)
+    )

@@ -14,12 +14,13 @@ from collections import deque
 from dataclasses import dataclass
 from typing import IO, Any, Sequence
 
-from .engine import EngineFault, Pathlike, refusal_of
+from .engine import EngineFault, Pathlike, refusal_of, warnings_in
 from .faults import WrongWords
 
 HEAD = re.compile(rb"answer ([0-9]{1,3}) ([0-9]{1,18})\n")
 LONGEST_HEAD = 64  # bytes
 LAST_LINES = 100  # of the standard error that are kept
+SECONDS_TO_LISTEN = 0.05  # for the lines that a process prints before its first answer
 SECONDS_TO_END = 1.0  # for a process whose input has ended, before it is killed
 
 
@@ -29,6 +30,7 @@ class Answer:
 
     status: int  # the exit status of a run with these words
     body: bytes  # the matrix at status 0, else the error line
+    warnings: tuple[str, ...] = ()  # what the process has warned of since the answer before it
 
 
 def block_of(arguments: Sequence[str]) -> bytes:
@@ -51,6 +53,7 @@ class Conversation:
         how: dict[str, Any] = {"cwd": folder, "start_new_session": True}
         self.process = subprocess.Popen(arguments, stdin=pipe, stdout=pipe, stderr=pipe, **how)
         self.lines: deque[bytes] = deque(maxlen=LAST_LINES)
+        self.warned, self.has_answered = set[str](), False
         self.listener = threading.Thread(target=listen, args=(self.process.stderr, self.lines), daemon=True)
         self.listener.start()
 
@@ -84,7 +87,17 @@ class Conversation:
         body = answered.read(length) if found else b""
         if found is None or len(body) < length:
             raise self.fault()
-        return Answer(int(found[1]), body)
+        return Answer(int(found[1]), body, self.new_warnings())
+
+    def new_warnings(self) -> tuple[str, ...]:
+        """The warnings that no answer has had yet; what the process printed before its first answer is waited for."""
+        if not self.has_answered:
+            self.listener.join(SECONDS_TO_LISTEN)
+        self.has_answered = True
+        found = warnings_in(b"\n".join(self.lines.copy()))
+        new = tuple(line for line in found if line not in self.warned)
+        self.warned.update(new)
+        return new
 
     def fault(self) -> EngineFault:
         """Why the process ended, by its last lines."""

@@ -61,6 +61,9 @@ class EngineFault(BadInput):
         return self.column if self.column and self.column.startswith("--") else None
 
 
+WARNING = "ttm: warning: "  # begins lines of a report
+
+
 def refusal_of(errors: bytes, status: int) -> list[str]:
     """The line that says why a run ended, and those that explain it, behind those of its report."""
     lines = [line for line in errors.decode("utf-8", "replace").splitlines() if line]
@@ -122,15 +125,22 @@ def program_at(path: Pathlike | None) -> str:
 
 def run(task: Run, out: Pathlike, program: Pathlike | None = None) -> None:
     """Runs `ttm`; the matrix gets its name when it is complete, and an error leaves none. The run has `--report`, as it
-    explains a refusal. A warning says where walks to a plan's new stops bring old stops nearer.
+    explains a refusal. What it warns of is a warning of Python, such as a date without trips; and so is where walks to
+    a plan's new stops bring old stops nearer.
     """
     with output(str(out)) as file:
         arguments = [*replace(task, program=program or task.program).command(), "--report"]
         ran = subprocess.run(arguments, stdout=file, stderr=subprocess.PIPE)
         if ran.returncode != 0:
             raise EngineFault("\n".join(refusal_of(ran.stderr, ran.returncode)), ran.returncode)
-    for line in nearer_by_plan(task):
+    for line in [*warnings_in(ran.stderr), *nearer_by_plan(task)]:
         warnings.warn(line, stacklevel=2)
+
+
+def warnings_in(report: bytes) -> list[str]:
+    """The warnings of a report, each once, such as that no trip runs on the date."""
+    lines = report.decode("utf-8", "replace").splitlines()
+    return list(dict.fromkeys(line.removeprefix(WARNING) for line in lines if line.startswith(WARNING)))
 
 
 def nearer_by_plan(task: Run) -> list[str]:

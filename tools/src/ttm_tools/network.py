@@ -7,6 +7,7 @@ import contextlib
 import datetime
 import os
 import tempfile
+import warnings
 import weakref
 from pathlib import Path
 from typing import Iterable, Iterator, Mapping, Sequence
@@ -168,6 +169,8 @@ class Network:
             answer = self.pool.ask([word for option, value in options.items() for word in (f"--{option}", str(value))])
             if answer.status != 0:
                 raise EngineFault("\n".join(refusal_of(answer.body, answer.status)), answer.status)
+            for line in answer.warnings:
+                warnings.warn(line, stacklevel=2)
             path = folder / "matrix.csv"
             path.write_bytes(answer.body)
             return result_of(open_matrix(str(path)), self.rounded.count + rounded.count)

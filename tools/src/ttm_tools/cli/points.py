@@ -1,7 +1,7 @@
 import argparse
 from typing import TYPE_CHECKING
 
-from ..faults import WrongWords, needs, say
+from ..faults import WrongWords, needs, quantity, say
 from .options import Parser, Range, decimals
 
 if TYPE_CHECKING:
@@ -97,4 +97,4 @@ def grid_of(args: argparse.Namespace, pace: "Pace") -> "tuple[Points, list[str]]
     stops = read_stops(args.feed)
     cells = grid.grid_over(args.area, args.grid) if args.area else grid.grid_near(stops, args.grid, pace.metres)
     points, sentences = grid.filled(cells, args.people)
-    return points, [f"{len(points.identifiers):,} cells of {args.grid:g} metres", *sentences]
+    return points, [f"{quantity(len(points.identifiers), 'cell')} of {args.grid:g} metres", *sentences]

@@ -5,7 +5,7 @@ import shutil
 from dataclasses import replace
 from pathlib import Path
 
-from ..faults import WrongWords
+from ..faults import WrongWords, quantity
 from ..gtfs.stops import Stops, read_stops
 from ..files import copy_file, writing_to
 from ..folders import scratch
@@ -36,7 +36,9 @@ def with_walks(options: ExploreOptions, room: Path) -> tuple[ExploreOptions, lis
     path = room / WALKS
     with open(path, "wb") as file:
         write_rows(file, HEADER, walks.rows())
-    return replace(options, footpaths=str(path)), [f"{len(walks.seconds):,} walks; {summary(walks, 'stops', NEAR)}"]
+    return replace(options, footpaths=str(path)), [
+        f"{quantity(len(walks.seconds), 'walk')}; {summary(walks, 'stops', NEAR)}"
+    ]
 
 
 def with_cells(options: ExploreOptions, room: Path, side: float) -> tuple[ExploreOptions, list[str]]:
@@ -49,7 +51,7 @@ def with_cells(options: ExploreOptions, room: Path, side: float) -> tuple[Explor
 
     point_options = study.PointsOptions(options.feed, str(folder), [cells], [True], [True], options.walk, False, NEAR)
     sentences = study.make(point_options, walker)[:-1]
-    count = f"{len(cells.identifiers):,} cells of {side:g} metres"
+    count = f"{quantity(len(cells.identifiers), 'cell')} of {side:g} metres"
     return replace(options, feed=str(folder / study.FEED), footpaths=str(folder / study.FOOTPATHS)), [count, *sentences]
 
 

@@ -9,6 +9,7 @@ import numpy as np
 import numpy.typing as npt
 
 from ..faults import BadInput, some
+from ..opening.kinds import near
 from ..records import shown
 from .layout import MatrixLayout
 from .lines import Seconds
@@ -107,7 +108,8 @@ class Matrix(ABC):
         """The travel times of one origin, which the scenario has."""
         names = self.origins(scenario, share)
         if origin not in names:
-            raise BadInput(self.path, f"the scenario {shown(scenario)} has no origin {shown(origin)}")
+            what = f"the scenario {shown(scenario)} has no origin {shown(origin)}"
+            raise BadInput(self.path, f"{what}{near(shown(origin), map(shown, names))}")
         place = names.index(origin)
         row: Seconds = self.rows(scenario, share, place, place + 1)[0]
         return row

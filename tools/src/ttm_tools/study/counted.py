@@ -9,7 +9,7 @@ from typing import Sequence
 
 import numpy as np
 
-from ..faults import BadInput
+from ..faults import BadInput, quantity
 from ..files import sum_of
 from ..gtfs.fields import Floats
 from ..measures.opportunities import OWN_NAME, Counts, called, columns_of, read_counts
@@ -103,7 +103,7 @@ def counts_stage(
         counts = at(every, stops, whole)
         write_counts(study.folder / COUNTED, stops, counts)
         lost = sentences_on_lost(whole, counts, f"{NOT_COUNTED} places where no journey ends")
-        return [f"{COUNTED}: {', '.join(map(shown, counts.names))} at {len(stops):,} places", *lost]
+        return [f"{COUNTED}: {', '.join(map(shown, counts.names))} at {quantity(len(stops), 'place')}", *lost]
 
     facts = {"stops": stops_sum, "columns": columns, "ends": stops, "own": own}
     return Sources(study.at, study.opportunities.files).stage("counted", facts, [COUNTED], make)
@@ -119,7 +119,7 @@ def people_stage(study: Study, origins: Record, path: str) -> Stage:
         counts = at(every, names, whole)
         write_counts(study.folder / PEOPLE, names, counts)
         lost = sentences_on_lost(whole, counts, f"{NOT_COUNTED} points that are left out")
-        return [f"{PEOPLE}: {', '.join(map(shown, counts.names))} at {len(names):,} origins", *lost]
+        return [f"{PEOPLE}: {', '.join(map(shown, counts.names))} at {quantity(len(names), 'origin')}", *lost]
 
     facts = {"origins": origins.outputs, "groups": groups}
     return Sources(study.at, [study.opportunities.people]).stage("people", facts, [PEOPLE], make)
@@ -174,7 +174,7 @@ def opportunities_stage(study: Path, counted: Record, column: str) -> Stage:
         scaled = f", times {scale:,} for ttm; access is divided by that" if scale > 1 else ""
         lost = float(numbers.sum()) - total
         whole = f"; rounded, {plain(round(total, 6))} of {plain(round(total + lost, 6))}" if abs(lost) > 1e-6 else ""
-        return [f"{OPPORTUNITIES}: {shown(column)} at {len(rows):,} places{scaled}{whole}"]
+        return [f"{OPPORTUNITIES}: {shown(column)} at {quantity(len(rows), 'place')}{scaled}{whole}"]
 
     facts = {"column": column, "counted": counted.outputs}
     return Stage("opportunities", facts, [OPPORTUNITIES], make)

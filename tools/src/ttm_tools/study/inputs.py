@@ -7,7 +7,7 @@ from dataclasses import asdict, dataclass, replace
 from pathlib import Path
 
 from ..engine import Run
-from ..faults import BadInput
+from ..faults import BadInput, quantity
 from ..files import copy_file, many_written_aside
 from ..gtfs.feeds import refuse_planned
 from ..matrices import BASE, TODAY
@@ -270,7 +270,7 @@ def origins_stage(maker: Maker) -> Stage:
             check_origins(given, set(known))
         with open(maker.at(ORIGINS), "wb") as file:
             write_stops(file, origins)
-        return [f"{ORIGINS}: {len(origins):,} origins"]
+        return [f"{ORIGINS}: {quantity(len(origins), 'origin')}"]
 
     own = maker.records["points"].outputs if study.points.all else {}
     depends = {"stops": maker.stops_sum, "points": own}

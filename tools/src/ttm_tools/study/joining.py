@@ -7,7 +7,7 @@ from typing import Mapping, Sequence
 
 import numpy as np
 
-from ..faults import BadInput
+from ..faults import BadInput, quantity
 from ..files import output, remove
 from ..matrices import Matrix, Seconds, Share, Sums, write_open_matrix
 from ..matrices.chosen import Chosen
@@ -89,9 +89,8 @@ def join_parts(parts: Sequence[Part], with_csv: bool, shown: ShownMatrix, thread
     joined = Joined(parts, shown.shown_as, shown.scale)
     matrix = Chosen(joined, shown.columns) if shown.columns else joined
     write_open_matrix(matrix, path, threads)
-    sentences = [
-        f"{path}: {joined.begins[-1]:,} origins, {len(matrix.stops):,} {'points' if shown.columns else 'stops'}"
-    ]
+    columns = quantity(len(matrix.stops), "point" if shown.columns else "stop")
+    sentences = [f"{path}: {quantity(joined.begins[-1], 'origin')}, {columns}"]
     if with_csv:
         with output(str(parts[0].study / CSV)) as file:
             write_whole([PartMatrix(str(part.matrix)) for part in parts], file)

@@ -2,6 +2,7 @@
 
 from typing import Any
 
+from ..faults import quantity
 from ..files import output
 from ..measures.opportunities import columns_of
 from ..points.study import POINTS
@@ -26,7 +27,9 @@ def page_stages(whole: StudyMatrix, known: Records) -> list[Stage]:
         with output(whole.at(PAGE)) as file:
             page.write(file)
         ground = page.content.ground
-        sentence = f"{len(ground.places.identifiers):,} places, travel times from {len(ground.rows):,} of them"
+        sentence = (
+            f"{quantity(len(ground.places.identifiers), 'place')}, travel times from {len(ground.rows):,} of them"
+        )
         return [f"{PAGE}: {sentence}", *page.frame.sentences]
 
     texts: list[Any] = [study.title, study.about.note, whole.unit, study.within, list(study.cutoffs)]

@@ -3,6 +3,7 @@
 from dataclasses import replace
 from typing import TYPE_CHECKING
 
+from ..faults import quantity
 from ..gtfs.stops import read_stops
 from ..plans.nearness import sentences_on_nearer
 from ..points import grid as grids, read_points, study as points
@@ -90,7 +91,7 @@ def grid_stage(study: Study, feed: str, stops_sum: str | None) -> Stage:
         filled, sentences = grids.filled(cells, [study.at(path) for path in settings.grid_people])
         with open(study.folder / GRID, "wb") as file:
             write_rows(file, ["id", "name", "lat", "lon", "width", *filled.columns], points.point_lines(filled))
-        return [f"{GRID}: {len(filled.identifiers):,} cells of {width:g} metres", *sentences]
+        return [f"{GRID}: {quantity(len(filled.identifiers), 'cell')} of {width:g} metres", *sentences]
 
     has_area = settings.grid_area is not None
     facts = {"stops": stops_sum, "width": width, "metres": pace.metres, "area": has_area}

@@ -5,6 +5,7 @@ from fractions import Fraction
 
 import numpy as np
 
+from ...faults import quantity
 from ...gtfs.fields import Whole, clock
 from ...gtfs.projection import metres_between
 from ...records import shown
@@ -46,7 +47,8 @@ def add_line(state: State, entry: Entry) -> list[str]:
             trip = Trip(label, -1, route, service, str(direction), stops, arrive, depart, none, redrawn=True)
             state.add(in_range(entry, trip))
     length = int(run.sum()) + dwell * (len(way) - 2)
-    sentence = f"route {route}: {len(way):,} stops in {clock(length)}; {len(times):,} departures from each end"
+    departures = f"{quantity(len(times), 'departure')} from each end"
+    sentence = f"route {route}: {quantity(len(way), 'stop')} in {clock(length)}; {departures}"
     return [sentence, *([f"route {route}: agency {shown(agency)}"] if agency else [])]
 
 

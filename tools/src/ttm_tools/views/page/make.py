@@ -5,7 +5,7 @@ import os
 from dataclasses import dataclass, field, replace
 from typing import BinaryIO
 
-from ...faults import BadInput, say
+from ...faults import BadInput, quantity, say
 from ...gtfs.stops import read_list
 from ...matrices import Matrix, Share
 from ...points.shown import points_in, shown_of
@@ -161,4 +161,4 @@ def tell(path: str, page: Page) -> None:
     """Says on the standard error what was written."""
     ground = page.content.ground
     count, rows = len(ground.places.identifiers), len(ground.rows)
-    say(f"{path}: {count:,} places, travel times from {rows:,} of them", *page.frame.sentences)
+    say(f"{path}: {quantity(count, 'place')}, travel times from {rows:,} of them", *page.frame.sentences)
