@@ -18,7 +18,7 @@ from .faults import BadInput, Lacking, WrongWords
 from .files import output
 from .folders import scratch
 from .matrices import BASE, TODAY, Matrix, Seconds, Sums, open_matrix
-from .plans.nearness import sentences_on_nearer
+from .plans.nearness import new_stops_in, sentences_on_nearer
 from .records import Rounded, write_rows
 
 FAULT = re.compile(r"ttm: (?:(?P<file>.+?): )?(?:record (?P<record>[0-9]+): )?(?P<what>[^:]*)")
@@ -124,6 +124,7 @@ def run(task: Run, out: Pathlike, program: Pathlike | None = None) -> None:
     """Runs `ttm`; the matrix gets its name when it is complete, and an error leaves none. The run has `--report`, as it
     explains a refusal. A warning says where walks to a plan's new stops bring old stops nearer.
     """
+    new_stops_in(str(task.feed))  # an error of these is raised before anything is written
     with output(str(out)) as file:
         arguments = [*replace(task, program=program or task.program).command(), "--report"]
         ran = subprocess.run(arguments, stdout=file, stderr=subprocess.PIPE)
