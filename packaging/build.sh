@@ -123,15 +123,23 @@ Section: science
 Priority: optional
 Installed-Size: $(du -k -s --apparent-size "$usr" | cut -f 1)
 Depends: $libraries
-Recommends: $tools_need, $some_tools_need, $streets_need
-Suggests: parallel, slurm-client
+Recommends: $tools_need
+Suggests: $some_tools_need, $streets_need, parallel, slurm-client
 Description: travel time matrices over a GTFS feed, proved
  From every origin stop, for every minute of a departure window, the least
  travel time to every stop, as percentiles over the minutes, for a base network
  and for scenarios that remove or shift trips. What it answers is stated by
  contracts over plain definitions of timetables, and proved.
  .
- ttm-tools makes walks, parts, comparisons, maps and tables for analysts.
+ ttm-tools makes walks, parts, comparisons, maps and tables for analysts. It
+ needs the recommended packages. Install those of the suggested ones that your
+ work needs:
+  * python3-matplotlib: pictures; a study needs python3-h5py, too
+  * python3-h5py: Open Matrix files
+  * python3-geopandas: GeoPackage files, areas and polygons, names of r5py
+  * python3-jinja2, libjs-leaflet: pages; explore needs python3-flask, too
+  * python3-scipy, python3-pyosmium: walks along the streets of OpenStreetMap
+  * parallel, slurm-client: parts of a study on other machines
 END
 cat > "$room/deb/DEBIAN/postinst" << 'END'
 #!/bin/sh

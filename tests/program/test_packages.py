@@ -141,8 +141,12 @@ def test_tools_of_the_folder_run(of: Packages) -> None:
 
 
 def test_control_says_what_is_needed(of: Packages) -> None:
-    """the package depends on the libraries of C alone, and recommends what the tools stand on"""
-    depends, recommends = (of.output("dpkg-deb", "--field", of.deb, name) for name in ("Depends", "Recommends"))
+    """the package depends on the libraries of C alone, recommends what all tools need, and suggests what some need"""
+    fields = ("Depends", "Recommends", "Suggests", "Description")
+    depends, recommends, suggests, about = (of.output("dpkg-deb", "--field", of.deb, name) for name in fields)
+    heavy = "matplotlib h5py geopandas scipy pyosmium flask jinja2".split()
+    for name in (f"python3-{heavy_name}" for heavy_name in heavy):
+        assert name in suggests and name in about and name not in recommends, name
     assert re.fullmatch(r"libc6( \(>= 2\.\d+\))?(, libgcc-s1)?\n", depends), depends
     assert "python3-numpy" in recommends and "python3-pandas" in recommends, recommends
 

@@ -8,10 +8,12 @@ import tempfile
 import threading
 from pathlib import Path
 from typing import Any
+from xml.etree import ElementTree
 
 import pytest
 
-from helpers import LAUNCHER, LONGEST_WAIT, Room, Town, launched, town_matrix, wait_until
+from asking import script
+from helpers import CALENDAR, LAUNCHER, LONGEST_WAIT, Room, Town, launched, town_matrix, wait_until
 from ttm_tools import folders
 from ttm_tools.files import output, this_machine
 from ttm_tools.provenance import command_runs
@@ -202,3 +204,57 @@ def test_temporary_folders_of_other_machines_stay_and_those_of_killed_runs_go(
         other.kill()
         other.wait()
     assert len(this_machine()) == 8
+
+
+@pytest.mark.parametrize(
+    "name, begin", [("a.svg", b"<?xml"), ("a.pdf", b"%PDF-"), ("a.png", b"\x89PNG"), ("a", b"\x89PNG")]
+)
+def test_a_picture_is_of_the_kind_that_its_name_says(town: Town, name: str, begin: bytes) -> None:
+    pytest.importorskip("matplotlib")
+    town.matrix(town_matrix(True))
+    words = ["map", "access", "--feed", town.feed, "--unit", "jobs & homes", "--out", town.path(name), town.file]
+    assert town.ran(*words)[2] == 0
+    first = (town.folder / name).read_bytes()
+    assert first.startswith(begin)
+    assert (town.ran(*words)[2], (town.folder / name).read_bytes()) == (0, first)  # no time is in it
+    if name.endswith("svg"):
+        assert ElementTree.fromstring(first).tag.endswith("svg")
+
+
+@pytest.mark.parametrize("name", ["a.jpg", "a.JPEG", "a.tiff", "a.eps", "a.webp"])
+def test_a_picture_of_another_kind_is_refused_before_any_work(town: Town, name: str) -> None:
+    for words in (["map", "access", "--out", name, "no.csv"], ["equity", "no.csv", "--people", "n", "--picture", name]):
+        out, errors, status = town.ran(*words)
+        assert (out, status) == ("", 2) and f"'{name}' is not the name of a picture: .png, .svg or .pdf" in errors
+
+
+def test_an_error_of_a_plan_leaves_no_points_and_no_walks(town: Town) -> None:
+    """The list of new stops is of a plan, and damaged: that is seen before anything is written."""
+    (town.folder / "new_stops.csv").write_text("stop\nA\n")
+    points = town.write("points.csv", "id,lat,lon", [["P", 0.0, 9.001]])
+    message = f"{town.path('new_stops.csv')}: record 1: no column stop_id"
+    town.refused(message, "points", "--out", town.path("made"), town.feed, points)
+    town.refused(message, "walks", town.feed)
+
+
+@pytest.mark.parametrize("name", ["calendar_dates.txt", "footpaths.csv", "cut.csv"])
+def test_a_pipe_among_the_inputs_of_a_journey_is_refused(town: Town, name: str) -> None:
+    """`ttm` would wait for it forever."""
+    pytest.importorskip("pandas")
+    town.write("calendar.txt", *CALENDAR)
+    town.write("routes.txt", "route_id,route_type", [["R", 3], ["Q", 3]])
+    program = script(town.folder / "waits", "#!/bin/sh\nexec sleep 600\n")
+    os.mkfifo(town.path(name))
+    words = ["--date", "20260504", "--from", "08:00", "--to", "08:00", "--origin", "A", "--destination", "C"]
+    words += ["--program", program, *(["--footpaths", town.path(name)] if name == "footpaths.csv" else [])]
+    command = [
+        sys.executable,
+        LAUNCHER,
+        "explain",
+        *words,
+        town.feed,
+        *([town.path(name)] if name == "cut.csv" else []),
+    ]
+    ran = subprocess.run(command, capture_output=True, text=True, timeout=60)
+    assert (ran.returncode, ran.stdout) == (1, "")
+    assert ran.stderr == f"ttm-tools explain: {town.path(name)}: is not a file but a pipe\n"

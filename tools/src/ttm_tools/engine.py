@@ -18,7 +18,7 @@ from .faults import BadInput, Lacking, WrongWords
 from .files import output
 from .folders import scratch
 from .matrices import BASE, TODAY, Matrix, Seconds, Sums, open_matrix
-from .plans.nearness import sentences_on_nearer
+from .plans.nearness import new_stops_in, sentences_on_nearer
 from .records import Rounded, write_rows
 
 FAULT = re.compile(r"ttm: (?:(?P<file>.+?): )?(?:record (?P<record>[0-9]+): )?(?P<what>[^:]*)")
@@ -128,6 +128,7 @@ def run(task: Run, out: Pathlike, program: Pathlike | None = None) -> None:
     explains a refusal. What it warns of is a warning of Python, such as a date without trips; and so is where walks to
     a plan's new stops bring old stops nearer.
     """
+    new_stops_in(str(task.feed))  # an error of these is raised before anything is written
     with output(str(out)) as file:
         arguments = [*replace(task, program=program or task.program).command(), "--report"]
         ran = subprocess.run(arguments, stdout=file, stderr=subprocess.PIPE)

@@ -18,6 +18,7 @@ from .folders import scratch
 from .matrices import BASE, TODAY, Matrix, open_matrix
 from .measures.journeys import Search, cell, durations, journey
 from .measures.search_network import Schedule
+from .opening.paths import regular
 from .records import Rounded, shown
 from .gtfs.fields import Whole
 from .gtfs.footpaths import Footpaths, read_walks
@@ -103,6 +104,7 @@ def running(task: Run, out: Pathlike, program: Pathlike | None = None) -> Iterat
     """Runs `ttm` while the block does something else, and waits for it at the block's end. Where the block fails on an
     input that `ttm` refuses, the refusal is raised.
     """
+    refuse_pipes(task)
     with open(out, "wb") as file, tempfile.TemporaryFile() as errors:
         process = subprocess.Popen([program_at(program), *task.arguments(), "--report"], stdout=file, stderr=errors)
         try:
@@ -116,6 +118,13 @@ def running(task: Run, out: Pathlike, program: Pathlike | None = None) -> Iterat
             if process.poll() is None:
                 process.kill()
                 process.wait()
+
+
+def refuse_pipes(task: Run) -> None:
+    """Refuses inputs that are no files: `ttm` and the search read each of them, and would wait for a pipe forever."""
+    for path in (*sorted(Path(task.feed).glob("*.txt")), *task.scenarios, *task.files.values()):
+        if os.path.exists(path):
+            regular(str(path))
 
 
 def refuse(status: int, errors: IO[bytes]) -> None:

@@ -17,7 +17,7 @@ import threading
 from functools import cache
 from pathlib import Path
 from types import FrameType
-from typing import Any, BinaryIO, Callable, Iterator, NoReturn, Sequence
+from typing import BinaryIO, Callable, Iterator, NoReturn, Sequence
 
 from .faults import BadInput
 from .locks import lock_file, locked
@@ -288,12 +288,6 @@ def output(path: str | None) -> Iterator[BinaryIO]:
     with written_aside(path) as aside:
         with open(aside, "wb") as file:
             yield file
-
-
-def write_picture(path: str | None, figure: Any) -> None:
-    """Writes a figure of matplotlib as PNG."""
-    with output(path) as file:
-        figure.savefig(file, format="png", dpi="figure")
 
 
 def sum_of(path: str | Path) -> str:

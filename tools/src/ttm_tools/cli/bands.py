@@ -1,7 +1,8 @@
 import argparse
 
 from ..faults import WrongWords, needs
-from ..files import output, write_picture
+from ..files import output
+from ..picture_files import write_picture
 from .options import Parser, Range, decimals
 
 SUMMARY = "the number of people in bands of access, or of the time to the nearest opportunities"
@@ -26,7 +27,7 @@ def describe(parser: Parser) -> None:
     what = "the cutoff to count, or the number of nearest opportunities"
     parser.add_number("--cutoff", what, decimals("", 0, 1e15), without="all")
     parser.add_form()
-    parser.add_text("--picture", "FILE", "the file of a picture", without="none is drawn")
+    parser.add_picture("the file of a picture")
     parser.add_out("the file of the table")
 
 

@@ -2,7 +2,8 @@ import argparse
 from typing import TYPE_CHECKING, Sequence
 
 from ..faults import BadInput, WrongWords, needs, say, some
-from ..files import output, write_picture
+from ..files import output
+from ..picture_files import write_picture
 from ..measures.measure_list import FAIRNESS
 from .options import Parser, Range, column_of, decimals, is_file_of_base
 
@@ -50,7 +51,7 @@ def describe(parser: Parser) -> None:
     what = "the access below which people are poor; poverty needs it"
     parser.add_number("--line", what, decimals("", 1e-9, 1e15), without="none")
     parser.add_form()
-    parser.add_text("--picture", "FILE", "the file of a picture", without="none is drawn")
+    parser.add_picture("the file of a picture")
     parser.add_out("the file of the table")
 
 

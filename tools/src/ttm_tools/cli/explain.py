@@ -2,7 +2,8 @@ import argparse
 from typing import TYPE_CHECKING
 
 from ..faults import BadInput, WrongWords, needs
-from ..files import output, write_picture
+from ..files import output
+from ..picture_files import write_picture
 from .options import Parser, Range
 
 if TYPE_CHECKING:
@@ -41,8 +42,7 @@ def describe(parser: Parser) -> None:
     what = "a matrix that has the travel time, instead of a run of ttm"
     parser.add_text("--matrix", "FILE", what, without="ttm runs")
     parser.add_program()
-    what = "a picture of the durations by departure, as PNG; needs matplotlib"
-    parser.add_text("--picture", "FILE", what, without="none is drawn")
+    parser.add_picture("a picture of the durations by departure; needs matplotlib")
     parser.add_out("the file of the text")
     for name in UNUSED:
         what = "an option of ttm that changes no journey, and is ignored"

@@ -2,7 +2,7 @@ import argparse
 import math
 
 from ..faults import WrongWords, needs
-from ..files import write_picture
+from ..picture_files import picture_name, write_picture
 from .options import Parser, Range, column_of, decimals, ground_of, opened
 
 SUMMARY = "a map of travel times, of access, or of the difference between scenarios"
@@ -64,7 +64,7 @@ def describe(parser: Parser) -> None:
     parser.add_text("--title", "TEXT", "the title of the map", without="what it shows")
     parser.add_text("--note", "TEXT", "what else a reader needs to know", without="nothing")
     parser.add_number("--width", "the width of the picture", Range("pixels", 300, 10000), default=1350)
-    parser.add_out("the file of the picture", "", "map.png")
+    parser.add_out("the file of the picture, PNG, or SVG or PDF if its name ends so", "", "map.png", picture_name)
 
 
 def run(args: argparse.Namespace) -> None:

@@ -7,9 +7,10 @@ import os
 import re
 import sys
 from dataclasses import dataclass
-from typing import TYPE_CHECKING, Any, Iterable, Sequence
+from typing import TYPE_CHECKING, Any, Callable, Iterable, Sequence
 
 from ..faults import BadInput, WrongWords, say, some
+from ..picture_files import picture_name
 
 if TYPE_CHECKING:
     import datetime
@@ -190,10 +191,16 @@ class Parser(argparse.ArgumentParser):
     def add_feed_of_matrix(self) -> None:
         self.add_text("--feed", "FOLDER", "the unpacked feed of the matrix")
 
-    def add_out(self, what: str, without: str = "standard output", default: str | None = None) -> None:
+    def add_out(
+        self, what: str, without: str = "standard output", default: str | None = None, kind: Callable[[str], str] = str
+    ) -> None:
         what = f"{what}, which appears only when it is complete"
-        self.add_text("--out", "FILE", what, default, without)
+        self.add("--out", what=what, default=default, without=without, metavar="FILE", type=kind)
         self.add_force()
+
+    def add_picture(self, what: str) -> None:
+        what = f"{what}, as PNG, or as SVG or PDF if its name ends so"
+        self.add("--picture", what=what, without="none is drawn", metavar="FILE", type=picture_name)
 
     def add_force(self) -> None:
         what = "replace files even if this command did not write them, or they were changed since"

@@ -59,7 +59,7 @@ def describe(parser: Parser) -> None:
 
 def run(args: argparse.Namespace) -> None:
     needs("numpy")
-    from ..plans.nearness import sentences_on_nearer
+    from ..plans.nearness import new_stops_in, sentences_on_nearer
     from ..points import read_points
     from ..points.table import Columns
     from ..points.study import FEED, FOOTPATHS, PointsOptions, make
@@ -78,6 +78,7 @@ def run(args: argparse.Namespace) -> None:
         ends.append(not args.destinations)
     if not any(begins) or not any(ends):
         raise WrongWords("journeys need points at which they begin, and points at which they end")
+    new_stops_in(args.feed)  # an error of these is raised before anything is written
     called = Columns(args.id, args.lat, args.lon)
     points = [read_points(path, called) for path in files]
     if args.grid is not None:

@@ -3,7 +3,8 @@ import re
 from typing import TYPE_CHECKING
 
 from ..faults import BadInput, needs, say
-from ..files import output, write_picture
+from ..files import output
+from ..picture_files import write_picture
 from .options import Parser
 
 if TYPE_CHECKING:
@@ -46,8 +47,7 @@ def describe(parser: Parser) -> None:
     parser.add("--periods", what=what, default="00:00,48:00", metavar="TIMES", type=times)
     parser.add_choice("--by", ("direction", "route", "all", "stop"), "what a line stands for", "direction")
     parser.add_text("--page", "FILE", "the file of a page like a timetable, as HTML", without="none is written")
-    what = "the file of a map of the last scenario in the first period, as PNG"
-    parser.add_text("--picture", "FILE", what, without="none is drawn")
+    parser.add_picture("the file of a map of the last scenario in the first period")
     parser.add_out("the file of the table")
 
 

@@ -52,12 +52,13 @@ def run(args: argparse.Namespace) -> None:
         raise WrongWords("--table and --streets are two sources of walks: choose one")
     needs("numpy")
     from ..gtfs.stops import read_stops
-    from ..plans.nearness import sentences_on_nearer
+    from ..plans.nearness import new_stops_in, sentences_on_nearer
     from ..records import write_rows
     from ..walks import Pace, footpaths_of
 
     out = file_of(args)
     pace, stops = Pace(args.limit, args.speed, args.detour), read_stops(args.folder)
+    new_stops_in(args.folder)  # an error of these is raised before anything is written
     rows, sentence = footpaths_of(stops, args.table, pace, args.streets, args.near)
     with output(out) as file:
         write_rows(file, ["from_stop_id", "to_stop_id", "seconds"], rows)

@@ -16,8 +16,7 @@ def sentences_on_nearer(folder: str, footpaths: str, walk: int = 0) -> Iterator[
     """A sentence where walks by way of new stops of a folder of scenarios are shorter than all others, within the
     longest of the footpaths or the walk of a run, in seconds.
     """
-    path = os.path.join(folder, NEW_STOPS)
-    names = [stop for _, (stop,) in rows(path, ["stop_id"])] if os.path.isfile(path) else []
+    names = new_stops_in(folder)
     if not names:
         return
     stops = read_stops(folder)
@@ -33,6 +32,12 @@ def sentences_on_nearer(folder: str, footpaths: str, walk: int = 0) -> Iterator[
         times = f"{seconds} seconds apart by way of them, and {without} without them"
         pairs = f"{quantity(len(found), 'pair')} of old stops nearer to each other, so today differs from the feed"
         yield f"walks to new stops bring {pairs}: {ends}, {times}"
+
+
+def new_stops_in(folder: str) -> list[str]:
+    """The new stops of a folder of scenarios; none of another feed. An error of their list is raised."""
+    path = os.path.join(folder, NEW_STOPS)
+    return [stop for _, (stop,) in rows(path, ["stop_id"])] if os.path.isfile(path) else []
 
 
 def nearer(walks: Leaving, new: set[int], walk: int = 0) -> list[tuple[int, int, int, int | None]]:

@@ -8,7 +8,8 @@ from pathlib import Path
 from typing import Any, Sequence
 
 from ..faults import quantity
-from ..files import many_written_aside, output, write_picture
+from ..files import many_written_aside, output
+from ..picture_files import write_picture
 from ..naming import file_names
 from ..views.lines import planned_of
 from ..measures.opportunities import columns_of

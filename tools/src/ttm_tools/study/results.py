@@ -8,7 +8,8 @@ import numpy as np
 
 from ..gtfs.fields import Floats
 from ..gtfs.stops import Stops
-from ..files import many_written_aside, output, write_picture
+from ..files import many_written_aside, output
+from ..picture_files import write_picture
 from ..matrices import Matrix, capped, open_matrix, pair_of
 from ..measures.access import Decay, access, nearest
 from ..measures.access_table import AccessTable, AccessKind, read_access

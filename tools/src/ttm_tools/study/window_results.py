@@ -8,7 +8,8 @@ from typing import Any, BinaryIO, Iterator, Sequence
 import numpy as np
 
 from ..column_list import WINDOWS as WINDOW_COLUMNS, names_of
-from ..files import many_written_aside, output, write_picture
+from ..files import many_written_aside, output
+from ..picture_files import write_picture
 from ..measures.access_table import AccessTable, AccessKind
 from ..measures.opportunities import Counts, columns_of, read_counts
 from ..naming import file_names
