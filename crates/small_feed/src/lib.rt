@@ -2,7 +2,10 @@
 //! and trials have it with two walks.
 #![tactic(auto)]
 
+ghost use Rattle.std.specs.Prelude.{◌≡◌};
 ghost use Rattle.gtfs_tables.specs.Files.{AreWithinLimit, files_of};
+ghost use Rattle.small_feed.specs.SmallFeed as spec;
+ghost use Rattle.small_feed.specs.declared.TheConstants.{FROM_A};
 
 use gtfs_tables::FeedBytes;
 
@@ -50,9 +53,15 @@ A,B,60
 B,C,60
 ";
 
+/// A law: the bytes of the origins.
+pub fn origins_are_as_stated()
+    ensures { FROM_A.now ≡ spec.from_a }
+{}
+
 /// The files of the small feed.
 pub fn small_files() -> FeedBytes<'static>
-    ensures { AreWithinLimit (files_of result) }
+    ensures bytes { files_of result ≡ spec.small_feed }
+    ensures limit { AreWithinLimit (files_of result) }
 {
     FeedBytes {
         stops: Some(STOPS),
