@@ -4,7 +4,7 @@
 # usage: packaging/try.sh [--room debian|dpkg|analysts] DEB
 #   debian    a Debian 12 that mmdebstrap or debootstrap makes: wants root and a mirror; its address may stand in MIRROR
 #   dpkg      an empty one by `dpkg --root`, over this machine's libraries: wants root
-#   analysts  a Debian 12 where apt installs the package with all that it recommends (some minutes); the commands of the
+#   analysts  a Debian 12 where apt installs the package with all that its tools need (some minutes); the commands of the
 #             pages below run there, and print what the pages say
 # By default debian where that can be had, else dpkg. Status 0: all is right; 1: something isn't; 75: there is no room.
 set -eu
@@ -65,7 +65,9 @@ if [ "$kind" = analysts ]; then
     mkdir "$inside/study/made"
     cp "$room/made/"* "$inside/study/made/"
     cp /etc/resolv.conf "$inside/etc/resolv.conf"
-    chroot "$inside" sh -c 'apt-get update -q && apt-get install -q -y unzip zip /tmp/ttm.deb' > "$room/log" 2>&1 \
+    suggested="python3-matplotlib python3-h5py python3-geopandas python3-jinja2 python3-flask libjs-leaflet"
+    suggested="$suggested python3-scipy python3-pyosmium"
+    chroot "$inside" sh -c "apt-get update -q && apt-get install -q -y unzip zip $suggested /tmp/ttm.deb" > "$room/log" 2>&1 \
         || { tail "$room/log" >&2; exit 1; }
     # bash hands files over by /dev/fd, as a machine has it
     mount -t proc proc "$inside/proc"

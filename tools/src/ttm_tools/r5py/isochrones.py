@@ -11,6 +11,7 @@ from shapely.geometry import Point
 
 from ..gtfs.fields import Floats
 from ..walks.osm import Streets
+from .frames import ComputedGeoFrame
 from .doors import seconds_between
 from .matrix import ends_of
 from .network import network_from
@@ -70,7 +71,7 @@ def cells_along(begin: Floats, end: Floats, side: float) -> GridCells:
     return cells
 
 
-class Isochrones(geopandas.GeoDataFrame):  # type: ignore[misc]
+class Isochrones(ComputedGeoFrame):
     """The areas that are reached within some limits from the nearest of the origins, which may be one point of shapely
     in degrees: `travel_time` and `geometry`, a row for each limit, ascending.
     """
@@ -102,7 +103,3 @@ class Isochrones(geopandas.GeoDataFrame):  # type: ignore[misc]
             areas = [grid.area(least <= limit.total_seconds()) for limit in limits]
         table = geopandas.GeoDataFrame({"travel_time": pandas.to_timedelta(limits)}, geometry=areas, crs=grid.crs)
         super().__init__(table.to_crs(DEGREES))
-
-    @property
-    def _constructor(self) -> Any:
-        return geopandas.GeoDataFrame

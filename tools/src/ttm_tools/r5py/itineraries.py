@@ -11,6 +11,7 @@ from shapely.geometry import LineString
 
 from ..walks import points_of
 from ..walks.ways import Ways, degrees_of
+from .frames import ComputedGeoFrame
 from .doors import doors_of
 from .journeys import JourneySearch
 from .legs import DrawnLegs, Row
@@ -85,7 +86,7 @@ def walked(
         }
 
 
-class DetailedItineraries(geopandas.GeoDataFrame):  # type: ignore[misc]
+class DetailedItineraries(ComputedGeoFrame):
     """The journeys between origins and destinations, a row for each leg: between the first, the second and so on where
     there are as many, else between all of them.
     """
@@ -108,10 +109,6 @@ class DetailedItineraries(geopandas.GeoDataFrame):  # type: ignore[misc]
             found += walked(network, task, both, pairs) if feed is None else ridden(network, task, feed, both, pairs)
         columns = {name: [row.get(name) for row in found] for name in COLUMNS[:-1]}
         super().__init__(columns, geometry=[row["geometry"] for row in found], crs=DEGREES)
-
-    @property
-    def _constructor(self) -> Any:
-        return geopandas.GeoDataFrame
 
 
 class DetailedItinerariesComputer:

@@ -7,6 +7,7 @@ from typing import Any
 import numpy as np
 import pandas
 
+from .frames import ComputedFrame
 from .doors import Seconds, seconds_between
 from .network import TransportNetwork, network_from
 from .places import FramePlaces, places_of
@@ -49,7 +50,7 @@ def as_column(identifiers: list[Any]) -> Any:
     return pandas.Series(identifiers).to_numpy()
 
 
-class TravelTimeMatrix(pandas.DataFrame):  # type: ignore[misc]
+class TravelTimeMatrix(ComputedFrame):
     """Travel times between all origins and destinations: `from_id`, `to_id`, and `travel_time` in minutes, or
     `travel_time_p25` and so on for other percentiles; missing where a place isn't reached.
     """
@@ -69,10 +70,6 @@ class TravelTimeMatrix(pandas.DataFrame):  # type: ignore[misc]
         from_id = np.repeat(as_column(begins.identifiers), len(ends.identifiers))
         to_id = np.tile(as_column(ends.identifiers), len(begins.identifiers))
         super().__init__({"from_id": from_id, "to_id": to_id, **columns_of(task, seconds)})
-
-    @property
-    def _constructor(self) -> Any:
-        return pandas.DataFrame
 
 
 class TravelTimeMatrixComputer:
