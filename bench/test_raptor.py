@@ -24,8 +24,8 @@ CARGO = shutil.which("cargo") or str(Path.home() / ".cargo" / "bin" / "cargo")
 @pytest.mark.skipif(not Path(CARGO).exists(), reason="without cargo")
 def test_a_town_has_the_percentiles_of_the_second_program(tmp_path: Path) -> None:
     environment = {**os.environ, "CARGO_TARGET_DIR": str(tmp_path / "target")}
-    for command in ("test", "build"):
-        subprocess.run([CARGO, command, "--release", "--offline", "-q"], cwd=RAPTOR, env=environment, check=True)
+    for command in (["test"], ["build", "--release"]):
+        subprocess.run([CARGO, *command, "--offline", "-q"], cwd=RAPTOR, env=environment, check=True)
     feed, origins = tmp_path / "town", str(tmp_path / "origins.csv")
     feedgen.write_feed("town", 1, str(feed), 90)
     write_origins(origins, first_origins(str(feed), 2))
