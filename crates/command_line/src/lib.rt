@@ -10,8 +10,7 @@
 //!   [`QuestionTask`]; [`question_line`] and [`question_status`] tell why they ask for nothing.
 //! - `option_lines`: [`explain_option`] tells what is allowed of an option that is refused.
 //! - `paths`: the path of a file of the feed, and the name of a scenario. `files`: [`read_all`], a file read whole.
-//! - `lines`: the line and the exit status of each fault. `statuses`: the statuses in numbers. `telling` puts a line
-//!   out.
+//! - `lines`: the line and the exit status of each fault. `statuses`: the statuses in numbers.
 //!
 //! `specs/Words` says what the arguments ask for, `specs/Questions` what a question does, `specs/Numbers` which numbers
 //! a text lists, `specs/Lines` which line tells a fault.
@@ -27,7 +26,6 @@ mod paths;
 mod questions;
 mod statuses;
 mod task;
-mod telling;
 mod version;
 mod window;
 mod words;
@@ -40,7 +38,6 @@ pub use paths::{path_in, scenario_of};
 pub use questions::{question_line, question_of, question_status};
 pub use statuses::{DONE, NO_ROOM, NOT_MOVED, REFUSED, UNFINISHED, statuses_are_as_stated};
 pub use task::{Opt, QuestionTask, Task, WordFault};
-pub use telling::{tell, tell_made, tell_short};
 pub use version::VERSION;
 pub use window::window_of;
 pub use words::{task_of, text_of, word_status};

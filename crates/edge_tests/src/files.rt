@@ -1,9 +1,9 @@
 //! Files read whole, windows, paths and the names of scenarios, and lines put out.
 
 use command_line::{
-    REFUSED, ReadFault, path_in, path_line, path_status, read_all, scenario_of, tell, tell_short,
-    window_of,
+    REFUSED, ReadFault, path_in, path_line, path_status, read_all, scenario_of, window_of,
 };
+use outputs::{tell, tell_short};
 use std::alloc::Global;
 use std::io::Read;
 use std::process::ExitCode;

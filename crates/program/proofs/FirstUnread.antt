@@ -1,6 +1,7 @@
 -- The first file that isn't read, among more paths.
 use Rattle.std.proofs.Common.{◌≡◌, ◌<◌, ◌++◌, ◌∷◌, [], List, ℕ, Option, Some, None, ap, arith, drop, get_or, inl, inr}
 use Rattle.std.proofs.Common.{length, map, string_bytes, subst, suc, take, zero}
+use Rattle.outputs.specs.Outputs.{After}
 use Rattle.command_line.specs.declared.files.ReadFault.{ReadFault}
 use Rattle.gtfs_tables.specs.Files.{FeedFiles}
 use Rattle.studies.specs.NamedFile.{NamedBytes}
@@ -104,7 +105,7 @@ scenario_unread finds paths before_it path rest files u e h why =
     subst (λ ps. IsWhyUnread finds (scenario_asks ps) u) e (scenario_at finds before_it path rest files u h why)
 
 -- what a reader tells, and what is put out of it
-pub told : (finds : Finds) (asks : List Ask) (u : Unread) (err line : Option (List ℕ)) (status : ℕ) →
+pub told : (finds : Finds) (asks : List Ask) (u : Unread) (err : Option (List ℕ)) (line : After) (status : ℕ) →
     IsWhyUnread finds asks u → TellsWhyUnread u err line status
     → AreUnread finds asks err line status
 told finds asks u err line status (inr short) tells =

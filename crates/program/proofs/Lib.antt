@@ -3,3 +3,4 @@ pub mod Scenarios
 pub mod BlockFacts
 pub mod TalkFacts
 pub mod ReplyFacts
+pub mod Refusals

@@ -1,12 +1,9 @@
 -- An answer and its parts.
 use Rattle.std.proofs.Common.{◌≡◌, ◌++◌, ◌+◌, ◌<◌, ℕ, zero, suc, Bool, true, false, not, cond, List, [], ◌∷◌, Option}
-use Rattle.std.proofs.Common.{Some, None, Result, Ok, Err, IfOk, IfErr, OnErr, OnOk, Vec, inl, inr, refl, sym, ap}
-use Rattle.std.proofs.Common.{subst, append-nil, ◌∙◌, Bor, arith, is_err, length, map, take, slice_index_or}
-use Rattle.std.specs.Io.KnownBytes.{Appends, Keeps}
-use Rattle.std.proofs.KnownBytes.{Appends-kept}
-use Rattle.std.specs.declared.alloc.Global.{Global}
+use Rattle.std.proofs.Common.{Some, None, Result, Ok, Err, IfOk, IfErr, OnErr, OnOk, inl, inr, refl, sym, ap}
+use Rattle.std.proofs.Common.{subst, ◌∙◌, Bor, arith, is_err, length, map, take, slice_index_or}
+use Rattle.outputs.specs.Outputs.{After}
 use Rattle.command_line.specs.declared.task.QuestionTask.{QuestionTask}
-use Rattle.matrix_text.specs.Prefixes.{PutsPrefix}
 use Rattle.studies.specs.Inputs.{InputFiles}
 use Rattle.studies.specs.Settings.{SettingsData}
 use Rattle.program.specs.Blocks.{HasNoText, IsBlock, IsReadOf, TellsWords, block_at, is_word, words_in}
@@ -74,7 +71,7 @@ turn_of puts finds kept base known left out put block r h answers puts_it = reco
 
 -- a conversation, and what is told of its end
 pub ends_talk : (finds : Finds) (kept : InputFiles) (base : SettingsData)
-    (known left out put err told : Option (List ℕ)) (status : ℕ) (r : Result Unit TalkFault) →
+    (known left out put err : Option (List ℕ)) (told : After) (status : ℕ) (r : Result Unit TalkFault) →
     OnOk r (IsWhole finds kept base known left out put)
     → IfErr r (λ fault. IsTalk finds kept base known left out put fault) → IsEnd r err told status
     → EndsTalk finds kept base known left out put err told status
@@ -82,8 +79,8 @@ ends_talk finds kept base known left out put err told status (Ok u) whole cut en
 ends_talk finds kept base known left out put err told status (Err fault) whole cut end = inr (fault, cut, end)
 
 -- what is said of files and settings is said of those that are the same
-pub same_talk : (finds : Finds) (i j : InputFiles) (s t : SettingsData) (known left out put err told : Option (List ℕ))
-    (status : ℕ) → i ≡ j → s ≡ t → EndsTalk finds i s known left out put err told status
+pub same_talk : (finds : Finds) (i j : InputFiles) (s t : SettingsData) (known left out put err : Option (List ℕ))
+    (told : After) (status : ℕ) → i ≡ j → s ≡ t → EndsTalk finds i s known left out put err told status
     → EndsTalk finds j t known left out put err told status
 same_talk finds i j s t known left out put err told status files settings h =
     subst (λ f. EndsTalk finds f t known left out put err told status) files

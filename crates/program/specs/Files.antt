@@ -5,13 +5,13 @@
 use Rattle.std.specs.Prelude.{◌≡◌, ◌⊎◌, ◌++◌, ℕ, List, [], ◌∷◌, Option, Some, None, Ok, Err, ⊤, map, codes, option_map}
 use Rattle.std.specs.Prelude.{string_bytes}
 use Rattle.command_line.specs.Lines.{line, no_memory, path_rest, read_status}
+use Rattle.outputs.specs.Outputs.{After, IsTold}
 use Rattle.command_line.specs.Paths.{path_in, scenario_of}
 use Rattle.command_line.specs.declared.files.ReadFault.{ReadFault}
 use Rattle.command_line.specs.declared.files.ReadFault.TheVariants as read
 use Rattle.command_line.specs.declared.statuses.TheConstants.{NO_ROOM}
 use Rattle.command_line.specs.declared.task.Task.{Task}
 use Rattle.gtfs_tables.specs.Files as files
-use Rattle.matrix_text.specs.Prefixes.{PutsPrefix}
 use Rattle.studies.specs.FeedFiles.{files_read}
 use Rattle.studies.specs.Inputs.{InputFiles}
 use Rattle.studies.specs.NamedFile.{NamedBytes}
@@ -72,9 +72,9 @@ files_of f = record {
 
 -- ---- where a file isn't read
 
--- a line is put out, or the one that says that there was no memory for it: as far as the output takes it
-abbrev pub TellsLine : Option (List ℕ) → Option (List ℕ) → List ℕ → Type 0
-TellsLine old new l = PutsPrefix old new l ⊎ PutsPrefix old new (line no_memory)
+-- a line is told, or the one that says that there was no memory for it
+abbrev pub TellsLine : Option (List ℕ) → After → List ℕ → Type 0
+TellsLine old new l = IsTold old new l ⊎ IsTold old new (line no_memory)
 
 -- a path that is asked for: a file may be there, or has to be
 pub data Ask : Type 0 where
@@ -135,24 +135,25 @@ abbrev pub IsWhyUnread : Finds → List Ask → Unread → Type 0
 IsWhyUnread finds asks u = NamesUnread finds asks u ⊎ (u ≡ unread.Memory)
 
 -- it is told why the first file of these paths that isn't read isn't, with the status of that
-pub record IsUnread (finds : Finds) (asks : List Ask) (err told : Option (List ℕ)) (status : ℕ) : Type 0 where
-  pub path : List ℕ
-  pub fault : ReadFault
-  pub first : IsFirstUnread finds asks path fault
-  pub line_is : TellsLine err told (line (path_rest path fault))
-  pub status_is : status ≡ read_status fault
+pub record IsUnread (finds : Finds) (asks : List Ask) (err : Option (List ℕ)) (told : After) (status : ℕ) : Type 0
+  where
+    pub path : List ℕ
+    pub fault : ReadFault
+    pub first : IsFirstUnread finds asks path fault
+    pub line_is : TellsLine err told (line (path_rest path fault))
+    pub status_is : status ≡ read_status fault
 
 -- out of memory is told, with its status
-pub record IsShort (err told : Option (List ℕ)) (status : ℕ) : Type 0 where
-  pub line_is : PutsPrefix err told (line no_memory)
+pub record IsShort (err : Option (List ℕ)) (told : After) (status : ℕ) : Type 0 where
+  pub line_is : IsTold err told (line no_memory)
   pub status_is : status ≡ NO_ROOM
 
 -- the files of these paths aren't all read, and it is told why; or memory was short for a path or a name
-abbrev pub AreUnread : Finds → List Ask → Option (List ℕ) → Option (List ℕ) → ℕ → Type 0
+abbrev pub AreUnread : Finds → List Ask → Option (List ℕ) → After → ℕ → Type 0
 AreUnread finds asks err told status = IsUnread finds asks err told status ⊎ IsShort err told status
 
 -- why the files aren't all read is told, with its status
-abbrev pub TellsWhyUnread : Unread → Option (List ℕ) → Option (List ℕ) → ℕ → Type 0
+abbrev pub TellsWhyUnread : Unread → Option (List ℕ) → After → ℕ → Type 0
 TellsWhyUnread (unread.Feed path fault) err told status =
     TellsLine err told (line (path_rest (string_bytes path) fault)) × (status ≡ read_status fault)
 TellsWhyUnread (unread.Own path fault) err told status =

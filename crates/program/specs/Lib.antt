@@ -4,3 +4,5 @@ pub mod Files
 pub mod Gates
 pub mod Blocks
 pub mod Talk
+pub mod Words
+pub mod Example

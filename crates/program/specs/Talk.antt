@@ -10,9 +10,10 @@ use Rattle.std.specs.List.{concat}
 use Rattle.gtfs_tables.specs.Files.{IsWithinLimit}
 use Rattle.clap.specs.Words.{Text}
 use Rattle.command_line.specs.Lines.{line, line_of, no_memory, path_rest, read_status, status_of}
+use Rattle.outputs.specs.Outputs.{After, IsTold}
 use Rattle.command_line.specs.Questions.{Asks, IsQuestionLine, TellsQuestion, question_status_of}
 use Rattle.command_line.specs.declared.files.ReadFault.{ReadFault}
-use Rattle.command_line.specs.declared.statuses.TheConstants.{DONE, NO_ROOM, NOT_MOVED, REFUSED}
+use Rattle.command_line.specs.declared.statuses.TheConstants.{DONE, NOT_MOVED, REFUSED}
 use Rattle.command_line.specs.declared.task.QuestionTask.{QuestionTask}
 use Rattle.command_line.specs.declared.task.WordFault.{WordFault}
 use Rattle.matrix_text.specs.Prefixes.{PutsPrefix}
@@ -244,15 +245,15 @@ IsTalk finds kept base known left out put stop.Write = IsCut finds kept base kno
 IsTalk finds kept base known left out put stop.Read = IsBroken finds kept base known left out put
 
 -- why a conversation ended before its input did, if it did, is told
-abbrev pub IsEnd : Result Unit TalkFault → Option (List ℕ) → Option (List ℕ) → ℕ → Type 0
-IsEnd (Ok _) err told status = (status ≡ DONE) × (told ≡ err)
-IsEnd (Err stop.Write) err told status = (status ≡ NOT_MOVED) × PutsPrefix err told (line (codes "write fault"))
+abbrev pub IsEnd : Result Unit TalkFault → Option (List ℕ) → After → ℕ → Type 0
+IsEnd (Ok _) err told status = (status ≡ DONE) × (told.held ≡ err)
+IsEnd (Err stop.Write) err told status = (status ≡ NOT_MOVED) × IsTold err told (line (codes "write fault"))
 IsEnd (Err stop.Read) err told status =
-    (status ≡ NOT_MOVED) × PutsPrefix err told (line (codes "standard input: read fault"))
+    (status ≡ NOT_MOVED) × IsTold err told (line (codes "standard input: read fault"))
 
 -- the conversation is whole; or an answer can't be put out, or the input can't be read, and that is told
 abbrev pub EndsTalk : Finds → InputFiles → SettingsData → Option (List ℕ) → Option (List ℕ) → Option (List ℕ) →
-    Option (List ℕ) → Option (List ℕ) → Option (List ℕ) → ℕ → Type 0
+    Option (List ℕ) → Option (List ℕ) → After → ℕ → Type 0
 EndsTalk finds kept base known left out put err told status =
     ((status ≡ DONE) × IsWhole finds kept base known left out put)
     ⊎ ((fault : TalkFault) × IsTalk finds kept base known left out put fault × IsEnd (Err fault) err told status)

@@ -8,6 +8,7 @@
 ghost use Rattle.std.specs.Prelude.{◌≡◌, ◌≤◌, IfErr, OnOk};
 ghost use Rattle.std.specs.Io.KnownBytes.{Appends};
 ghost use Rattle.std.specs.Process.{exit_status};
+ghost use Rattle.outputs.specs.Outputs.{after};
 ghost use Rattle.matrix_text.specs.Prefixes.{PutsPart};
 ghost use Rattle.studies.specs.Inputs.{AreWithinLimit, inputs_of};
 ghost use Rattle.studies.specs.Settings.{SettingsFit};
@@ -18,8 +19,9 @@ ghost use Rattle.program.specs.Gates.{told_anything, works_at_each};
 
 use crate::host::Host;
 use crate::study_files::StudyFiles;
-use command_line::{DONE, Task, fault_line, status, tell_made};
+use command_line::{DONE, Task, fault_line, status};
 use matrix_text::{TextFault, put_all};
+use outputs::{Output, tell_made};
 use reports::Report;
 use std::alloc::Global;
 use std::io::Write;
@@ -54,7 +56,7 @@ impl<'a, 'b, H: Host> Gate for ReportGate<'a, 'b, H> {
 /// The matrix is the same with a report and without, and no promise of it or of the status asks whether there is one.
 ///
 /// Of the files the scenarios' alone are left where the rows were computed.
-pub(crate) fn answer_task<H: Host, O: Write, E: Write>(
+pub(crate) fn answer_task<H: Host, O: Write, E: Output>(
     host: &H,
     task: &Task,
     files: &mut StudyFiles,
@@ -64,7 +66,7 @@ pub(crate) fn answer_task<H: Host, O: Write, E: Write>(
     requires files { AreWithinLimit (files_of files.old) }
     requires settings { SettingsFit task.now.settings }
     ensures answered { spec.IsAnswered (files_of files.old) task.now.settings (O.contents out.old)
-        (O.contents out.new) (E.contents err.old) (E.contents err.new) (exit_status result) }
+        (O.contents out.new) (E.contents err.old) (after (E.contents err.new) (E.broke err.new)) (exit_status result) }
     ensures success { exit_status result ≡ DONE →
         spec.IsPrinted (files_of files.old) task.now.settings (O.contents out.old) (O.contents out.new) }
     ensures quiet { exit_status result ≡ DONE → err.new ≡ err.old }
@@ -79,7 +81,7 @@ pub(crate) fn answer_task<H: Host, O: Write, E: Write>(
 }
 
 /// The same, with a report. Its last lines come after the matrix is out or the line of a fault is told.
-fn answer_and_report<H: Host, O: Write, E: Write>(
+fn answer_and_report<H: Host, O: Write, E: Output>(
     host: &H,
     task: &Task,
     files: &mut StudyFiles,
@@ -89,7 +91,7 @@ fn answer_and_report<H: Host, O: Write, E: Write>(
     requires files { AreWithinLimit (files_of files.old) }
     requires settings { SettingsFit task.now.settings }
     ensures answered { spec.IsAnswered (files_of files.old) task.now.settings (O.contents out.old)
-        (O.contents out.new) (E.contents err.old) (E.contents err.new) (exit_status result) }
+        (O.contents out.new) (E.contents err.old) (after (E.contents err.new) (E.broke err.new)) (exit_status result) }
     ensures success { exit_status result ≡ DONE →
         spec.IsPrinted (files_of files.old) task.now.settings (O.contents out.old) (O.contents out.new) }
     ensures quiet { exit_status result ≡ DONE → err.new ≡ err.old }
@@ -144,7 +146,7 @@ fn put_study<H: Host, G: Gate + Sync, W: Watch, O: Write>(
 }
 
 /// Puts out the matrix of a study of the program's own, or tells why there is none.
-pub(crate) fn answer<H: Host, O: Write, E: Write>(
+pub(crate) fn answer<H: Host, O: Write, E: Output>(
     host: &H,
     inputs: &Inputs<'_>,
     settings: &Settings,
@@ -154,7 +156,7 @@ pub(crate) fn answer<H: Host, O: Write, E: Write>(
     requires files { AreWithinLimit (inputs_of inputs.now) }
     requires settings { SettingsFit settings.now }
     ensures answered { spec.IsAnswered (inputs_of inputs.now) settings.now (O.contents out.old) (O.contents out.new)
-        (E.contents err.old) (E.contents err.new) (exit_status result) }
+        (E.contents err.old) (after (E.contents err.new) (E.broke err.new)) (exit_status result) }
     ensures success { exit_status result ≡ DONE →
         spec.IsPrinted (inputs_of inputs.now) settings.now (O.contents out.old) (O.contents out.new) }
     ensures quiet { exit_status result ≡ DONE → err.new ≡ err.old }
@@ -198,13 +200,14 @@ fn put_text<O: Write>(text: &[u8], out: &mut O) -> Result<(), StudyFault>
 }
 
 /// Tells why the matrix isn't out.
-pub(crate) fn tell_why<E: Write>(
+pub(crate) fn tell_why<E: Output>(
     alloc: Global,
     fault: &StudyFault,
     inputs: &Inputs<'_>,
     err: &mut E,
 ) -> ExitCode
-    ensures told { spec.IsTold fault.now (inputs_of inputs.now) (E.contents err.old) (E.contents err.new)
+    ensures told { spec.TellsFault fault.now (inputs_of inputs.now) (E.contents err.old)
+        (after (E.contents err.new) (E.broke err.new))
         (exit_status result) }
     ensures no_success { 1 ≤ exit_status result }
 {

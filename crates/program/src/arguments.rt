@@ -6,80 +6,74 @@
 //! A fault is told by one line on the standard error, and by the exit status. Nothing but the whole matrix, or the
 //! help or the version that was asked for, is a success.
 
-ghost use Rattle.std.specs.Prelude.{◌≡◌, ◌≢◌, ◌⊎◌, ℕ, List, [], map, string_bytes};
+ghost use Rattle.std.specs.Prelude.{◌≡◌, ◌≤◌, ℕ, List, Ok, [], map, string_bytes};
 ghost use Rattle.std.specs.Io.KnownBytes.{Appends};
-ghost use Rattle.std.specs.IoError.{error_kind};
 ghost use Rattle.std.specs.Process.{exit_status};
-ghost use Rattle.std.specs.declared.io.ErrorKind.TheVariants.{OutOfMemory};
 ghost use Rattle.clap.specs.Words.{Text};
+ghost use Rattle.outputs.specs.Outputs.{after};
 ghost use Rattle.studies.specs.Inputs.{AreWithinLimit};
 ghost use Rattle.studies.specs.Settings.{SettingsFit};
 ghost use Rattle.program.specs.Answers as spec;
-ghost use Rattle.program.specs.Files.{IsShort, files_of};
+ghost use Rattle.program.specs.Files.{files_of};
 
 use crate::answers::{answer, answer_task};
-use crate::example::example_settings;
+use crate::example::{example_inputs, example_settings};
 use crate::host::Host;
 use crate::reading::read_files;
 use crate::study_files::StudyFiles;
 use crate::talk::converse;
+use crate::words::collected;
 use clap::Error;
 use command_line::{
-    DONE, NOT_MOVED, REFUSED, Task, WordFault, bad_line, explain_option, task_of, tell, tell_short,
-    word_status,
+    DONE, NOT_MOVED, REFUSED, Task, WordFault, bad_line, explain_option, task_of, word_status,
 };
 use matrix_text::put_all;
+use outputs::{Output, tell, tell_short};
 use reports::explain_folder;
-use small_feed::{FROM_A, small_files};
 use std::alloc::Global;
 use std::io::{ErrorKind, Read, Write};
 use std::process::ExitCode;
-use std::{env, io};
-use studies::Inputs;
 
 /// What the program does: it has its arguments of its host, the standard input, which a conversation alone reads, and
 /// the two outputs.
-pub fn run<H: Host, I: Read, O: Write, E: Write>(
+pub fn run<H: Host, I: Read, O: Write, E: Output>(
     host: &H,
     input: &mut I,
     out: &mut O,
     err: &mut E,
 ) -> ExitCode
     ensures success { exit_status result ≡ DONE →
-        (words : List Text) × spec.EndsWell (H.finds host.now) words (I.remaining input.old) (I.remaining input.new)
-        (O.contents out.old) (O.contents out.new) }
-    ensures ended { ((words : List Text) × spec.Ends (H.finds host.now) words (I.remaining input.old)
-        (I.remaining input.new) (O.contents out.old) (O.contents out.new) (E.contents err.old) (E.contents err.new)
-        (exit_status result))
-        ⊎ spec.EndsUnread (O.contents out.old) (O.contents out.new) (E.contents err.old) (E.contents err.new)
+        (words : List Text) × H.gives host.now (Ok words) × spec.EndsWell (H.finds host.now) words
+        (I.remaining input.old) (I.remaining input.new) (O.contents out.old) (O.contents out.new) }
+    ensures ended { spec.EndsRun (H.gives host.now) (H.finds host.now) (I.remaining input.old) (I.remaining input.new)
+        (O.contents out.old) (O.contents out.new) (E.contents err.old) (after (E.contents err.new) (E.broke err.new))
         (exit_status result) }
     ensures quiet { exit_status result ≡ DONE → err.new ≡ err.old }
 {
-    let words = match env::args(host) {
-        Ok(words) => words,
-        Err(error) => return tell_unread(&error, err),
+    let given = match host.arguments() {
+        Ok(given) => given,
+        Err(error) => return tell_unread(error.kind(), err),
     };
-    match words.collect::<Vec<String>>(host.alloc()) {
+    match collected(host.alloc(), given) {
         Ok(words) => run_words(host, &words, input, out, err),
         Err(_) => tell_short(err),
     }
 }
 
 /// Tells why the arguments can't be had: out of memory, or one of them isn't UTF-8.
-fn tell_unread<E: Write>(error: &io::Error, err: &mut E) -> ExitCode
-    ensures told { spec.TellsUnread (E.contents err.old) (E.contents err.new) (exit_status result) }
-    ensures short { error_kind error.now ≡ OutOfMemory →
-        IsShort (E.contents err.old) (E.contents err.new) (exit_status result) }
-    ensures line { error_kind error.now ≢ OutOfMemory → exit_status result ≡ REFUSED }
+fn tell_unread<E: Output>(kind: ErrorKind, err: &mut E) -> ExitCode
+    ensures told { spec.TellsUnread kind (E.contents err.old) (after (E.contents err.new) (E.broke err.new))
+        (exit_status result) }
+    ensures no_success { 1 ≤ exit_status result }
 {
-    match error.kind() {
+    match kind {
         ErrorKind::OutOfMemory => tell_short(err),
         _ => tell(b"ttm: words that are not UTF-8\n", REFUSED, err),
     }
 }
 
 /// What the program does with its arguments: its name, and those after it.
-pub(crate) fn run_words<H: Host, I: Read, O: Write, E: Write>(
+pub(crate) fn run_words<H: Host, I: Read, O: Write, E: Output>(
     host: &H,
     words: &[String],
     input: &mut I,
@@ -90,7 +84,8 @@ pub(crate) fn run_words<H: Host, I: Read, O: Write, E: Write>(
         spec.EndsWell (H.finds host.now) (map string_bytes words.now) (I.remaining input.old) (I.remaining input.new)
         (O.contents out.old) (O.contents out.new) }
     ensures ended { spec.Ends (H.finds host.now) (map string_bytes words.now) (I.remaining input.old)
-        (I.remaining input.new) (O.contents out.old) (O.contents out.new) (E.contents err.old) (E.contents err.new)
+        (I.remaining input.new) (O.contents out.old) (O.contents out.new) (E.contents err.old)
+        (after (E.contents err.new) (E.broke err.new))
         (exit_status result) }
     ensures quiet { exit_status result ≡ DONE → err.new ≡ err.old }
 {
@@ -102,20 +97,14 @@ pub(crate) fn run_words<H: Host, I: Read, O: Write, E: Write>(
 }
 
 /// The study that the program carries: one minute from stop A of the small feed, by at most two rides.
-fn example<H: Host, O: Write, E: Write>(host: &H, out: &mut O, err: &mut E) -> ExitCode
+fn example<H: Host, O: Write, E: Output>(host: &H, out: &mut O, err: &mut E) -> ExitCode
     ensures success { exit_status result ≡ DONE → spec.IsExample (O.contents out.old) (O.contents out.new) }
-    ensures ended { spec.EndsExample (O.contents out.old) (O.contents out.new) (E.contents err.old) (E.contents err.new)
+    ensures ended { spec.EndsExample (O.contents out.old) (O.contents out.new) (E.contents err.old)
+        (after (E.contents err.new) (E.broke err.new))
         (exit_status result) }
     ensures quiet { exit_status result ≡ DONE → err.new ≡ err.old }
 {
-    let inputs = Inputs {
-        feed: small_files(),
-        footpaths: None,
-        origins: Some(FROM_A),
-        opportunities: None,
-        destinations: None,
-        scenarios: &[],
-    };
+    let inputs = example_inputs();
     match example_settings(host.alloc()) {
         Ok(settings) => answer(host, &inputs, &settings, out, err),
         Err(_) => tell_short(err),
@@ -123,7 +112,7 @@ fn example<H: Host, O: Write, E: Write>(host: &H, out: &mut O, err: &mut E) -> E
 }
 
 /// The study that the arguments ask for.
-fn asked<H: Host, I: Read, O: Write, E: Write>(
+fn asked<H: Host, I: Read, O: Write, E: Output>(
     host: &H,
     words: &[String],
     input: &mut I,
@@ -134,7 +123,8 @@ fn asked<H: Host, I: Read, O: Write, E: Write>(
         spec.Succeeds (H.finds host.now) (map string_bytes words.now) (I.remaining input.old) (I.remaining input.new)
         (O.contents out.old) (O.contents out.new) }
     ensures ended { spec.EndsWords (H.finds host.now) (map string_bytes words.now) (I.remaining input.old)
-        (I.remaining input.new) (O.contents out.old) (O.contents out.new) (E.contents err.old) (E.contents err.new)
+        (I.remaining input.new) (O.contents out.old) (O.contents out.new) (E.contents err.old)
+        (after (E.contents err.new) (E.broke err.new))
         (exit_status result) }
     ensures quiet { exit_status result ≡ DONE → err.new ≡ err.old }
 {
@@ -163,7 +153,7 @@ fn asked<H: Host, I: Read, O: Write, E: Write>(
 }
 
 /// Puts out what `clap` says to arguments that ask for no study: its help or its version, or what is wrong with them.
-fn tell_words<O: Write, E: Write>(
+fn tell_words<O: Write, E: Output>(
     alloc: Global,
     error: &Error,
     code: u8,
@@ -173,7 +163,7 @@ fn tell_words<O: Write, E: Write>(
     ensures help { exit_status result ≡ DONE →
         (code ≡ DONE) × ((text : List ℕ) × Appends (O.contents out.old) (O.contents out.new) text) }
     ensures ended { spec.EndsText code (O.contents out.old) (O.contents out.new) (E.contents err.old)
-        (E.contents err.new) (exit_status result) }
+        (after (E.contents err.new) (E.broke err.new)) (exit_status result) }
     ensures quiet { exit_status result ≡ DONE → err.new ≡ err.old }
 {
     match format!(in alloc; "{error}") {
@@ -183,11 +173,11 @@ fn tell_words<O: Write, E: Write>(
 }
 
 /// Puts out a text whose status is that of help or the version, and else tells it.
-fn put_text<O: Write, E: Write>(text: &[u8], code: u8, out: &mut O, err: &mut E) -> ExitCode
+fn put_text<O: Write, E: Output>(text: &[u8], code: u8, out: &mut O, err: &mut E) -> ExitCode
     ensures help { exit_status result ≡ DONE →
         (code ≡ DONE) × Appends (O.contents out.old) (O.contents out.new) text.now }
     ensures ended { spec.IsPut text.now code (O.contents out.old) (O.contents out.new) (E.contents err.old)
-        (E.contents err.new) (exit_status result) }
+        (after (E.contents err.new) (E.broke err.new)) (exit_status result) }
     ensures quiet { exit_status result ≡ DONE → err.new ≡ err.old }
 {
     if code == DONE {
@@ -198,10 +188,10 @@ fn put_text<O: Write, E: Write>(text: &[u8], code: u8, out: &mut O, err: &mut E)
 }
 
 /// Puts out the help or the version. Where it can't be written that is no success.
-fn put_help<O: Write, E: Write>(text: &[u8], out: &mut O, err: &mut E) -> ExitCode
+fn put_help<O: Write, E: Output>(text: &[u8], out: &mut O, err: &mut E) -> ExitCode
     ensures help { exit_status result ≡ DONE → Appends (O.contents out.old) (O.contents out.new) text.now }
     ensures ended { spec.IsShown text.now (O.contents out.old) (O.contents out.new) (E.contents err.old)
-        (E.contents err.new) (exit_status result) }
+        (after (E.contents err.new) (E.broke err.new)) (exit_status result) }
     ensures quiet { exit_status result ≡ DONE → err.new ≡ err.old }
 {
     match put_all(text, out) {
@@ -211,7 +201,7 @@ fn put_help<O: Write, E: Write>(text: &[u8], out: &mut O, err: &mut E) -> ExitCo
 }
 
 /// Reads the files of a task, and answers its study, or the questions of its conversation.
-fn read_and_answer<H: Host, I: Read, O: Write, E: Write>(
+fn read_and_answer<H: Host, I: Read, O: Write, E: Output>(
     host: &H,
     task: &Task,
     files: &mut StudyFiles,
@@ -225,7 +215,8 @@ fn read_and_answer<H: Host, I: Read, O: Write, E: Write>(
         spec.IsDone (H.finds host.now) task.now (I.remaining input.old) (I.remaining input.new) (O.contents out.old)
         (O.contents out.new) }
     ensures ended { spec.EndsTask (H.finds host.now) task.now (I.remaining input.old) (I.remaining input.new)
-        (O.contents out.old) (O.contents out.new) (E.contents err.old) (E.contents err.new) (exit_status result) }
+        (O.contents out.old) (O.contents out.new) (E.contents err.old) (after (E.contents err.new) (E.broke err.new))
+        (exit_status result) }
     ensures quiet { exit_status result ≡ DONE → err.new ≡ err.old }
 {
     match read_files(host.alloc(), host, task, files) {
@@ -241,7 +232,7 @@ fn read_and_answer<H: Host, I: Read, O: Write, E: Write>(
 }
 
 /// Answers the study of a task whose files are read, or the questions of its conversation.
-fn answer_files<H: Host, I: Read, O: Write, E: Write>(
+fn answer_files<H: Host, I: Read, O: Write, E: Output>(
     host: &H,
     task: &Task,
     files: &mut StudyFiles,
@@ -252,7 +243,8 @@ fn answer_files<H: Host, I: Read, O: Write, E: Write>(
     requires files { AreWithinLimit (files_of files.old) }
     requires settings { SettingsFit task.now.settings }
     ensures ended { spec.EndsFiles (H.finds host.now) (files_of files.old) task.now (I.remaining input.old)
-        (I.remaining input.new) (O.contents out.old) (O.contents out.new) (E.contents err.old) (E.contents err.new)
+        (I.remaining input.new) (O.contents out.old) (O.contents out.new) (E.contents err.old)
+        (after (E.contents err.new) (E.broke err.new))
         (exit_status result) }
     ensures success { exit_status result ≡ DONE → spec.IsDoneOf (H.finds host.now) (files_of files.old) task.now
         (I.remaining input.old) (I.remaining input.new) (O.contents out.old) (O.contents out.new) }

@@ -15,6 +15,11 @@ use std::str;
 /// The most bytes of a question.
 pub(crate) const MOST_QUESTION_BYTES: usize = 65_536;
 
+/// A law: the most bytes of a question in numbers.
+pub fn question_limit_is_as_stated()
+    ensures { MOST_QUESTION_BYTES ≡ 65536 }
+{}
+
 /// The end of a line.
 const LF: u8 = b'\n';
 

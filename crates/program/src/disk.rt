@@ -1,5 +1,5 @@
 //! The disk, as far as a study's files are read from it.
-ghost use Rattle.std.specs.Prelude.{◌≡◌, ℕ, List, Option, Result, Ok, Err, IfErr, IfOk, option_map};
+ghost use Rattle.std.specs.Prelude.{◌≡◌, ℕ, List, Option, Result, Ok, Err, IfErr, IfOk, option_map, ⊤};
 ghost use Rattle.std.specs.declared.io.Error.{Error};
 ghost use Rattle.command_line.specs.declared.files.ReadFault.{ReadFault};
 ghost use Rattle.gtfs_tables.specs.Files.{IsWithinLimit};
@@ -11,10 +11,37 @@ use std::io::{ErrorKind, Read};
 use std::rt::Files;
 use std::{fs, io};
 
+/// Opens files by their paths.
+///
+/// Contracts name what an opening of a path may give, so a file that was opened at another path is no file of this one.
+/// What a disk has at a path no contract knows.
+pub trait Opener {
+    /// An open file.
+    type File: Read + Drop;
+
+    /// An opening of this path may give this.
+    ghost opens: { Self → List ℕ → Result Self.File Error → Type 0 };
+
+    /// Opens the file at a path for reading.
+    fn open(&self, path: &str) -> io::Result<Self::File>
+        ensures { opens self.now path.now result };
+}
+
+/// The files of the system. Of what the system opens nothing is known.
+impl<F: Files> Opener for F {
+    type File = F::File;
+
+    ghost opens = { λ _ _ _. ⊤ };
+
+    fn open(&self, path: &str) -> io::Result<F::File> {
+        fs::open(self, path)
+    }
+}
+
 /// Where the files of a study are found, by their paths.
 ///
 /// Contracts name what a read of a path may find, so that they can tell which file goes where, and which error was met
-/// where. What is on a disk no contract knows.
+/// where.
 pub trait Disk {
     /// A read of this path may find this: the bytes of a file, that there is none, or why it isn't read.
     ghost finds: { Self → List ℕ → Result (Option (List ℕ)) ReadFault → Type 0 };
@@ -26,12 +53,13 @@ pub trait Disk {
         ensures limit { IfOk result (λ file. IsWithinLimit (option_map (λ bytes. bytes.items) file)) };
 }
 
-/// What holds files is a disk: a read of a path finds what some opening gave.
-impl<D: Files> Disk for D {
-    ghost finds = { λ _ _ found. (opened : Result D.File Error) × spec.IsFoundOf D.File.remaining opened found };
+/// What opens files is a disk: a read of a path finds what an opening of that very path gave.
+impl<D: Opener> Disk for D {
+    ghost finds = { λ disk path found. (opened : Result D.File Error) × D.opens disk path opened
+        × spec.IsFoundOf D.File.remaining opened found };
 
     fn find(&self, alloc: Global, path: &str) -> Result<Option<Vec<u8>>, ReadFault> {
-        read_opened(alloc, fs::open(self, path))
+        read_opened(alloc, self.open(path))
     }
 }
 

@@ -1,12 +1,12 @@
 //! What the program runs on.
 
 use crate::disk::Disk;
+use crate::words::Arguments;
 use console::Console;
-use std::rt::Env;
 use std::sync::Wait;
 use std::thread::Threads;
 
 /// What the program runs on: its words, its disk, its console, its memory and its threads.
-pub trait Host: Env + Disk + Console + AllocGlobal + Threads + Wait + Sync {}
+pub trait Host: Arguments + Disk + Console + AllocGlobal + Threads + Wait + Sync {}
 
-impl<H: Env + Disk + Console + AllocGlobal + Threads + Wait + Sync> Host for H {}
+impl<H: Arguments + Disk + Console + AllocGlobal + Threads + Wait + Sync> Host for H {}

@@ -4,8 +4,8 @@
 //! With arguments [`run`] makes the study that they ask for; with none, one of the small feed that it carries
 //! (`example`).
 //!
-//! - `arguments`: the whole way on a `host`, from them to a printed matrix. `answers`: what is put out and told of a
-//!   study, and its report.
+//! - `arguments`: the whole way on a `host`, from its `words` to a printed matrix. `answers`: what is put out and told
+//!   of a study, and its report.
 //! - `talk`: a conversation about what is kept: it reads the questions (`blocks`, `question_files`), and puts out the
 //!   answers (`replies`).
 //! - `reading` reads the files that the arguments name from the `disk` into `study_files`, or answers why one is
@@ -26,7 +26,10 @@ mod replies;
 mod study_files;
 mod talk;
 mod unread;
+mod words;
 
 pub use crate::arguments::run;
-pub use crate::disk::Disk;
+pub use crate::blocks::question_limit_is_as_stated;
+pub use crate::disk::{Disk, Opener};
 pub use crate::host::Host;
+pub use crate::words::Arguments;

@@ -5,6 +5,7 @@
 
 ghost use Rattle.std.specs.Prelude.{◌≡◌, IfErr, IfOk, OnOk};
 ghost use Rattle.std.specs.Process.{exit_status};
+ghost use Rattle.outputs.specs.Outputs.{after};
 ghost use Rattle.studies.specs.Inputs.{AreWithinLimit, inputs_of};
 ghost use Rattle.studies.specs.Kept.{IsKept};
 ghost use Rattle.studies.specs.Settings.{SettingsFit};
@@ -16,8 +17,9 @@ use crate::answers::tell_why;
 use crate::blocks::next_block;
 use crate::host::Host;
 use crate::replies::{Reply, put_reply, reply_to};
-use command_line::{DONE, NOT_MOVED, Task, tell};
+use command_line::{DONE, NOT_MOVED, Task};
 use console::{Console, tell_line};
+use outputs::{Output, tell};
 use reports::Report;
 use std::alloc::{AllocError, Global};
 use std::io::{Read, Write};
@@ -35,7 +37,7 @@ pub(crate) enum TalkFault {
 
 /// Keeps what the files of a task give, and answers the questions of the input; or tells why nothing can be kept, as a
 /// run does. What is kept is reported, and so is each question, if the task says so.
-pub(crate) fn converse<'a, H: Host, I: Read, O: Write, E: Write>(
+pub(crate) fn converse<'a, H: Host, I: Read, O: Write, E: Output>(
     host: &'a H,
     task: &'a Task,
     inputs: &Inputs<'a>,
@@ -47,7 +49,7 @@ pub(crate) fn converse<'a, H: Host, I: Read, O: Write, E: Write>(
     requires settings { SettingsFit task.now.settings }
     ensures ended { answers.EndsConversation (H.finds host.now) (inputs_of inputs.now) task.now.settings
         (I.remaining input.old) (I.remaining input.new) (O.contents out.old) (O.contents out.new) (E.contents err.old)
-        (E.contents err.new) (exit_status result) }
+        (after (E.contents err.new) (E.broke err.new)) (exit_status result) }
     ensures success { exit_status result ≡ DONE → spec.IsWhole (H.finds host.now) (inputs_of inputs.now)
         task.now.settings (I.remaining input.old) (I.remaining input.new) (O.contents out.old) (O.contents out.new) }
     ensures quiet { exit_status result ≡ DONE → err.new ≡ err.old }
@@ -86,8 +88,9 @@ fn kept_of<'a, H: Host>(
 }
 
 /// Tells why a conversation ended before its input did, if it did.
-fn end<E: Write>(ended: Result<(), TalkFault>, err: &mut E) -> ExitCode
-    ensures ended { spec.IsEnd ended (E.contents err.old) (E.contents err.new) (exit_status result) }
+fn end<E: Output>(ended: Result<(), TalkFault>, err: &mut E) -> ExitCode
+    ensures ended { spec.IsEnd ended (E.contents err.old) (after (E.contents err.new) (E.broke err.new))
+        (exit_status result) }
     ensures quiet { exit_status result ≡ DONE → err.new ≡ err.old }
 {
     match ended {

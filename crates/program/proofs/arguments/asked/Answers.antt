@@ -1,5 +1,6 @@
 use Rattle.std.proofs.Common.{inl, inr, map, string_bytes, subst, ℕ}
 use Rattle.std.specs.Process.{exit_status}
+use Rattle.outputs.specs.Outputs.{after}
 use Rattle.command_line.specs.Words.{word_status_of}
 use Rattle.command_line.specs.Words.{Tells as TellsWords}
 use Rattle.command_line.specs.declared.task.WordFault.TheVariants as word
@@ -30,7 +31,8 @@ returns-in-Words-clause-ended g c =
     let words = map string_bytes c.args.words.now in
     let Ended : ℕ → Type 0 = λ code. EndsText code (g.O.Write.contents c.args.out.now)
     (g.O.Write.contents c.tell_words.new.out) (g.E.Write.contents c.args.err.now)
-    (g.E.Write.contents c.tell_words.new.err) (exit_status c.tell_words.result) in
+    (after (g.E.Write.contents c.tell_words.new.err) (g.E.Output.broke c.tell_words.new.err))
+    (exit_status c.tell_words.result) in
     let told = subst (λ f. TellsWords f words) c.in-Words.is c.in-Err.ensures.fault in
     let ended = subst (λ f. Ended (word_status_of f)) c.in-Words.is
     (subst Ended c.word_status-code.ensures c.tell_words.ensures.ended) in

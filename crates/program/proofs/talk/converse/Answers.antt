@@ -1,5 +1,6 @@
 use Rattle.std.proofs.Common.{inr}
 use Rattle.std.specs.Process.{exit_status}
+use Rattle.outputs.specs.Outputs.{after}
 use Rattle.studies.specs.Inputs.{inputs_of}
 use Rattle.program.proofs.ReplyFacts.{ends_talk, same_talk}
 use Rattle.program.proofs.talk.converse.Goals as goal
@@ -12,7 +13,7 @@ returns-in-Ok-clause-ended g c =
     let out = g.O.Write.contents c.args.out.now in
     let put = g.O.Write.contents c.talk.new.out in
     let err = g.E.Write.contents c.args.err.now in
-    let told = g.E.Write.contents c.end.new.err in
+    let told = after (g.E.Write.contents c.end.new.err) (g.E.Output.broke c.end.new.err) in
     let status = exit_status c.end.result in
     let kept = inputs_of c.in-Ok.kept.inputs in
     inr

@@ -1,0 +1,11 @@
+-- The iterator yields the words that it has, so what is collected of it are these.
+use Rattle.std.proofs.Common.{refl}
+use Rattle.std.proofs.lemmas.Iterator.{items_from_collect}
+use Rattle.std.proofs.lemmas.Iterator.Adapters.{YieldsList-from_vec}
+use Rattle.std.specs.Vec.Iter.{into_iter_items}
+use Rattle.program.proofs.words.collected.Goals as goal
+
+pub returns : goal.returns
+returns c =
+    items_from_collect c.collect.result c.collect.ensures.ran
+    (YieldsList-from_vec (into_iter_items c.args.words) refl c.args.words.rest.ok.0)
