@@ -76,6 +76,24 @@ const ALL_REPEATED: Passes = Passes {
     count: 2,
 };
 
+/// A gate that loses every lease of one job, and lets all others be worked at.
+#[derive(Clone, Copy)]
+struct JobLost {
+    job: u32,
+}
+
+impl Gate for JobLost {
+    fn before(&self, lease: &Lease) -> Verdict {
+        if lease.job == self.job {
+            Verdict::Lose
+        } else {
+            Verdict::Work
+        }
+    }
+
+    fn after(&self, _lease: &Lease, _settled: Settled) {}
+}
+
 /// The scenario files `cut` and `late`.
 fn edited(alloc: Global) -> Option<Vec<NamedFile>> {
     let mut files = Vec::with_capacity(alloc, 2).ok()?;
@@ -91,6 +109,17 @@ fn ran<G: Gate + Sync, R: Threads + Wait + Sync>(
     workers: u32,
     gate: &G,
 ) -> Result<Vec<u8>, StudyFault> {
+    ran_with(rt, alloc, workers, 2, gate)
+}
+
+/// The same with so many tries.
+fn ran_with<G: Gate + Sync, R: Threads + Wait + Sync>(
+    rt: &R,
+    alloc: Global,
+    workers: u32,
+    tries: u32,
+    gate: &G,
+) -> Result<Vec<u8>, StudyFault> {
     let Some(scenarios) = edited(alloc) else {
         return Err(StudyFault::Memory);
     };
@@ -99,7 +128,7 @@ fn ran<G: Gate + Sync, R: Threads + Wait + Sync>(
     };
     settings.walk = 0;
     settings.workers = workers;
-    settings.tries = 2;
+    settings.tries = tries;
     let inputs = Inputs {
         feed: small_files(),
         footpaths: None,
@@ -154,4 +183,37 @@ fn a_study_whose_leases_are_all_lost_names_its_first_place(rt: HostRuntime) {
             }
         }
     }
+}
+
+/// Expects that the study is left unfinished at the place of a scenario and an origin.
+fn expect_unfinished<R: Threads + Wait + Sync + Abort>(
+    rt: &R,
+    made: Result<Vec<u8>, StudyFault>,
+    scenario: u32,
+    origin: u32,
+) {
+    match made {
+        Ok(_) => assert!(rt; false, "{scenario}, {origin}: a text"),
+        Err(fault) => {
+            assert_eq!(rt; status(&fault), UNFINISHED);
+            let named = StudyFault::Run(RunFault::Unfinished { scenario, origin });
+            assert!(rt; fault == named, "{scenario}, {origin}: {fault:?}");
+        }
+    }
+}
+
+#[test]
+fn a_study_with_a_lost_job_names_its_place(rt: HostRuntime) {
+    for job in 0..9u32 {
+        for workers in [1u32, 2, 7] {
+            let made = ran(&rt, rt.alloc(), workers, &JobLost { job });
+            expect_unfinished(&rt, made, job / 3, job % 3);
+        }
+    }
+}
+
+#[test]
+fn a_job_lost_in_all_eight_passes_leaves_its_place_empty(rt: HostRuntime) {
+    let made = ran_with(&rt, rt.alloc(), 2, 8, &JobLost { job: 4 });
+    expect_unfinished(&rt, made, 1, 1);
 }

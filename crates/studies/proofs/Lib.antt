@@ -15,4 +15,5 @@ pub mod Lasting
 pub mod QuestionOfKept
 pub mod AnswersInOrder
 pub mod AnyGate
+pub mod OpenGates
 pub mod WatchSaw

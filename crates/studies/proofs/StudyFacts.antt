@@ -53,7 +53,7 @@ use Rattle.work_book.specs.declared.shared.Board.{Board}
 use Rattle.work_book.specs.Views.{first_view}
 use Rattle.workers.specs.Held.{Decides, WasTold}
 use Rattle.workers.specs.Jobs.{jobs_of}
-use Rattle.workers.specs.Outcomes.{IsFaultOf, IsFaultOfNew}
+use Rattle.workers.specs.Outcomes.{IsByGate, IsFaultOf, IsFaultOfNew}
 use Rattle.workers.specs.declared.faults.RunFault.{RunFault}
 use Rattle.studies.specs.Stages.{AreNetworkParts, AreTables, IsFeedOf, TellsEdits, TellsNames, TellsNetworks}
 use Rattle.studies.specs.Stages.{TellsTables, TellsText}
@@ -411,7 +411,15 @@ pub run_fault : (r : Result MatrixData RunFault) (s : StudyData) (decides : Deci
     (board : Board) (v : View) (workers tries : ℕ)
     → board.jobs ≡ jobs_of s → board.tries ≡ tries →
     IfErr r (λ e. IsFaultOf s decides was_told board workers (first_view (jobs_of s * tries)) v e)
+    → IfErr r (λ e. IsByGate s decides was_told board.tries e)
     → IfErr r (λ e. IsFaultOfNew s decides was_told workers tries e)
-run_fault (Ok m) s decides was_told board v workers tries jobs tries_are h = h
-run_fault (Err e) s decides was_told board v workers tries jobs tries_are h =
-    inr (record { board = board; jobs = jobs; tries_are = tries_are; view = v; why = h })
+run_fault (Ok m) s decides was_told board v workers tries jobs tries_are h by_gate = h
+run_fault (Err e) s decides was_told board v workers tries jobs tries_are h by_gate =
+    inr (record {
+      board = board;
+      jobs = jobs;
+      tries_are = tries_are;
+      view = v;
+      why = h;
+      by_gate = subst (λ (n : ℕ). IsByGate s decides was_told n e) tries_are by_gate;
+    })

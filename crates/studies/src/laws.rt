@@ -1,5 +1,5 @@
 //! Laws of studies of files.
-ghost use Rattle.studies.specs.Laws.{RefusedHaveNoMeaning, TextsAreUnique, TextsHaveTheirColumns};
+ghost use Rattle.studies.specs.Laws.{OpenStudiesFinish, RefusedHaveNoMeaning, TextsAreUnique, TextsHaveTheirColumns};
 
 use footpaths::{closures_are_unique, too_many_have_no_closure};
 use workers::{matrices_are_unique, rows_have_their_columns};
@@ -29,3 +29,8 @@ pub fn refused_have_no_meaning()
 {
     too_many_have_no_closure();
 }
+
+/// A law: a study whose gate lets each lease be worked at, as [`Open`](workers::Open) does, is never left unfinished.
+pub fn open_studies_finish()
+    ensures { OpenStudiesFinish }
+{}

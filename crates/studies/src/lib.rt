@@ -11,8 +11,8 @@
 //! - `watch`: [`watch_study`] is [`run_study`] with a [`Watch`], who is told what each stage has made.
 //! - `inputs`, `named_file`, `settings`: what a study is made of, and `limits`, within which; `fault`: why there is
 //!   none.
-//! - `laws`: a study has one text, which with destinations has some of the columns of the text without; and no files
-//!   are both refused and accepted.
+//! - `laws`: a study has one text, which with destinations has some of the columns of the text without; no files are
+//!   both refused and accepted; and a study whose gate lets each lease be worked at is never left unfinished.
 //! - `feed_files`: [`FeedFiles`], the files of a feed as a program holds them.
 //! - `plain`, not on the program's way: [`minute_line`], the durations of one minute over each trip of a feed once, as
 //!   the definitions have them, without a window, scenarios or workers.
@@ -46,7 +46,9 @@ pub use fault::StudyFault;
 pub use feed_files::{FeedFiles, bytes_of};
 pub use inputs::Inputs;
 pub use kept::{Kept, keep};
-pub use laws::{refused_have_no_meaning, texts_are_unique, texts_have_their_columns};
+pub use laws::{
+    open_studies_finish, refused_have_no_meaning, texts_are_unique, texts_have_their_columns,
+};
 pub use limits::{MOST_DAYS, MOST_WORKERS, limits_are_as_stated};
 pub use named_file::NamedFile;
 pub use plain::minute_line;

@@ -4,7 +4,7 @@ ghost use Rattle.work_book.specs.Board.{IsOf, seen_by};
 ghost use Rattle.work_book.specs.Views.{first_view};
 ghost use Rattle.workers.specs.Jobs.{jobs_of};
 ghost use Rattle.workers.specs.Matrices.{HasShape, IsMatrix};
-ghost use Rattle.workers.specs.Outcomes.{HasSplit, IsFaultOf, IsFaultOfNew, NamesFirst};
+ghost use Rattle.workers.specs.Outcomes.{HasSplit, IsByGate, IsFaultOf, IsFaultOfNew, NamesFirst};
 ghost use Rattle.workers.specs.Study.{StudyFits, study_of};
 ghost use Rattle.studies.specs.Settings.{SettingsFit};
 ghost use Rattle.studies.specs.Watched.{listed, ended};
@@ -80,8 +80,8 @@ fn board_of(
 
 /// The matrix of a study on a board, by as many workers as the settings say.
 ///
-/// A place that a fault names is the first one whose job the seat didn't keep, and the seat shows how many others were
-/// split off.
+/// A place that a fault names is the first one whose job the seat didn't keep, and of its leases the gate let each go
+/// that was drawn. The seat shows how many others were split off.
 fn matrix_on<G: Gate + Sync, R: Threads + Wait + Sync>(
     rt: &R,
     alloc: Global,
@@ -104,6 +104,9 @@ fn matrix_on<G: Gate + Sync, R: Threads + Wait + Sync>(
     ensures fault { IfErr result (λ fault.
         IsFaultOf (study_of shared.now.study.now) (G.decides gate.now) (G.was_told gate.now) shared.now.board.now
         settings.now.workers (seen_by seat.old) (seen_by seat.new) fault) }
+    ensures by_gate { IfErr result (λ fault.
+        IsByGate (study_of shared.now.study.now) (G.decides gate.now) (G.was_told gate.now) shared.now.board.now.tries
+        fault) }
 {
     let workers = settings.workers;
     run_workers(rt, alloc, shared.study, shared.board, seat, workers, gate)

@@ -1,7 +1,7 @@
 -- A look, a settle and a load of any word keep the rule.
 use Rattle.std.proofs.Common.{◌≡◌, ◌≢◌, ◌==◌, ℕ, ◌+◌, ◌-◌, ◌*◌, ◌<◌, ◌≤◌, min, List, [], ◌∷◌, ◌++◌, Bool, true, false}
 use Rattle.std.proofs.Common.{length, set, slice_index, refl, sym, ap, ◌∙◌, subst, ⊎_elim, arith, eqb}
-use Rattle.std.specs.List.{list_any}
+use Rattle.std.specs.List.{list_any, sum_by}
 use Rattle.std.proofs.Math.Decide.{dec_lt}
 use Rattle.std.proofs.Math.Nat.{mod-lt}
 use Rattle.std.proofs.lemmas.Bool.Decides.{nat_tests}
@@ -20,12 +20,12 @@ use Rattle.work_book.specs.Views.{seat_of, knows, settled_under, stepped as one_
 use Rattle.work_book.specs.Views.{untold}
 use Rattle.work_book.specs.Shown.{mark_of, next_of}
 use Rattle.work_book.specs.Rule.{IsKept, Fits, MarksOwn}
-use Rattle.work_book.specs.Moves.{Mine, Shows, Looks, Settles, IsOnce}
+use Rattle.work_book.specs.Moves.{Mine, Shows, Looks, Settles, IsOnce, IsWhole}
 use Rattle.work_book.specs.declared.rule.View.{View}
 use Rattle.work_book.specs.declared.rule.Extent.{Extent}
 use Rattle.work_book.proofs.DrawnBelow.{first_factor}
 use Rattle.work_book.proofs.StepsAreFair.{counted}
-use Rattle.work_book.proofs.SumsOverViews.{sum_set, sum_at}
+use Rattle.work_book.proofs.SumsOverViews.{sum_set, sum_at, sum_one}
 use Rattle.work_book.proofs.RuleAsSums.{Held, held_of, kept_of, limit_of, draws_of, keeps_of, times, times_append}
 use Rattle.work_book.proofs.RuleAsSums.{once_below, once_set, once_below_at, once_set_zero, once_set_some}
 use Rattle.work_book.proofs.RuleAsSums.{once_below_le, once_set_le, Grows, same_words, fits_set, Stays, same_marks}
@@ -330,6 +330,26 @@ once_in k id v s h at = record {
       let c = once_set_le (mark_of s.words j) in omega arith;
 }
 
+-- the lists of a seat with every share are those of the whole board
+whole_in : (k : Extent) (id : ℕ) (v : View) (s : State (Unit {0}) View) → Held k s → get_elem? s.views id ≡ some v →
+    v.share ≡ 65536 → IsWhole v
+whole_in k id v s h at all =
+    let mine = h.fits id v at in
+    let limit : v.limit ≡ limit_of k = mine.limited (omega arith) in
+    let only : sum_by share_of s.views ≡ share_of v = h.shares ∙ sym all in
+    record {
+      next = next_of (limit_of k) s.words;
+      within = omega arith;
+      drawn = λ x.
+          sym (sum_one (draws_of x) share_of s.views id v at only
+          (λ j w e none. ap (times x) ((h.fits j w e).empty none).0)) ∙ h.drawn x;
+      told = λ t. let a = mine.told t in omega arith;
+      kept = λ j p.
+          sym (sum_one (keeps_of j) share_of s.views id v at only
+          (λ i w e none. ap (times j) ((h.fits i w e).empty none).1)) ∙ h.kept j
+          ∙ once_set_some (mark_of s.words j) (mine.known j p);
+    }
+
 pub shows : (k : Extent) (slots id : ℕ) (me : Mine) →
     Allows (IsKept k) slots id me 0 (λ n. n) (Shows (step slots 0 0 0 none) me)
 shows k slots id me s kept len at fit =
@@ -349,6 +369,7 @@ shows k slots id me s kept len at fit =
         refl,
         once_in k id me.0 s h at,
         (let a = sum_at share_of s.views id me.0 at in let b = h.shares in omega arith),
+        whole_in k id me.0 s h at,
       ),
     )
 

@@ -1,5 +1,5 @@
 -- What each kind of atomic step shows the seat that takes it.
-use Rattle.std.specs.Prelude.{◌≡◌, ℕ, ◌-◌, ◌<◌, ◌≤◌, false}
+use Rattle.std.specs.Prelude.{◌≡◌, ℕ, ◌-◌, ◌<◌, ◌≤◌, true, false, nat_lt, if◌then◌else◌}
 use Rattle.std.specs.List.{All}
 use Rattle.atomic_table.specs.Table.{Me, Step}
 use Rattle.work_book.specs.Laws.{drawn_in, kept_in}
@@ -21,9 +21,20 @@ pub record IsOnce (v : View) : Type 0 where
   pub drawn : (number : ℕ) → drawn_in number (seat_of v) ≤ 1
   pub kept : (job : ℕ) → kept_in job (seat_of v) ≤ 1
 
--- a load of any word shows that nothing stands twice, and that there are no more shares than all
+-- the lists of a view are those of the whole board: the numbers below the next one were drawn, each once; all were
+-- where the seat was told so; and each job that it knows to be settled was kept, once
+pub record IsWhole (v : View) : Type 0 where
+  pub next : ℕ
+  pub within : next ≤ v.limit
+  pub drawn : (number : ℕ) → drawn_in number (seat_of v) ≡ (if nat_lt number next then 1 else 0)
+  pub told : v.told ≡ true → next ≡ v.limit
+  pub kept : (job : ℕ) → knows v job ≡ true → kept_in job (seat_of v) ≡ 1
+
+-- a load of any word shows that nothing stands twice, that there are no more shares than all, and that the lists of a
+-- seat with every share are those of the whole board
 abbrev pub Shows : Step (Unit {0}) → Mine → ℕ → Mine → Type 0
-Shows s v found w = (w.1 ≡ v.1) × (w.0 ≡ stepped v.0) × IsOnce v.0 × (v.0.share ≤ 65536)
+Shows s v found w =
+    (w.1 ≡ v.1) × (w.0 ≡ stepped v.0) × IsOnce v.0 × (v.0.share ≤ 65536) × (v.0.share ≡ 65536 → IsWhole v.0)
 
 -- a job whose word is 0 wasn't known to be settled; one whose word isn't 0 is known from then on
 abbrev pub Looks : Step (Unit {0}) → Mine → ℕ → Mine → Type 0

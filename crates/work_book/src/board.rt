@@ -2,7 +2,7 @@
 ghost use Rattle.std.specs.Prelude.{◌≡◌, ◌*◌, ◌<◌, ◌≤◌, IfOk, IsTrue, IsFalse, replicate, false, []};
 ghost use Rattle.work_book.specs.Book.{is_marked};
 ghost use Rattle.work_book.specs.Views.{first_view, less_one, split_off, merged, stepped, knowing, knows};
-ghost use Rattle.work_book.specs.Moves.{IsOnce};
+ghost use Rattle.work_book.specs.Moves.{IsOnce, IsWhole};
 ghost use Rattle.work_book.specs.Board.{seen_by, IsOf, IsLease, HasDrawn, HasGiven, Drawn, SettledAs, Closes, book_of};
 
 use crate::lease::{Lease, Settled};
@@ -67,11 +67,15 @@ impl Board {
     }
 
     /// Takes another seat in, with all that it drew and kept, and its share, by two atomic steps, both loads.
+    ///
+    /// A seat that has every share then is the only one left: it drew each number that was drawn, and kept each job
+    /// that it knows to be settled.
     pub fn join(&self, seat: &mut WorkSeat, other: WorkSeat)
         requires board { IsOf self.now seat.old × IsOf self.now other }
         ensures board { IsOf self.now seat.new }
         ensures both { seen_by seat.new ≡ stepped (merged (seen_by seat.old) (seen_by other)) }
         ensures once { IsOnce (seen_by seat.new) }
+        ensures whole { (seen_by seat.new).share ≡ 65536 → IsWhole (seen_by seat.new) }
     {
         let WorkSeat {
             seat: theirs,

@@ -21,7 +21,7 @@ count_cons job x xs = sum_by-cons (λ y. if y == job then 1 else 0) x xs
 same_self : (job : ℕ) → same job job ≡ 1
 same_self job = grind (arith, nat_tests)
 
-same_some : (x job : ℕ) → 0 < same x job → x ≡ job
+pub same_some : (x job : ℕ) → 0 < same x job → x ≡ job
 same_some x job h = grind (arith, nat_tests)
 
 -- the only job of a list

@@ -14,3 +14,4 @@ pub mod Wholes
 pub mod Columns
 pub mod DoneAsDecided
 pub mod AnyGate
+pub mod LeftEmpty

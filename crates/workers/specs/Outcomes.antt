@@ -2,14 +2,18 @@
 use Rattle.std.specs.Prelude.{◌≡◌, ◌⊎◌, ◌+◌, ◌-◌, ◌*◌, ◌<◌, ◌≤◌, ℕ, Bool, false, true, List, [], ◌∷◌, length, ⊤}
 use Rattle.std.specs.List.{list_any}
 use Rattle.work_book.specs.Board.{seen_by}
+use Rattle.work_book.specs.Book.{job_among}
 use Rattle.work_book.specs.Laws.{kept_in}
+use Rattle.work_book.specs.Steps.{lease_among}
 use Rattle.work_book.specs.Views.{first_view, merged, seat_of, stepped}
+use Rattle.work_book.specs.declared.lease.Lease.{Lease}
 use Rattle.work_book.specs.declared.rule.View.{View}
 use Rattle.work_book.specs.declared.shared.Board.{Board}
 use Rattle.workers.specs.Study.{StudyData}
 use Rattle.workers.specs.Jobs.{jobs_of}
-use Rattle.workers.specs.Held.{Decides, WasTold}
+use Rattle.workers.specs.Held.{Decides, WasTold, IsToldKept}
 use Rattle.workers.specs.Threads.{AreWorked}
+use Rattle.workers.specs.declared.gates.Verdict.TheVariants.{Lose, Vanish}
 use Rattle.workers.specs.declared.faults.RunFault.{RunFault}
 use Rattle.workers.specs.declared.faults.RunFault.TheVariants.{Memory, Spawn, Unfinished}
 use Rattle.workers.specs.declared.worker.Ending.{Ending}
@@ -41,22 +45,33 @@ abbrev pub is_short : Ending → Bool
 is_short ending.Nothing = false
 is_short ending.Vanished = false
 is_short ending.Short = true
+is_short ending.Refused = false
 
 abbrev pub is_some_short : List Worked → Bool
 is_some_short worked = list_any (λ w. is_short w.ending) worked
 
--- why workers that were started left a place empty: one of them ran out of memory; or none was started; or else the
--- named place is the first one without a row
+-- the worker's thread was started
+abbrev pub is_started : Ending → Bool
+is_started ending.Nothing = true
+is_started ending.Vanished = true
+is_started ending.Short = true
+is_started ending.Refused = false
+
+abbrev pub is_some_started : List Worked → Bool
+is_some_started worked = list_any (λ w. is_started w.ending) worked
+
+-- why workers left a place empty: one of them ran out of memory; or the start of each was refused; or else the named
+-- place is the first one without a row
 abbrev pub IsWhy : StudyData → View → List Worked → RunFault → Type 0
 IsWhy s v worked Memory = is_some_short worked ≡ true
-IsWhy s v worked Spawn = (0 < jobs_of s) × (worked ≡ [])
+IsWhy s v worked Spawn = (0 < jobs_of s) × (is_some_started worked ≡ false)
 IsWhy s v worked (Unfinished scenario origin) =
-    (0 < length worked) × (is_some_short worked ≡ false) × IsFirstUnkept s v scenario origin
+    (is_some_started worked ≡ true) × (is_some_short worked ≡ false) × IsFirstUnkept s v scenario origin
 
--- so many seats were split off, by a step each, and no share is missing but theirs
+-- so many seats were split off, by a step each, and all shares came back
 pub record HasSplit (workers : ℕ) (start v : View) : Type 0 where
   pub steps : start.steps + workers ≤ v.steps
-  pub share : start.share ≤ v.share + workers
+  pub share : v.share ≡ start.share
 
 -- a place that a fault names is the first one whose job the seat didn't keep
 abbrev pub NamesFirst : StudyData → View → RunFault → Type 0
@@ -64,12 +79,12 @@ NamesFirst s v Memory = ⊤
 NamesFirst s v Spawn = ⊤
 NamesFirst s v (Unfinished scenario origin) = IsFirstUnkept s v scenario origin
 
--- so many seats were split off for workers, no more workers than these were started, each of them ended as it promised,
--- the seat took in theirs, and that is why there is no matrix
+-- so many seats were split off for workers, each of them ended as it promised, the seat took in theirs, and that is why
+-- there is no matrix
 pub record IsLeft (s : StudyData) (decides : Decides) (was_told : WasTold) (board : Board) (workers : ℕ)
     (start v : View) (fault : RunFault) : Type 0 where
   pub worked : List Worked
-  pub few : length worked ≤ workers
+  pub count : length worked ≡ workers
   pub ended : AreWorked board s decides was_told worked
   pub view_is : v ≡ joined (without workers start) worked
   pub why : IsWhy s v worked fault
@@ -80,6 +95,35 @@ IsFaultOf s decides was_told board workers start v fault =
     ((fault ≡ Memory) × (v.drawn ≡ start.drawn) × (v.kept ≡ start.kept))
     ⊎ IsLeft s decides was_told board workers start v fault
 
+-- the job of a place
+abbrev pub job_at : StudyData → ℕ → ℕ → ℕ
+job_at s scenario origin = scenario * length s.origins + origin
+
+-- the gate decided that a lease is lost, or that its worker vanishes
+abbrev pub IsLetGo : Decides → Lease → Type 0
+IsLetGo decides lease = decides lease Lose ⊎ decides lease Vanish
+
+-- a gate left a place of a study empty where each job is offered so often: it was told of each job before that of the
+-- place that it was kept; and it let each lease of the place's job go that was drawn. All were drawn, unless the gate let
+-- a worker vanish at one that was
+pub record IsLeftEmpty (s : StudyData) (decides : Decides) (was_told : WasTold) (tries scenario origin : ℕ) : Type 0
+  where
+    pub scenario_in : scenario < length s.networks
+    pub origin_in : origin < length s.origins
+    pub before : (job : ℕ) → job < job_at s scenario origin → IsToldKept decides was_told job
+    pub next : ℕ
+    pub within : next ≤ jobs_of s * tries
+    pub drawn : (next ≡ jobs_of s * tries)
+        ⊎ ((number : ℕ) × (number < next) × decides (lease_among (jobs_of s) number) Vanish)
+    pub let_go : (number : ℕ) → number < next → job_among (jobs_of s) number ≡ job_at s scenario origin →
+        IsLetGo decides (lease_among (jobs_of s) number)
+
+-- what a fault says of what the gate itself decided and was told, whatever board served
+abbrev pub IsByGate : StudyData → Decides → WasTold → ℕ → RunFault → Type 0
+IsByGate s decides was_told tries Memory = ⊤
+IsByGate s decides was_told tries Spawn = 0 < jobs_of s
+IsByGate s decides was_told tries (Unfinished scenario origin) = IsLeftEmpty s decides was_told tries scenario origin
+
 -- ... on a new board, where each job is offered so often
 pub record IsFaultOnBoard (s : StudyData) (decides : Decides) (was_told : WasTold) (workers tries : ℕ)
     (fault : RunFault) : Type 0 where
@@ -88,6 +132,7 @@ pub record IsFaultOnBoard (s : StudyData) (decides : Decides) (was_told : WasTol
   pub tries_are : board.tries ≡ tries
   pub view : View
   pub why : IsFaultOf s decides was_told board workers (first_view (jobs_of s * tries)) view fault
+  pub by_gate : IsByGate s decides was_told tries fault
 
 -- ... or memory ran out for the board
 abbrev pub IsFaultOfNew : StudyData → Decides → WasTold → ℕ → ℕ → RunFault → Type 0

@@ -13,9 +13,10 @@ pub record AreOfOneStudy (board : Board) (s : StudyData) : Type 0 where
   pub fits : StudyFits s
   pub jobs : board.jobs ≡ jobs_of s
 
--- the seat is of this board, and drew and kept nothing yet
+-- the seat is of this board, with one share, and drew and kept nothing yet
 pub record IsReady (board : Board) (seat : WorkSeat) : Type 0 where
   pub of_board : IsOf board seat
+  pub share : (seen_by seat).share ≡ 1
   pub drawn : (seen_by seat).drawn ≡ []
   pub kept : (seen_by seat).kept ≡ []
 

@@ -1,7 +1,7 @@
 //! What a worker's thread does, and promises to the one that started it.
 use crate::gates::Gate;
 use crate::study::Study;
-use crate::worker::{Worked, work};
+use crate::worker::{Worked, unstarted, work};
 use std::alloc::Global;
 use std::thread::Promise;
 use work_book::{Board, WorkSeat};
@@ -21,6 +21,11 @@ pub(crate) trait Task {
 
     /// Does it, with this seat.
     fn run(&self, seat: WorkSeat) -> Worked
+        requires { takes self.now seat }
+        ensures { gives self.now result };
+
+    /// Gives the seat back unused, since its thread couldn't be started.
+    fn leave(&self, seat: WorkSeat) -> Worked
         requires { takes self.now seat }
         ensures { gives self.now result };
 }
@@ -56,5 +61,9 @@ impl<'a, 'b, G: Gate> Task for StudyTask<'a, 'b, G> {
 
     fn run(&self, seat: WorkSeat) -> Worked {
         work(self.alloc, self.study, self.board, seat, self.gate)
+    }
+
+    fn leave(&self, seat: WorkSeat) -> Worked {
+        unstarted(self.alloc, seat)
     }
 }

@@ -35,6 +35,8 @@ pub(crate) enum Ending {
     Vanished,
     /// It ran out of memory, and left its lease unsettled.
     Short,
+    /// Its thread couldn't be started, and it drew nothing.
+    Refused,
 }
 
 /// What a worker does after a lease.
@@ -66,6 +68,7 @@ pub(crate) fn work<G: Gate>(
     requires jobs { board.now.jobs ≡ jobs_of (study_of study.now) }
     requires board { IsOf board.now seat }
     requires empty { ((seen_by seat).drawn ≡ []) × ((seen_by seat).kept ≡ []) }
+    requires share { (seen_by seat).share ≡ 1 }
     ensures { WorkedFor board.now (study_of study.now) (G.decides gate.now) (G.was_told gate.now) result }
 {
     let mut hands = Hands {
@@ -80,6 +83,19 @@ pub(crate) fn work<G: Gate>(
         }
     }
     given_back(hands, Ending::Nothing)
+}
+
+/// What is given back for a worker whose thread couldn't be started.
+pub(crate) fn unstarted(alloc: Global, seat: WorkSeat) -> Worked
+    ensures seat { result.seat ≡ seat }
+    ensures rows { result.rows.items ≡ [] }
+    ensures ending { result.ending ≡ Ending.Refused }
+{
+    Worked {
+        seat,
+        rows: Vec::new(alloc),
+        ending: Ending::Refused,
+    }
 }
 
 /// What a worker gives back of what it has in hand.
@@ -109,9 +125,10 @@ fn take<G: Gate>(
     ensures board { IsOf board.now hands.new.seat }
     ensures drawn { ((seen_by hands.new.seat).drawn ≡ (seen_by hands.old.seat).drawn)
         × ((seen_by hands.new.seat).told ≡ (seen_by hands.old.seat).told) }
+    ensures share { (seen_by hands.new.seat).share ≡ (seen_by hands.old.seat).share }
     ensures rows { HoldsRows (study_of study.now) hands.new.rows.items (seen_by hands.new.seat).kept }
-    ensures told { AreTold (G.was_told gate.now) (seen_by hands.old.seat).kept →
-        AreTold (G.was_told gate.now) (seen_by hands.new.seat).kept }
+    ensures told { AreTold (G.decides gate.now) (G.was_told gate.now) (seen_by hands.old.seat).kept →
+        AreTold (G.decides gate.now) (G.was_told gate.now) (seen_by hands.new.seat).kept }
     ensures known { KnowsAsMuch (seen_by hands.old.seat) (seen_by hands.new.seat) }
     ensures next { LeavesAs (G.decides gate.now) lease (seen_by hands.new.seat) result }
     ensures does { DoesAs (G.decides gate.now) (study_of study.now) lease (seen_by hands.old.seat)
@@ -172,17 +189,19 @@ fn settle_once<G: Gate>(
     requires board { IsOf board.now hands.old.seat }
     requires lease { IsLease board.now lease × HasDrawn (seen_by hands.old.seat) lease }
     requires job { lease.job < board.now.jobs }
+    requires decided { G.decides gate.now lease Verdict.Work }
     requires rows { HoldsRows (study_of study.now) hands.old.rows.items (seen_by hands.old.seat).kept }
     ensures board { IsOf board.now hands.new.seat }
     ensures drawn { ((seen_by hands.new.seat).drawn ≡ (seen_by hands.old.seat).drawn)
         × ((seen_by hands.new.seat).told ≡ (seen_by hands.old.seat).told) }
+    ensures share { (seen_by hands.new.seat).share ≡ (seen_by hands.old.seat).share }
     ensures rows { HoldsRows (study_of study.now) hands.new.rows.items (seen_by hands.new.seat).kept }
     ensures held { IfOk result (λ _. HoldsMore (study_of study.now) 1 lease.job (seen_by hands.old.seat)
         (seen_by hands.new.seat) hands.old.rows.items hands.new.rows.items) }
     ensures heard { IfOk result (λ _. IsHeard (G.was_told gate.now) lease (seen_by hands.old.seat)
         (seen_by hands.new.seat)) }
-    ensures told { AreTold (G.was_told gate.now) (seen_by hands.old.seat).kept →
-        AreTold (G.was_told gate.now) (seen_by hands.new.seat).kept }
+    ensures told { AreTold (G.decides gate.now) (G.was_told gate.now) (seen_by hands.old.seat).kept →
+        AreTold (G.decides gate.now) (G.was_told gate.now) (seen_by hands.new.seat).kept }
     ensures known { KnowsAsMuch (seen_by hands.old.seat) (seen_by hands.new.seat) }
     ensures settled { IfOk result (λ _. knows (seen_by hands.new.seat) lease.job ≡ true) }
 {
@@ -213,18 +232,20 @@ fn settle_twice<G: Gate>(
     requires board { IsOf board.now hands.old.seat }
     requires lease { IsLease board.now lease × HasDrawn (seen_by hands.old.seat) lease }
     requires job { lease.job < board.now.jobs }
+    requires decided { G.decides gate.now lease Verdict.Repeat }
     requires rows { HoldsRows (study_of study.now) hands.old.rows.items (seen_by hands.old.seat).kept }
     ensures board { IsOf board.now hands.new.seat }
     ensures drawn { ((seen_by hands.new.seat).drawn ≡ (seen_by hands.old.seat).drawn)
         × ((seen_by hands.new.seat).told ≡ (seen_by hands.old.seat).told) }
+    ensures share { (seen_by hands.new.seat).share ≡ (seen_by hands.old.seat).share }
     ensures rows { HoldsRows (study_of study.now) hands.new.rows.items (seen_by hands.new.seat).kept }
     ensures held { IfOk result (λ _. HoldsMore (study_of study.now) 2 lease.job (seen_by hands.old.seat)
         (seen_by hands.new.seat) hands.old.rows.items hands.new.rows.items) }
     ensures heard { IfOk result (λ _.
         (between : View) × IsHeard (G.was_told gate.now) lease (seen_by hands.old.seat) between
         × IsHeard (G.was_told gate.now) lease between (seen_by hands.new.seat)) }
-    ensures told { AreTold (G.was_told gate.now) (seen_by hands.old.seat).kept →
-        AreTold (G.was_told gate.now) (seen_by hands.new.seat).kept }
+    ensures told { AreTold (G.decides gate.now) (G.was_told gate.now) (seen_by hands.old.seat).kept →
+        AreTold (G.decides gate.now) (G.was_told gate.now) (seen_by hands.new.seat).kept }
     ensures known { KnowsAsMuch (seen_by hands.old.seat) (seen_by hands.new.seat) }
     ensures settled { IfOk result (λ _. knows (seen_by hands.new.seat) lease.job ≡ true) }
 {

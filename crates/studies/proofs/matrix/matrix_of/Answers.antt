@@ -22,6 +22,6 @@ returns-in_err-matrix-clause-fault g c =
     let told : IfErr r fits = run_fault r s decides was_told board v settings.workers settings.tries
     c.in_ok-board.ensures.jobs c.in_ok-board.ensures.tries
     (subst (λ (z : View). IfErr r (λ e. IsFaultOf s decides was_told board settings.workers z v e))
-    c.in_ok-board.ensures.seat c.matrix_on-matrix.ensures.fault) in
+    c.in_ok-board.ensures.seat c.matrix_on-matrix.ensures.fault) c.matrix_on-matrix.ensures.by_gate in
     err_by fits c.from_residual-in_err-matrix.result c.in_err-matrix.field-0.0 c.from_residual-in_err-matrix.ensures.1
     (subst (λ (x : Result MatrixData RunFault). IfErr x fits) c.in_err-matrix.was told)

@@ -1,6 +1,7 @@
-use Rattle.std.proofs.Common.{◌≡◌, ◌⊎◌, subst}
+use Rattle.std.proofs.Common.{◌≡◌, ◌⊎◌, ap, subst}
 use Rattle.std.specs.Prelude.{IfErr, IfOk}
 use Rattle.work_book.specs.Board.{seen_by}
+use Rattle.work_book.specs.declared.rule.View.{View}
 use Rattle.workers.specs.Outcomes.{HasSplit, IsFaultOf}
 use Rattle.workers.specs.Study.{study_of}
 use Rattle.workers.specs.declared.faults.RunFault.TheVariants.{Memory}
@@ -31,3 +32,6 @@ returns-clause-fault g c =
     let v = seen_by c.run_workers.new.seat in
     subst (λ (x : SettingsData). IfErr c.run_workers.result
     (λ e. IsFaultOf s decides was_told board x.workers start v e)) c.settings.view_is c.run_workers.ensures.fault
+
+pub returns-clause-by_gate : goal.returns-clause-by_gate
+returns-clause-by_gate g c = c.run_workers.ensures.by_gate (ap (λ (v : View). v.share) c.requires.seat)

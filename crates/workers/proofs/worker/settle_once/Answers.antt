@@ -1,4 +1,4 @@
-use Rattle.std.proofs.Common.{ap, rules}
+use Rattle.std.proofs.Common.{ap, inl, rules, subst}
 use Rattle.work_book.specs.Board.{seen_by}
 use Rattle.work_book.specs.declared.rule.View.{View}
 use Rattle.workers.specs.Study.{study_of}
@@ -16,15 +16,17 @@ returns-in-Kept-clause-rows g c =
 
 pub returns-in-Kept-clause-told : goal.returns-in-Kept-clause-told
 returns-in-Kept-clause-told g c =
-    told_more (g.G.Gate.was_told c.args.gate.now) (seen_by c.args.hands.now.seat) (seen_by c.settle-settled.new.seat)
-    c.args.lease c.settle-settled.result c.settle-settled.ensures.settled
-    c.after.ensures.told
+    let was_told = g.G.Gate.was_told c.args.gate.now in
+    told_more (g.G.Gate.decides c.args.gate.now) was_told (seen_by c.args.hands.now.seat)
+    (seen_by c.settle-settled.new.seat) c.args.lease c.settle-settled.result c.settle-settled.ensures.settled
+    (λ kept. (subst (was_told c.args.lease) kept c.after.ensures.told, inl c.requires.decided))
 
 pub returns-in_default-clause-told : goal.returns-in_default-clause-told
 returns-in_default-clause-told g c =
-    told_more (g.G.Gate.was_told c.args.gate.now) (seen_by c.args.hands.now.seat) (seen_by c.settle-settled.new.seat)
-    c.args.lease c.settle-settled.result c.settle-settled.ensures.settled
-    c.after.ensures.told
+    let was_told = g.G.Gate.was_told c.args.gate.now in
+    told_more (g.G.Gate.decides c.args.gate.now) was_told (seen_by c.args.hands.now.seat)
+    (seen_by c.settle-settled.new.seat) c.args.lease c.settle-settled.result c.settle-settled.ensures.settled
+    (λ kept. (subst (was_told c.args.lease) kept c.after.ensures.told, inl c.requires.decided))
 
 pub returns-in-Kept-clause-heard : goal.returns-in-Kept-clause-heard
 returns-in-Kept-clause-heard g c = (c.settle-settled.result, c.settle-settled.ensures.settled, c.after.ensures.told)

@@ -1,11 +1,11 @@
-use Rattle.std.proofs.Common.{◌≡◌, ap, rules, ◌∙◌, ◌∷◌, [], ◌++◌}
+use Rattle.std.proofs.Common.{◌≡◌, ap, inr, rules, subst, ◌∙◌, ◌∷◌, [], ◌++◌}
 use Rattle.work_book.specs.Board.{seen_by}
 use Rattle.work_book.specs.declared.lease.Settled.TheVariants.{Kept, Double}
 use Rattle.work_book.specs.declared.rule.View.{View}
 use Rattle.workers.specs.Study.{study_of}
 use Rattle.workers.proofs.HeldRowsGrow.{holds_again, holds_new, holds_same, known_after, more_none, more_twice}
 use Rattle.workers.proofs.HeldRowsGrow.{settles_known}
-use Rattle.workers.proofs.KnowledgeGrows.{knows_both, knows_settled, told_more}
+use Rattle.workers.proofs.KnowledgeGrows.{knows_both, knows_settled, second_double, told_again, told_more}
 use Rattle.workers.proofs.JobCounts.{last_in}
 use Rattle.workers.proofs.worker.settle_twice.Goals as goal
 
@@ -67,12 +67,20 @@ returns-in-Double-clause-held g c =
 
 pub returns-in-Kept-clause-told : goal.returns-in-Kept-clause-told
 returns-in-Kept-clause-told g c = λ told.
+    let decides = g.G.Gate.decides c.args.gate.now in
     let was_told = g.G.Gate.was_told c.args.gate.now in
+    let v = seen_by c.args.hands.now.seat in
     let w = seen_by c.settle-first.new.seat in
-    told_more was_told w (seen_by c.settle-second.new.seat) c.args.lease c.settle-second.result
-    c.settle-second.ensures.settled c.after-2.ensures.told
-    (told_more was_told (seen_by c.args.hands.now.seat) w c.args.lease c.settle-first.result
-    c.settle-first.ensures.settled c.after.ensures.told told)
+    let x = seen_by c.settle-second.new.seat in
+    let known = known_after v w c.args.lease c.settle-first.result c.settle-first.ensures.settled in
+    let double =
+    second_double w x c.args.lease c.settle-second.result c.settle-second.ensures.settled known in
+    told_again decides was_told w x c.args.lease c.settle-second.result c.settle-second.ensures.settled known
+    (told_more decides was_told v w c.args.lease c.settle-first.result c.settle-first.ensures.settled
+    (λ kept. (
+      subst (was_told c.args.lease) kept c.after.ensures.told,
+      inr (c.requires.decided, subst (was_told c.args.lease) double c.after-2.ensures.told),
+    )) told)
 
 pub returns-in-Kept-clause-known : goal.returns-in-Kept-clause-known
 returns-in-Kept-clause-known g c =
@@ -96,12 +104,20 @@ returns-in-Kept-clause-heard g c = (
 
 pub returns-in-Double-clause-told : goal.returns-in-Double-clause-told
 returns-in-Double-clause-told g c = λ told.
+    let decides = g.G.Gate.decides c.args.gate.now in
     let was_told = g.G.Gate.was_told c.args.gate.now in
+    let v = seen_by c.args.hands.now.seat in
     let w = seen_by c.settle-first.new.seat in
-    told_more was_told w (seen_by c.settle-second.new.seat) c.args.lease c.settle-second.result
-    c.settle-second.ensures.settled c.after-2.ensures.told
-    (told_more was_told (seen_by c.args.hands.now.seat) w c.args.lease c.settle-first.result
-    c.settle-first.ensures.settled c.after.ensures.told told)
+    let x = seen_by c.settle-second.new.seat in
+    let known = known_after v w c.args.lease c.settle-first.result c.settle-first.ensures.settled in
+    let double =
+    second_double w x c.args.lease c.settle-second.result c.settle-second.ensures.settled known in
+    told_again decides was_told w x c.args.lease c.settle-second.result c.settle-second.ensures.settled known
+    (told_more decides was_told v w c.args.lease c.settle-first.result c.settle-first.ensures.settled
+    (λ kept. (
+      subst (was_told c.args.lease) kept c.after.ensures.told,
+      inr (c.requires.decided, subst (was_told c.args.lease) double c.after-2.ensures.told),
+    )) told)
 
 pub returns-in-Double-clause-known : goal.returns-in-Double-clause-known
 returns-in-Double-clause-known g c =

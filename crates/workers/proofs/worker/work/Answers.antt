@@ -5,7 +5,7 @@ use Rattle.work_book.specs.declared.rule.View.{View}
 use Rattle.workers.specs.Study.{study_of}
 use Rattle.workers.specs.declared.worker.Ending.TheVariants as ending
 use Rattle.workers.specs.Held.{AreTold, HasEnded, HoldsRows, KnowsAsMuch, WorkedFor}
-use Rattle.workers.proofs.KnowledgeGrows.{all_done_more, drawn_same, ended_at, knows_both, knows_same}
+use Rattle.workers.proofs.KnowledgeGrows.{all_done_more, ended_at, knows_both, knows_same}
 use Rattle.workers.proofs.KnowledgeGrows.{one_more_done, told_end}
 use Rattle.workers.proofs.JobCounts.{past_last, past_last_push, past_last_le}
 use Rattle.workers.proofs.HeldRowsGrow.{job_below}
@@ -37,8 +37,9 @@ loop-lease-preserved g c =
     c.take.ensures.known in
     record {
       board = c.take.ensures.board;
+      share = c.take.ensures.share ∙ ap (λ (z : View). z.share) d.0 ∙ c.loop-lease.invariant.share;
       holds = c.take.ensures.rows;
-      told = c.take.ensures.told (subst (AreTold (g.G.Gate.was_told c.args.gate.now))
+      told = c.take.ensures.told (subst (AreTold (g.G.Gate.decides c.args.gate.now) (g.G.Gate.was_told c.args.gate.now))
           (sym (ap (λ (z : View). z.kept) d.0)) c.loop-lease.invariant.told);
       done =
           one_more_done (g.G.Gate.decides c.args.gate.now) c.args.board.now.jobs was.drawn now.drawn was now
@@ -50,6 +51,7 @@ pub returns-in-End : goal.returns-in-End
 returns-in-End g c =
     let d = c.in-Lease.ensures.drawn in
     let decides = g.G.Gate.decides c.args.gate.now in
+    let was = seen_by c.loop-lease.hands.seat in
     let drawn = seen_by c.draw.new.seat in
     let now = seen_by c.take.new.hands.seat in
     let untold : now.told ≡ false = c.take.ensures.drawn.1 ∙ ap (λ (z : View). z.told) d.0 ∙ d.3 in
@@ -57,12 +59,14 @@ returns-in-End g c =
     (sym c.given_back.ensures)
     record {
       of_board = c.take.ensures.board;
+      share = c.take.ensures.share ∙ ap (λ (z : View). z.share) d.0 ∙ c.loop-lease.invariant.share;
       holds = c.take.ensures.rows;
-      told = c.take.ensures.told (subst (AreTold (g.G.Gate.was_told c.args.gate.now))
+      told = c.take.ensures.told (subst (AreTold (g.G.Gate.decides c.args.gate.now) (g.G.Gate.was_told c.args.gate.now))
           (sym (ap (λ (z : View). z.kept) d.0)) c.loop-lease.invariant.told);
       ended =
-          ended_at decides c.args.board.now now c.in-Lease.lease c.in-End.ending
-          (drawn_same drawn now c.in-Lease.lease c.take.ensures.drawn.0 c.in-Lease.ensures.given) untold
+          ended_at decides c.args.board.now was now c.in-Lease.lease c.in-End.ending
+          (knows_both was drawn now (knows_same was drawn (ap (λ (z : View). z.known) d.0)) c.take.ensures.known)
+          c.loop-lease.invariant.done (c.take.ensures.drawn.0 ∙ ap (λ (z : View). z.drawn) d.0) d.2.0 untold
           c.in-End.ensures.next;
     }
 
@@ -79,9 +83,10 @@ returns g c =
     subst (λ w. WorkedFor board (study_of c.args.study.now) decides was_told w) (sym c.given_back-2.ensures)
     record {
       of_board = c.draw.ensures.board;
+      share = ap (λ (z : View). z.share) is ∙ invariant.share;
       holds = subst (λ (v : View). HoldsRows (study_of c.args.study.now) c.loop-lease.hands.rows.items v.kept) (sym is)
           invariant.holds;
-      told = subst (λ (v : View). AreTold was_told v.kept) (sym is) invariant.told;
+      told = subst (λ (v : View). AreTold decides was_told v.kept) (sym is) invariant.told;
       ended = subst (λ (v : View). HasEnded decides board v ending.Nothing) (sym is) (
         refl,
         all_done_more decides board.jobs was.drawn was (told_nothing was)
