@@ -74,13 +74,16 @@ def try_changed(root: Path, is_anew: bool, jobs: int) -> Count:
     commit's hash draws; but none that passed on this machine as they are, unless all is to be tried anew.
     """
     digests, locked = lock.digests(root), lock.locked(root)
-    changed = [crate for crate in digests if digests[crate] != locked.get(crate)]
-    drawn = drawn_by(commit_of(root), [crate for crate in digests if crate not in changed])
+    pending = [crate for crate in digests if locked.get(crate) == lock.PENDING]
+    changed = [crate for crate in digests if crate not in pending and digests[crate] != locked.get(crate)]
+    drawn = drawn_by(commit_of(root), [crate for crate in digests if crate not in [*changed, *pending]])
     passed = set() if is_anew else lock.kept()
     left = {crate: digests[crate] for crate in [*changed, *drawn] if digests[crate] not in passed}
+    if pending:
+        print(f"skipped until `.ci/run --planted` has tried them, the planted bugs of {', '.join(pending)}")
     print(f"changed since all their planted bugs were refused: {', '.join(changed) or 'no crate'}")
     print(f"drawn from the others: {', '.join(drawn) or 'none'}; to be tried: {', '.join(left) or 'none'}", flush=True)
-    count = try_crates(root, left, jobs)
+    count = try_crates(root, left, jobs) + Count(skipped=len(pending))
     if changed and not count.failed:
         print(f"commit {lock.FILE} after `.ci/run --lock`: else each gate tries these again: {', '.join(changed)}")
     return count
