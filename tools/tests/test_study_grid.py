@@ -2,6 +2,7 @@
 nine stops.
 """
 
+import json
 from pathlib import Path
 
 import pytest
@@ -44,16 +45,61 @@ def test_the_cells_are_those_of_points_with_a_grid(place: Place) -> None:  # noq
     assert place.ran("study", "--verify", place.path("nine"))[2] == 0
 
 
-def test_people_outside_all_cells_are_a_warning_of_the_report(place: Place) -> None:  # noqa: F811
-    path = laid_out(place, '[opportunities]\ncolumns = ["doctors"]\ngroups = ["residents"]\n')
-    place.say((place.folder / "nine.toml").read_text() + "bands = [1]\n")
-    rows = [["a", 50, 7, 2, 0], ["b", 50.032, 7, 5, 1], ["far", 51, 7, 3, 0]]  # three live 111 km away
+def with_three_far_away(place: Place, more: str = "") -> str:  # noqa: F811
+    """Three more people, 111 km away from all stops; bands of one doctor."""
+    path = laid_out(place, more + '[opportunities]\ncolumns = ["doctors"]\ngroups = ["residents"]\n')
+    place.say((place.folder / "nine.toml").read_text() + "bands = [1]\nnearest = [1]\nnearest_bands = [30]\n")
+    rows = [["a", 50, 7, 2, 0], ["b", 50.032, 7, 5, 1], ["far", 51, 7, 3, 0]]
     place.write("addresses.csv", "id,lat,lon,residents,doctors", rows)
-    assert place.ran("study", path)[2] == 0
+    return path
+
+
+def printed_of(place: Place, name: str, *columns: str) -> list[str]:  # noqa: F811
+    """Some columns of the first line with a percentile of 50 in a result."""
+    lines = read(Path(place.path(f"nine/{name}")).read_text())
+    line = next(line for line in lines if line["percentile"] == "50")
+    return [line[column] for column in columns]
+
+
+def test_people_outside_all_cells_are_people_of_the_study(place: Place) -> None:  # noqa: F811
+    assert place.ran("study", with_three_far_away(place))[2] == 0
     report = Path(place.path("nine/report.md")).read_text().replace("\\", "")
     (warnings,) = [line for line in report.splitlines() if line.startswith("Warnings: ")]
     assert "addresses.csv: 3 of 10 residents are outside all cells" in warnings
-    assert "People by number of opportunities (bands.csv); percentages are of the people in cells" in report
+    # the 5 next to the doctor reach one; the 2 at S0, and the 3 far away, reach none
+    assert printed_of(place, "bands.csv", "people", "percent") == ["5", "50"]
+    assert printed_of(place, "bands_nearest.csv", "people", "percent") == ["5", "50"]
+    assert printed_of(place, "equity.csv", "people", "mean", "median") == ["10", "0.5", "0"]
+    # the 2 at S0 take the bus of the next morning
+    assert printed_of(place, "equity_nearest.csv", "people", "reached_percent") == ["10", "70"]
+    sentence = "of all people, of whom 3 residents live outside all cells and reach nothing"
+    assert f"People by number of opportunities (bands.csv); percentages are {sentence}" in report
+    assert f"Access by groups of people (equity.csv); measures are {sentence}" in report
+
+
+def test_people_outside_the_area_of_a_study_are_not(place: Place) -> None:  # noqa: F811
+    pytest.importorskip("geopandas")
+    path = with_three_far_away(place, 'grid_area = "region.geojson"\n')
+    ring = [[6.99, 49.99], [7.01, 49.99], [7.01, 50.04], [6.99, 50.04], [6.99, 49.99]]
+    area = {"type": "Polygon", "coordinates": [ring]}
+    (place.folder / "region.geojson").write_text(json.dumps({"type": "Feature", "properties": {}, "geometry": area}))
+    _, errors, status = place.ran("study", path)
+    assert status == 0, errors
+    assert printed_of(place, "equity.csv", "people", "mean") == ["7", f"{5 / 7:.4f}"]
+    report = Path(place.path("nine/report.md")).read_text().replace("\\", "")
+    assert "(bands.csv); percentages are of the people in cells, without 3 residents outside them" in report
+
+
+def test_windows_count_people_outside_all_cells(place: Place) -> None:  # noqa: F811
+    path = with_three_far_away(place)
+    windows = (
+        'windows = [{ name = "one", from = "08:00", to = "08:04" }, { name = "two", from = "08:30", to = "08:34" }]\n'
+    )
+    place.say((place.folder / "nine.toml").read_text().replace('from = "08:00"\nto = "08:04"\n', windows))
+    _, errors, status = place.ran("study", path)
+    assert status == 0, errors
+    assert {line["people"] for line in read(Path(place.path("nine/windows/equity.csv")).read_text())} == {"10"}
+    assert {line["people"] for line in read(Path(place.path("nine/windows/equity_nearest.csv")).read_text())} == {"10"}
 
 
 def test_cells_are_the_end_that_no_file_names(place: Place) -> None:  # noqa: F811

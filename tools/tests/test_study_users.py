@@ -5,7 +5,8 @@ from pathlib import Path
 
 import pytest
 
-from test_study import STUDY, Place, bare, place  # noqa: F401
+from helpers import read
+from test_study import NO_MAPS, STUDY, Place, bare, place  # noqa: F401
 from ttm_tools.matrices import open_matrix
 from ttm_tools.study.report import texts_apart
 from ttm_tools.study.study_file import read_study
@@ -70,6 +71,21 @@ def test_people_at_points_that_are_left_out_are_told(place: Place) -> None:  # n
     place.say(study + '[opportunities]\npeople = "people.csv"\n')
     _, errors, status = place.ran("study", path)
     assert status == 0 and "not counted, at points that are left out: 4 residents" in errors
+
+
+def test_people_who_live_at_no_origin_are_reported_and_not_counted(place: Place) -> None:  # noqa: F811
+    path = place.lay_out(NO_MAPS)
+    rows = [[f"S{n}", 1] for n in range(9)]
+    place.write("people.csv", "stop_id,residents", [*rows, ["X1", 5], ["X2", 2.5]])
+    _, errors, status = place.ran("study", path)
+    sentence = "people.csv: not counted, at 2 places that are no origin of the study (X1, X2): 7.5 residents"
+    assert status == 0 and sentence in errors, errors
+    (warnings,) = [line for line in report_of(place).splitlines() if line.startswith("Warnings: ")]
+    assert sentence in warnings
+    assert {line["people"] for line in read((place.folder / "nine/equity.csv").read_text())} == {"9"}
+    place.write("people.csv", "stop_id,residents", [["X1", 5], ["X2", 2.5]])
+    _, errors, status = place.ran("study", path)
+    assert status == 1 and "people.csv: record 2: no origin of the study is called X1" in errors
 
 
 def test_points_without_a_stop_in_reach_are_a_warning_of_the_report(place: Place) -> None:  # noqa: F811

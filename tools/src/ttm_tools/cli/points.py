@@ -97,5 +97,6 @@ def grid_of(args: argparse.Namespace, pace: "Pace") -> "tuple[Points, list[str]]
 
     stops = read_stops(args.feed)
     cells = grid.grid_over(args.area, args.grid) if args.area else grid.grid_near(stops, args.grid, pace.metres)
-    points, sentences = grid.filled(cells, args.people)
-    return points, [f"{quantity(len(points.identifiers), 'cell')} of {args.grid:g} metres", *sentences]
+    filled = grid.filled(cells, args.people)
+    count = f"{quantity(len(filled.points.identifiers), 'cell')} of {args.grid:g} metres"
+    return filled.points, [count, *filled.sentences]

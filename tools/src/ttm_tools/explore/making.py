@@ -44,7 +44,7 @@ def with_walks(options: ExploreOptions, room: Path) -> tuple[ExploreOptions, lis
 def with_cells(options: ExploreOptions, room: Path, side: float) -> tuple[ExploreOptions, list[str]]:
     """A feed whose stops include the cells from whose middle one walks to a stop, and walks between all of them."""
     pace, folder = Pace(options.walk), room / CELLS
-    cells, _ = grid.filled(grid.grid_near(read_stops(options.feed), side, pace.metres), [])
+    cells = grid.filled(grid.grid_near(read_stops(options.feed), side, pace.metres), []).points
 
     def walker(stops: Stops, first: int | None) -> Walks:
         return walks_of(stops, pace, options.streets, NEAR, first)

@@ -22,6 +22,7 @@ from .table import AREAS, Points, plain, read_points
 MOST_CELLS = 65_535  # stops and points that `ttm` takes
 MOST_TRIED = 2_000_000  # squares of a bounding box
 OUTSIDE = "outside all cells"
+LEAST_OUTSIDE = 1e-6  # of a column's total; less is due to rounding
 PATH = "grid"  # what faults name in place of a file
 Squares = npt.NDArray[np.int64]
 
@@ -55,6 +56,15 @@ class Grid:
         widths = np.full(len(self.squares), self.side * 1000)
         longitudes, latitudes = (degrees.round(7) for degrees in self.projection.degrees(east, north))
         return Points(PATH, names, names, latitudes, longitudes, widths, columns, numbers)
+
+
+@dataclass(frozen=True)
+class FilledCells:
+    """The cells of a grid with the numbers of some files."""
+
+    points: Points
+    outside: dict[str, float]  # by column, how much of it lies outside all cells
+    sentences: list[str]  # on this, and on what was repaired
 
 
 def grid_near(stops: Stops, side: float, metres: float) -> Grid:
@@ -133,9 +143,10 @@ def refuse_cells(count: int) -> None:
         raise BadInput(PATH, f"more than {MOST_CELLS:,} cells, which is more than ttm takes: use larger cells")
 
 
-def filled(grid: Grid, paths: Sequence[str]) -> tuple[Points, list[str]]:
-    """The cells with the numbers of some files, and what is reported of numbers outside of all cells."""
+def filled(grid: Grid, paths: Sequence[str]) -> FilledCells:
+    """Sums the numbers of some files by cell."""
     columns, found, sentences = list[str](), [np.zeros((len(grid.squares), 0))], list(grid.notes)
+    outside = dict[str, float]()
     for path in paths:
         frame = read_features(path) if Path(path).suffix.lower() in AREAS else None
         if frame is not None and any(frame.geom_type.isin(POLYGONS)):
@@ -148,8 +159,11 @@ def filled(grid: Grid, paths: Sequence[str]) -> tuple[Points, list[str]]:
             raise BadInput(path, f"a column {shown(twice)} is in another file too")
         columns += names
         found.append(numbers)
-        sentences += sentences_on_outside(path, names, totals - numbers.sum(axis=0), totals)
-    return grid.points(columns, np.concatenate(found, axis=1)), sentences
+        lost = totals - numbers.sum(axis=0)
+        lost[lost <= LEAST_OUTSIDE * np.maximum(totals, 1)] = 0
+        outside |= dict(zip(names, lost.tolist()))
+        sentences += sentences_on_outside(path, names, lost, totals)
+    return FilledCells(grid.points(columns, np.concatenate(found, axis=1)), outside, sentences)
 
 
 def sentences_on_outside(path: str, names: Sequence[str], lost: Floats, totals: Floats) -> list[str]:
@@ -157,7 +171,7 @@ def sentences_on_outside(path: str, names: Sequence[str], lost: Floats, totals: 
     return [
         f"{path}: {plain(round(outside, 3))} of {plain(round(total, 3))} {shown(name)} are {OUTSIDE}"
         for name, outside, total in zip(names, lost.tolist(), totals.tolist())
-        if outside > 1e-6 * max(total, 1)
+        if outside
     ]
 
 

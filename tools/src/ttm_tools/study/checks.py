@@ -13,7 +13,7 @@ from ..prepare.check import check
 from ..prepare.losses import Hints, refuse_day
 from ..gtfs.feeds import read_feed
 from ..records import rows, shown
-from .counted import refuse_unknown
+from .counted import refuse_unknown, unknown_in
 from .stages import room
 from .settings import Study
 
@@ -40,7 +40,7 @@ def check_points(study: Study) -> None:
         check_names(study.at(path), names, OF_STUDY)
     origins = names_of({path: read[path].identifiers for path in (*settings.files, *settings.origins)})
     if study.opportunities.people:
-        check_names(study.at(study.opportunities.people), origins, OF_ORIGINS)
+        check_people(study.at(study.opportunities.people), origins, OF_ORIGINS)
     if study.results.maps or study.results.page:
         check_shown(study, origins, "map_origins")
 
@@ -55,7 +55,7 @@ def check_stops(study: Study, feed: str) -> None:
     if named is not None:
         check_origins(named, stops)
     if study.opportunities.people:
-        check_names(study.at(study.opportunities.people), origins, "origin of the study")
+        check_people(study.at(study.opportunities.people), origins, "origin of the study")
     if study.results.maps or study.results.page:
         check_shown(study, origins, "map_origins")
 
@@ -98,6 +98,11 @@ def check_columns(study: Study, own: Sequence[str]) -> None:
 def check_names(path: str, known: Collection[str], kind: str) -> None:
     """Refuses the first record that names what isn't known, or has no number."""
     numbers_of(path, columns_of(path), {name: place for place, name in enumerate(known)}, kind)
+
+
+def check_people(path: str, origins: Collection[str], kind: str) -> None:
+    """Refuses a file of people none of whom live at an origin, or the first record that has no number."""
+    check_names(path, [*origins, *unknown_in(path, origins)], kind)
 
 
 def check_origins(path: str, stops: Collection[str]) -> None:

@@ -5,14 +5,14 @@ those where they begin.
 import os
 from decimal import Decimal
 from pathlib import Path
-from typing import Sequence
+from typing import Collection, Sequence
 
 import numpy as np
 
-from ..faults import BadInput, quantity
+from ..faults import BadInput, quantity, some
 from ..files import sum_of
 from ..gtfs.fields import Floats
-from ..measures.opportunities import OWN_NAME, Counts, called, columns_of, read_counts
+from ..measures.opportunities import OWN_NAME, Counts, called, columns_of, identifier_of, read_counts
 from ..parts import origins_in
 from ..points import read_points
 from ..points.table import plain
@@ -109,16 +109,33 @@ def counts_stage(
     return Sources(study.at, study.opportunities.files).stage("counted", facts, [COUNTED], make)
 
 
+def unknown_in(path: str, known: Collection[str]) -> list[str]:
+    """Returns the places that a file of people names and that are not known.
+
+    Returns none of them if the file names no other, since then it is a file for another study: `read_counts` refuses
+    its first record.
+    """
+    named = [place for _, (place,) in table_rows(path, [identifier_of(path)])]
+    unknown = [place for place in named if place not in known]
+    return unknown if len(unknown) < len(named) else []
+
+
 def people_stage(study: Study, origins: Record, path: str) -> Stage:
+    """How many people live at each origin; those who live elsewhere are reported, and not counted."""
     groups = study.opportunities.groups
 
     def make() -> list[str]:
         names = origins_in(str(study.folder / ORIGINS))
-        every = list(dict.fromkeys([*names, *all_points(study)]))
-        whole = read_counts([path], every, "origin of the study", groups)
-        counts = at(every, names, whole)
+        known = list(dict.fromkeys([*names, *all_points(study)]))
+        unknown = unknown_in(path, set(known))
+        whole = read_counts([path], [*known, *unknown], "origin of the study", groups)
+        found, counts = at([*known, *unknown], known, whole), at([*known, *unknown], names, whole)
         write_counts(study.folder / PEOPLE, names, counts)
-        lost = sentences_on_lost(whole, counts, f"{NOT_COUNTED} points that are left out")
+        lost = sentences_on_lost(found, counts, f"{NOT_COUNTED} points that are left out")
+        if unknown:
+            places = f"{quantity(len(unknown), 'place')} that {'is' if len(unknown) == 1 else 'are'} no origin"
+            which = f"{places} of the study ({some([*map(shown, unknown)])})"
+            lost += sentences_on_lost(whole, found, f"{Path(path).name}: {NOT_COUNTED} {which}")
         return [f"{PEOPLE}: {', '.join(map(shown, counts.names))} at {quantity(len(names), 'origin')}", *lost]
 
     facts = {"origins": origins.outputs, "groups": groups}

@@ -13,6 +13,7 @@ from ..records import records as records_in, shown
 from .counted import NOT_COUNTED
 from .document import Document
 from .maps import AREAS, maps_of
+from .outside import sentence_on_outside
 from .page import PAGE
 from .results import ACCESS_TABLE, Records, StudyMatrix
 from .stages import Stage
@@ -116,8 +117,8 @@ def write_figures(document: Document, whole: StudyMatrix, records: Records) -> N
     for name, caption in OF_PEOPLE.items():
         if name in records:
             header, *lines = [list(map(shown, fields)) for _, fields in records_in(whole.at(f"{name}.csv"))]
-            where = "in cells" if study.points.grid is not None and not study.points.origins else "at the origins"
-            of = f"; percentages are of the people {where}" if "percent" in header else ""
+            people = sentence_on_outside(study)
+            of = f"; percentages are {people}" if "percent" in header else f"; measures are {people}" * ("," in people)
             document.table(f"{caption} ({name}.csv){of}", list(map(as_phrase, header)), lines)
             for path in (output for output in records[name].outputs if output.endswith(".png")):
                 document.picture(path, f"{caption}: {shown(Path(path).stem)}")

@@ -24,6 +24,7 @@ from ..views.differences import summary, write_origins, write_pairs
 from .counted import COUNTED, PEOPLE
 from .inputs import Inputs
 from .joining import MATRIX
+from .outside import with_outside
 from .stages import Record, Stage
 from .settings import Study
 
@@ -169,15 +170,17 @@ def stages_of_people(whole: StudyMatrix, table: Record | None, end: str, limits:
     if table is None or "people" not in whole.inputs.records:
         return []
     (path,) = table.outputs
-    depends = {"access": table.outputs, "people": whole.inputs.outputs_of("people")}
+    own, grid = (whole.inputs.outputs_of(stage) for stage in ("people", "grid"))
+    depends = {"access": table.outputs, "people": own, "grid": grid}
     stages = [equity_stage(whole, path, end, depends)]
     return [*stages, bands_stage(whole, path, f"bands{end}", limits, depends)] if limits else stages
 
 
 def read_people(whole: StudyMatrix, path: str) -> tuple[AccessTable, Counts]:
-    """A table by origin, and who lives there."""
+    """A table by origin, and who lives there; also those who live outside all cells, if the study counts them."""
     table = read_access(whole.at(path))
-    return table, read_counts([whole.at(PEOPLE)], table.origins, f"origin of {path}")
+    people = read_counts([whole.at(PEOPLE)], table.origins, f"origin of {path}")
+    return with_outside(whole.study, table, people)
 
 
 def equity_stage(whole: StudyMatrix, path: str, end: str, depends: dict[str, Any]) -> Stage:

@@ -7,6 +7,7 @@ from ..faults import quantity
 from ..gtfs.stops import read_stops
 from ..plans.nearness import sentences_on_nearer
 from ..points import grid as grids, read_points, study as points
+from ..points.table import plain
 from ..records import write_rows
 from ..walks import Pace, footpaths_of, walks_of
 from .sources import Sources
@@ -17,6 +18,7 @@ if TYPE_CHECKING:
     from .inputs import Maker
 
 POINTS, FOOTPATHS, GRID = "inputs/points", "inputs/footpaths.csv", "inputs/grid.csv"
+OUTSIDE, OUTSIDE_COLUMNS = "inputs/outside.csv", ("column", "outside")  # sums of what lies in no cell
 
 
 def walks_stage(maker: "Maker") -> Stage:
@@ -88,11 +90,14 @@ def grid_stage(study: Study, feed: str, stops_sum: str | None) -> Stage:
     def make() -> list[str]:
         area = study.at(settings.grid_area) if settings.grid_area else None
         cells = grids.grid_over(area, width) if area else grids.grid_near(read_stops(feed), width, pace.metres)
-        filled, sentences = grids.filled(cells, [study.at(path) for path in settings.grid_people])
+        filled = grids.filled(cells, [study.at(path) for path in settings.grid_people])
+        found = filled.points
         with open(study.folder / GRID, "wb") as file:
-            write_rows(file, ["id", "name", "lat", "lon", "width", *filled.columns], points.point_lines(filled))
-        return [f"{GRID}: {quantity(len(filled.identifiers), 'cell')} of {width:g} metres", *sentences]
+            write_rows(file, ["id", "name", "lat", "lon", "width", *found.columns], points.point_lines(found))
+        with open(study.folder / OUTSIDE, "wb") as file:
+            write_rows(file, OUTSIDE_COLUMNS, ([name, plain(number)] for name, number in filled.outside.items()))
+        return [f"{GRID}: {quantity(len(found.identifiers), 'cell')} of {width:g} metres", *filled.sentences]
 
     has_area = settings.grid_area is not None
     facts = {"stops": stops_sum, "width": width, "metres": pace.metres, "area": has_area}
-    return Sources(study.at, [settings.grid_area, *settings.grid_people]).stage("grid", facts, [GRID], make)
+    return Sources(study.at, [settings.grid_area, *settings.grid_people]).stage("grid", facts, [GRID, OUTSIDE], make)

@@ -20,6 +20,7 @@ from ..views.windows import WindowColumn, FigureLabels, figure_by_time, figure_o
 from .counted import COUNTED, PEOPLE
 from .document import Document
 from .joining import MATRIX
+from .outside import with_outside
 from .results import LOSE, POINTS, STOPS, Measurement, Records, StudyMatrix, measurements_of
 from .stages import Stage
 from .window_changes import changes_of, fields_of, write_changes
@@ -67,14 +68,14 @@ def tables_stage(whole: StudyMatrix, of: Measurement) -> Stage:
             write_spread(file, tables, whole)
         for path in compared:
             with output(whole.at(path)) as file:
-                people = people_of(whole, next(iter(tables.values())).origins)
-                write_changes(file, list(changes_of(tables, whole.inputs.base, people)), people.names)
+                wide, people = with_people(whole, tables)
+                write_changes(file, list(changes_of(wide, whole.inputs.base, people)), people.names)
         for _ in pictures:
             draw_all(whole, tables)
         return [f"{', '.join([by_origin, by_people, *compared, *pictures])}: {len(tables)} windows"]
 
     options = [*of.options, study.results.unit, [question.label for question in study.questions]]
-    sums = [whole.inputs.outputs_of("counted"), whole.inputs.outputs_of("people")]
+    sums = [whole.inputs.outputs_of(stage) for stage in ("counted", "people", "grid")]
     facts: dict[str, Any] = {**whole.depends, "words": options, "windows": whole.windows, "sums": sums}
     return Stage(f"windows_{of.kind}", facts, [by_origin, by_people, *compared, *pictures], make)
 
@@ -109,12 +110,22 @@ def people_of(whole: StudyMatrix, origins: Sequence[str]) -> Counts:
     return Counts([EACH], np.ones((len(origins), 1)))
 
 
+def with_people(
+    whole: StudyMatrix, tables: dict[DayWindow, AccessTable]
+) -> tuple[dict[DayWindow, AccessTable], Counts]:
+    """Adds the people outside all cells to the tables, if the study counts them; and returns all its people."""
+    people = people_of(whole, next(iter(tables.values())).origins)
+    found = {question: with_outside(whole.study, table, people) for question, table in tables.items()}
+    return {question: table for question, (table, _) in found.items()}, next(iter(found.values()))[1]
+
+
 def write_spread(out: BinaryIO, tables: dict[DayWindow, AccessTable], whole: StudyMatrix) -> None:
     """How what is measured is spread over people, window by window."""
     lines, header = list[list[object]](), list[str]()
-    for question, table in tables.items():
+    wide, people = with_people(whole, tables)
+    for question, table in wide.items():
         options = equity.EquityOptions(whole.inputs.base, LOSE, table.kinds)
-        header, *rows = equity.rows_of(equity.measured(table, people_of(whole, table.origins), options))
+        header, *rows = equity.rows_of(equity.measured(table, people, options))
         lines += [[*question.head, *row] for row in rows]
     write_rows(out, [*HEADS, *header], lines)
 
@@ -140,23 +151,28 @@ def pictures_of(whole: StudyMatrix) -> dict[str, list[str]]:
 def draw_all(whole: StudyMatrix, tables: dict[DayWindow, AccessTable]) -> None:
     """Draws the pictures of each thing that is counted."""
     first = next(iter(tables.values()))
-    people = people_of(whole, first.origins)
+    wide, people = with_people(whole, tables)
     places, base = POINTS if whole.study.points.all else STOPS, first.scenario(whole.inputs.base)
     _, stops = whole.open()
     with many_written_aside(whole.at(PICTURES)) as folder:
         for name, paths in pictures_of(whole).items():
             kind = whole.kind_drawn(first.kinds, name)
             number = first.kinds.index(kind)
-            columns = [WindowColumn(*question.head, table.numbers[:, number]) for question, table in tables.items()]
+            columns, of_people = (columns_drawn(own, number) for own in (tables, wide))
             scenario = whole.inputs.base if len(first.scenarios) > 1 else ""
             labels = FigureLabels(kind.label, shown(name), places, shown(scenario))
             figures = [
-                figure_by_time(columns, first.scenarios, people, labels),
+                figure_by_time(of_people, first.scenarios, people, labels),
                 figure_of_heat(columns, base, labels),
                 figure_of_maps(columns, base, stops.of(first.origins), labels),
             ]
             for path, figure in zip(paths, figures):
                 write_picture(str(folder / Path(path).name), figure)
+
+
+def columns_drawn(tables: dict[DayWindow, AccessTable], kind: int) -> list[WindowColumn]:
+    """The numbers of one kind of access in each window."""
+    return [WindowColumn(*question.head, table.numbers[:, kind]) for question, table in tables.items()]
 
 
 def write_changes_by_window(document: Document, whole: StudyMatrix, records: Records, scenario: str) -> None:
