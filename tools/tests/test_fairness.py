@@ -52,7 +52,7 @@ def test_concentration_by_hand(small: Town) -> None:
     assert (row["people"], row["concentration"]) == ("400", "-0.05")
     lost = small.write("some.csv", "stop_id,income", [["A", 1]])
     arguments = ["equity", small.path("access.csv"), "--people", small.path("all.csv"), "--measure", "concentration"]
-    message = f"{lost}: ranks are missing for 2 origins of {small.path('access.csv')}: B, C"
+    message = f"{lost}: no ranks for 2 origins of {small.path('access.csv')}: B, C"
     small.refused(message, *arguments, "--rank", lost)
 
 

@@ -57,8 +57,8 @@ def test_parts_in_any_order_give_the_bytes_of_the_whole(room: Room) -> None:
 
 
 def test_a_missing_part_is_named(room: Room) -> None:
-    refused(parts(room, ORIGINS[:3], ORIGINS[5:]), "origins.csv: 2 origins are in no part: D and 1 more")
-    refused(parts(room, ORIGINS[:3], ORIGINS[4:]), "origins.csv: 1 origins are in no part: D")
+    refused(parts(room, ORIGINS[:3], ORIGINS[5:]), "origins.csv: 2 origins in no part: D and 1 more")
+    refused(parts(room, ORIGINS[:3], ORIGINS[4:]), "origins.csv: 1 origin in no part: D")
 
 
 def test_a_doubled_part_is_named(room: Room) -> None:

@@ -109,7 +109,7 @@ def test_what_is_likely_not_meant(feed: Room) -> None:
             "runs on Mondays 7 (medians)",
             "stop_times.txt: 1 trip with a single stop",
             "stop_times.txt: 1 call reached at over 300 km/h; the fastest, record 4, at 4,331",
-            "transfers.txt: 1 of 1 rows aren't used (with a type above 2, for a route or trip, or without a time)",
+            "transfers.txt: 1 of 1 row isn't used (with a type above 2, for a route or trip, or without a time)",
         ],
         0,
     )

@@ -127,6 +127,28 @@ def test_polygons_and_any_projection_are_taken_and_places_without_a_geometry_are
     assert result.values.tolist()[0] == ["home", "here", 41] and minutes(result) == [41, None]
 
 
+def warnings_of(network: r5py.TransportNetwork, origins: Any, departure: datetime.datetime) -> list[str]:
+    """What Python is warned of by a matrix to the clinic."""
+    with warnings.catch_warnings(record=True) as caught:
+        warnings.simplefilter("always")
+        r5py.TravelTimeMatrix(network, origins, frame([CLINIC], [7]), departure=departure, **QUARTER)
+    return [str(item.message) for item in caught]
+
+
+def test_places_without_a_stop_in_reach_are_a_warning(network: r5py.TransportNetwork) -> None:
+    # the middle is 1,000 metres from both A and B, and one walks 900
+    both = frame([HOME, (0.0, 1000.0)], ["home", "middle"])
+    wanted = ["origins: 1 place without a stop in reach: middle"]
+    assert warnings_of(network, both, SEVEN_45) == wanted
+    assert warnings_of(network, both, SEVEN_45) == wanted  # the second time walks are in the cache
+    assert warnings_of(network, frame([HOME], ["home"]), SEVEN_45) == []
+
+
+def test_a_date_without_trips_is_a_warning(network: r5py.TransportNetwork) -> None:
+    (sentence,) = warnings_of(network, frame([HOME], ["home"]), datetime.datetime(2027, 1, 1, 7, 45))
+    assert sentence.startswith("no trip runs on the date itself")
+
+
 def test_walking_alone_takes_the_streets(walking: r5py.TransportNetwork) -> None:
     places = frame([HOME, (0.0, 0.0), (-30.0, 2000.0), CLINIC], ["home", "A", "B", "clinic"])
     result = r5py.TravelTimeMatrix(walking, places, transport_modes=WALK, departure=SEVEN_45)

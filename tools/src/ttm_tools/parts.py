@@ -8,7 +8,7 @@ from dataclasses import dataclass, field
 from pathlib import Path
 from typing import BinaryIO, Iterator, Sequence, TypeVar
 
-from .faults import BadInput, some
+from .faults import BadInput, quantity, some
 from .gtfs.stops import in_folder, kind_of
 from .files import many_written_aside
 from .matrices.layout import MatrixLayout, layout_of
@@ -146,7 +146,7 @@ def in_order(parts: Sequence[PartMatrix], origins: Sequence[str], origins_file: 
             holder[origin] = part.path
     lost = [shown(origin) for origin in origins if origin not in holder]
     if lost:
-        raise BadInput(origins_file, f"{len(lost)} origins are in no part: {some(lost, 1)}")
+        raise BadInput(origins_file, f"{quantity(len(lost), 'origin')} in no part: {some(lost, 1)}")
     ordered = sorted(parts, key=lambda part: place[part.first[0]] if part.first else -1)
     if [origin for part in ordered for origin in part.first] != list(origins):
         raise BadInput(origins_file, "the parts aren't consecutive origins of the study")

@@ -1,7 +1,7 @@
 import argparse
 from typing import TYPE_CHECKING, Sequence
 
-from ..faults import BadInput, WrongWords, needs, say, some
+from ..faults import BadInput, WrongWords, needs, quantity, say, some
 from ..files import output
 from ..picture_files import write_picture
 from ..measures.measure_list import FAIRNESS
@@ -99,7 +99,7 @@ def further(args: argparse.Namespace, table: "AccessTable", people: "Counts", ki
         named = {name for _, (name,) in rows(args.rank, [identifier_of(args.rank)])}
         lost = [shown(name) for name in table.origins if name not in named]
         if lost:
-            raise BadInput(args.rank, f"ranks are missing for {len(lost):,} origins of {args.access}: {some(lost)}")
+            raise BadInput(args.rank, f"no ranks for {quantity(len(lost), 'origin')} of {args.access}: {some(lost)}")
     with output(args.out) as file:
         lines = lines_of(table, people, FairnessOptions(args.measure, kinds, rank, args.line))
         write_fairness(file, lines, args.measure, args.form)

@@ -9,7 +9,7 @@ from typing import BinaryIO
 import numpy as np
 
 from .. import progress
-from ..faults import BadInput
+from ..faults import BadInput, quantity
 from ..opening.paths import as_one_line, regular
 from ..records import refuse_alike, shown
 from .layout import MatrixLayout, layout_of
@@ -98,7 +98,7 @@ class CsvMatrix(Matrix):
         heads, first = head_of(line, layout.first_cell)
         count = len(heads) + count_of_fields(line, first)
         if count != layout.width:
-            raise BadInput(self.path, f"{count} fields, and the header has {layout.width}", record=number)
+            raise BadInput(self.path, f"{quantity(count, 'field')}, and the header has {layout.width}", record=number)
         numbers = [self.number(number, name, text) for name, text in zip(layout.heads[2:], heads[2:])]
         share = numbers.pop(0) if layout.names_share else None
         index = self.index.setdefault((heads[0], share), Index())

@@ -8,7 +8,7 @@ from typing import Collection, Iterator, Sequence
 import numpy as np
 import numpy.typing as npt
 
-from ..faults import BadInput, some
+from ..faults import BadInput, quantity, some
 from ..opening.kinds import near
 from ..records import shown
 from .layout import MatrixLayout
@@ -223,7 +223,8 @@ def has_all(matrix: Matrix, origins: Sequence[str], file: str) -> None:
                 there = set(found)
                 lost = [shown(origin) for origin in origins if origin not in there]
                 what = f"scenario {shown(scenario)}" if share is None else f"scenario {shown(scenario)}, share {share}"
-                message = f"lacks {len(lost):,} of {len(origins):,} origins of {file}: {some(lost)}" if lost else None
+                of = f"{len(lost):,} of {quantity(len(origins), 'origin')} of {file}"
+                message = f"lacks {of}: {some(lost)}" if lost else None
                 raise BadInput(matrix.path, f"{what}: {message or f'other origins than {file}'}")
 
 

@@ -9,7 +9,7 @@ from typing import Iterator, Sequence
 import numpy as np
 
 from ..column_list import ACCESS, NEAREST, names_of
-from ..faults import BadInput, some
+from ..faults import BadInput, quantity, some
 from ..gtfs.fields import Floats
 from ..matrices import BASE, TODAY
 from ..matrices.matrix import LEFT_OUT, sentences_on_lacking
@@ -155,4 +155,5 @@ def tell_gaps(table: AccessTable) -> None:
     for scenario, kind in np.argwhere(gaps.any(axis=2))[:1].tolist():
         lost = [shown(table.origins[place]) for place in np.flatnonzero(gaps[scenario, kind]).tolist()]
         what = f"{table.label_of(table.kinds[kind])}, {shown(table.scenarios[scenario])}"
-        raise BadInput(table.path, f"{what} lacks {len(lost):,} of {len(table.origins):,} origins: {some(lost)}")
+        of = f"{len(lost):,} of {quantity(len(table.origins), 'origin')}"
+        raise BadInput(table.path, f"{what} lacks {of}: {some(lost)}")

@@ -42,7 +42,8 @@ def sentences(feed: Feed, with_days: bool = True) -> Iterator[str]:
     unused = int((~used_transfers(table)).sum())
     if unused:
         why = "with a type above 2, for a route or trip, or without a time"
-        yield f"transfers.txt: {unused:,} of {len(table):,} rows aren't used ({why})"
+        of = f"{unused:,} of {quantity(len(table), 'row')} {'is' if unused == 1 else 'are'}n't used"
+        yield f"transfers.txt: {of} ({why})"
 
 
 def unclosed(feed: Feed) -> Iterator[str]:

@@ -7,7 +7,7 @@ from typing import Iterator, Mapping, Sequence
 
 import numpy as np
 
-from ..faults import BadInput
+from ..faults import BadInput, quantity
 from ..gtfs.feeds import Feed
 from ..gtfs.fields import FILES
 from ..gtfs.service_days import days_of, on_days, runs_by_day, runs_of_trips
@@ -50,7 +50,7 @@ def losses(before: Mapping[str, int], changes: Sequence[Repaired], feed: Feed) -
     files = ["trips.txt" if it.done.startswith("trip ") else it.file.rpartition("/")[2] for it in lost]
     for (rule, name), count in Counter(zip((change.rule for change in lost), files)).items():
         if count > max(MOST_LOST * before[name], FEW_LOST.get(name, 0)):
-            yield f"rule {rule} removes {count:,} of {before[name]:,} records of {name}"
+            yield f"rule {rule} removes {count:,} of {quantity(before[name], 'record')} of {name}"
     for name in NEEDED:
         if not len(feed.get(name)):
             yield f"{name} has no records"

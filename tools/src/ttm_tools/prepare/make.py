@@ -82,7 +82,8 @@ def make(options: PrepareOptions, room: Path) -> list[str]:
         with open(folder / PREPARED, "wb") as file:
             write_rows(file, names_of(REPAIRS), [change.row() for change in changes])
     stops, trips, calls = (len(feed.get(name)) for name in ("stops.txt", "trips.txt", "stop_times.txt"))
-    counts = f"{stops:,} stops and stations, {quantity(trips, 'trip')}, {quantity(calls, 'stop time')}"
+    kinds = "stop" if stops == 1 else "stops and stations"
+    counts = f"{stops:,} {kinds}, {quantity(trips, 'trip')}, {quantity(calls, 'stop time')}"
     return [*lines, *run_lines(feed, options.clip.days), f"{options.out}: {counts}"]
 
 

@@ -2,6 +2,7 @@
 
 import contextlib
 import datetime
+import warnings
 from dataclasses import dataclass, replace
 from functools import cached_property, partial
 from pathlib import Path
@@ -10,9 +11,10 @@ from typing import Iterator, Sequence
 import numpy as np
 import numpy.typing as npt
 
+from ..faults import quantity, some
 from ..files import remove
 from ..points import study
-from ..records import rows
+from ..records import rows, shown, write_rows
 from ..threads import processors
 from ..walks import points_of
 from ..walks.counting import TooManyWalks
@@ -28,6 +30,7 @@ from .task import NEAR, RegionalTask
 
 Seconds = npt.NDArray[np.float64]  # NaN where a place isn't reached
 MOST_WORKERS = 64
+BEGINS, ENDS, UNREACHED_FILE = "origins.csv", "destinations.csv", "unreached.csv"
 
 
 @dataclass(frozen=True)
@@ -41,7 +44,12 @@ class Doors:
     @cached_property
     def ends(self) -> tuple[Sequence[str], Sequence[str]]:
         """The stops that are origins, and those that are destinations."""
-        return stops_in(self.folder / "origins.csv"), stops_in(self.folder / "destinations.csv")
+        return stops_in(self.folder / BEGINS), stops_in(self.folder / ENDS)
+
+    def unreached(self, file: str) -> list[int]:
+        """The positions of the origins, or of the destinations, that have no stop in reach."""
+        noted = rows(self.folder / UNREACHED_FILE, ["file", "place"])
+        return [int(place) for _, (own, place) in noted if own == file]
 
     @cached_property
     def direct(self) -> Seconds | None:
@@ -95,8 +103,8 @@ def ridden(
         task.times.window,
         trips=task.rides,
         shares=sorted(set(task.percentiles)),
-        origins=doors.folder / "origins.csv",
-        destinations=doors.folder / "destinations.csv",
+        origins=doors.folder / BEGINS,
+        destinations=doors.folder / ENDS,
         workers=min(processors(), MOST_WORKERS),
     )
     named = {name: place for place, name in enumerate(answer.origins)}
@@ -110,17 +118,28 @@ def ridden(
 def doors_of(
     network: TransportNetwork, task: RegionalTask, feed: Prepared, origins: FramePlaces, destinations: FramePlaces
 ) -> Doors:
-    """The folder of these places, made once."""
+    """The folder of these places, made once. A warning names the places without a stop in reach."""
     files = [origins] if origins is destinations else [origins, destinations]
     pace, merges = task.pace(), task.max_time_walking >= task.max_time
-    key = key_of("doors", feed.key, network.streets_key, pace, merges, NEAR, *[places.content() for places in files])
+    key = key_of(
+        "doors and places out of reach",
+        feed.key,
+        network.streets_key,
+        pace,
+        merges,
+        NEAR,
+        *[places.content() for places in files],
+    )
 
     def make(folder: Path) -> None:
         walks = LongWalks(feed.folder, [places.points() for places in files], network.streets, pace, NEAR)
         with named_limits(task, files[-1]):
             write_doors(folder / "doors", walks, merges)
+        write_unreached(folder / "doors")
 
     doors = Doors(kept("doors", key, make) / "doors", key, int(pace.limit))
+    for places, file in zip(files, (BEGINS, ENDS)):
+        warn_of_unreached(places, doors.unreached(file))
     return doors if doors.direct is None else replace(doors, walk=LONGEST)
 
 
@@ -142,6 +161,31 @@ def write_whole(folder: Path, walks: LongWalks) -> None:
     limit, only = int(walks.pace.limit), None if count == 1 else walks.endpoints
     options = study.PointsOptions(walks.feed, str(folder), walks.files, begins, ends, limit, False, walks.near)
     study.make(options, lambda stops, first: street_walks(stops, walks.pace, walks.streets, walks.near, first, only))
+
+
+def write_unreached(folder: Path) -> None:
+    """Notes the origins from which no walk leads to a stop, and the destinations to which none leads from a stop."""
+    import pandas
+
+    ends = [stops_in(folder / name) for name in (BEGINS, ENDS)]
+    columns = ["from_stop_id", "to_stop_id"]
+    walks = pandas.read_csv(folder / study.FOOTPATHS, usecols=columns, dtype=str, keep_default_na=False)
+    is_place = [walks[column].isin({*ends[0], *ends[1]}) for column in columns]
+    noted = list[tuple[str, int]]()
+    for file, own, column, is_other_place in zip((BEGINS, ENDS), ends, columns, reversed(is_place)):
+        reached = set(walks[column][~is_other_place])
+        noted += [(file, place) for place, name in enumerate(own) if name not in reached]
+    with open(folder / UNREACHED_FILE, "wb") as out:
+        write_rows(out, ["file", "place"], noted)
+
+
+def warn_of_unreached(places: FramePlaces, unreached: Sequence[int]) -> None:
+    """Warns of the places of a frame without a stop in reach, by their positions among those that lie anywhere."""
+    if not unreached or places.name == GRID:
+        return
+    names = [shown(str(places.identifiers[place])) for place in places.placed[list(unreached)].tolist()]
+    count = quantity(len(names), "place")
+    warnings.warn(f"{places.name}: {count} {study.UNREACHED}: {some(names)}", stacklevel=6)
 
 
 @contextlib.contextmanager

@@ -242,7 +242,7 @@ def taken(path: str, study: Path) -> list[str]:
     with many_written_aside(study / FEED) as folder:
         for file in files:
             copy_file(inside(Path(path), file), folder / file.name)
-    return [f"{FEED}: {len(files)} files, unchanged"]
+    return [f"{FEED}: {quantity(len(files), 'file')}, unchanged"]
 
 
 def plan_stage(maker: Maker) -> Stage:

@@ -181,5 +181,5 @@ def refuse_failed(failed: Sequence[Failed], parts: int) -> None:
     """Ends a study some of whose parts have no matrix."""
     if failed:
         first = failed[0]
-        message = f"{len(failed):,} of {parts:,} parts have no matrix; the same command retries them"
+        message = f"{len(failed):,} of {quantity(parts, 'part')} have no matrix; the same command retries them"
         raise BadInput(first.part.folder, f"{first.message} ({message})")

@@ -10,7 +10,7 @@ from typing import Any, Iterator, Sequence
 import numpy as np
 
 from ..engine import Run, run as run_ttm
-from ..faults import BadInput, say, some
+from ..faults import BadInput, quantity, say, some
 from ..files import sum_of
 from ..matrices import Matrix, open_matrix
 from ..matrices.csv_matrix import CsvMatrix
@@ -66,7 +66,8 @@ def verify_rows(study: Folder, notes: dict[str, Any], runs: dict[str, Run], seed
     few_at_once = parts_of(drawn, -(-count * notes["parts"] // len(origins)))
     for (name, run), few in itertools.product(runs.items(), few_at_once):
         compare_again(study, run, few, matrices[name], notes.get("shown_as") or {})
-    say(f"rows: those of {count:,} of {len(origins):,} origins, chosen with --seed {seed}, have the same bytes")
+    of = f"{count:,} of {quantity(len(origins), 'origin')}"
+    say(f"rows: those of {of}, chosen with --seed {seed}, have the same bytes")
 
 
 def run_of(study: Folder, run: Run) -> Run:
@@ -91,7 +92,7 @@ def refuse_changed_sources(study: Folder, sources: dict[str, str]) -> None:
         if path not in lost and sum_of(study.at(path)) != was:
             raise BadInput(path, f"has another checksum than {NOTES} says: it was changed since the study read it")
     if lost:
-        say(f"sources: {len(lost)} of {len(sources)} files no longer exist: {some(lost)}")
+        say(f"sources: {len(lost)} of {quantity(len(sources), 'file')} no longer exist: {some(lost)}")
 
 
 def refuse_changed(study: Folder, files: dict[str, str]) -> None:

@@ -7,6 +7,7 @@ from typing import Any, BinaryIO, Iterator, Sequence
 
 import numpy as np
 
+from ..faults import quantity
 from ..column_list import WINDOWS as WINDOW_COLUMNS, names_of
 from ..files import many_written_aside, output
 from ..picture_files import write_picture
@@ -72,7 +73,7 @@ def tables_stage(whole: StudyMatrix, of: Measurement) -> Stage:
                 write_changes(file, list(changes_of(wide, whole.inputs.base, people)), people.names)
         for _ in pictures:
             draw_all(whole, tables)
-        return [f"{', '.join([by_origin, by_people, *compared, *pictures])}: {len(tables)} windows"]
+        return [f"{', '.join([by_origin, by_people, *compared, *pictures])}: {quantity(len(tables), 'window')}"]
 
     options = [*of.options, study.results.unit, [question.label for question in study.questions]]
     sums = [whole.inputs.outputs_of(stage) for stage in ("counted", "people", "grid")]

@@ -6,6 +6,7 @@ from typing import BinaryIO, Sequence
 import numpy as np
 import numpy.typing as npt
 
+from ..faults import quantity
 from ..column_list import compared
 from ..gtfs.stops import Stops
 from ..matrices import Pair, Sums
@@ -95,11 +96,13 @@ def summary(pair: Pair, comparison: Comparison, limit: float, place: int | None,
     totals = comparison.counts.sum(axis=0)
     counts = ", ".join(f"{count:,} {kind}" for kind, count in zip(KINDS, totals.tolist()))
     names, end = f"{shown(pair.other)} compared with {shown(pair.base)}", pair.matrix.greatest_stated
-    sentences = [f"{names}: of {pairs:,} pairs {counts} (by more than {limit:g} seconds{'; ' * bool(end)}{end})"]
+    sentences = [
+        f"{names}: of {quantity(pairs, 'pair')} {counts} (by more than {limit:g} seconds{'; ' * bool(end)}{end})"
+    ]
     if place is not None:
         first, second = pair.access(place)
         change = second - first
         sides, by_how_much = sides_of(first, second, least).sentence(), f" (by {least:,} or more)" if least > 1 else ""
-        of = f"of {len(change):,} origins {sides}{by_how_much}; in all {int(change.sum()):+,}"
+        of = f"of {quantity(len(change), 'origin')} {sides}{by_how_much}; in all {int(change.sum()):+,}"
         sentences.append(f"{access_stated(pair, place)}: {of}")
     return sentences

@@ -14,7 +14,7 @@ from urllib.parse import quote
 
 import numpy as np
 
-from ..faults import BadInput, needs
+from ..faults import BadInput, needs, quantity
 from ..gtfs.fields import Floats
 from ..gtfs.stops import Stops
 from ..files import written_aside
@@ -144,4 +144,4 @@ def refuse_part(written: Path, path: str, layer: str, count: int) -> None:
         (state,) = base.execute("PRAGMA integrity_check").fetchone()
         (there,) = base.execute(f"SELECT COUNT(*) FROM {layer}").fetchone()
     if state != "ok" or there != count:
-        raise BadInput(path, f"not written: {there:,} of {count:,} records are in it; is the disk full?")
+        raise BadInput(path, f"not written: it has {there:,} of {quantity(count, 'record')}; is the disk full?")

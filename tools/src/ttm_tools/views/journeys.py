@@ -4,6 +4,7 @@ import itertools
 from dataclasses import dataclass
 from typing import Iterator, Mapping, Sequence
 
+from ..faults import quantity
 from ..gtfs.stops import has_file, in_folder
 from ..measures.journeys import Leg
 from ..records import rows, shown
@@ -71,7 +72,8 @@ def names_of_routes(folder: str) -> dict[str, str]:
 def text_of(options: ExplainOptions, found: Sequence[Found]) -> Iterator[str]:
     """The lines of it all."""
     ends = f"From {options.stop(options.origin)} to {options.stop(options.destination)}"
-    yield f"{ends}: the travel time that {options.share} % of {len(options.departures):,} departures achieve"
+    departures = quantity(len(options.departures), "departure")
+    yield f"{ends}: the travel time that {options.share} % of {departures} achieve"
     yield options.arguments
     yield "Found by a second search, in Python, which isn't proved."
     yield ""

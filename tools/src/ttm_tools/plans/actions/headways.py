@@ -62,7 +62,8 @@ def thinned(state: State, entry: Entry, trips: Sequence[Trip], times: range, end
     ends = " to ".join(stop_shown(state, int(typical.stop[place])) for place in (0, -1))
     count = sum(departures_in(trip, times.start, end) for trip in inside)
     sentence = f"route {typical.route}, {ends}: {quantity(count, 'departure')} replaced by {len(times):,}"
-    return [f"{sentence}, copies of trip {typical.label} ({len(typical.stop)} calls, {clock(typical.seconds)})"]
+    calls = quantity(len(typical.stop), "call")
+    return [f"{sentence}, copies of trip {typical.label} ({calls}, {clock(typical.seconds)})"]
 
 
 def departures_in(trip: Trip, start: int, end: int) -> int:

@@ -110,7 +110,7 @@ def speed(state: State, entry: Entry) -> list[str]:
             changed += 1
     if not changed:
         raise entry.fault("changes no time", "factor" if entry.has("factor") else "dwell")
-    return [f"{len(spans) - changed:,} of {len(spans):,} trips keep their times"] * (changed < len(spans))
+    return [f"{len(spans) - changed:,} of {quantity(len(spans), 'trip')} keep their times"] * (changed < len(spans))
 
 
 def span_of(state: State, entry: Entry, trip: Trip) -> tuple[int, int] | None:

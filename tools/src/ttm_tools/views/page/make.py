@@ -143,7 +143,7 @@ def rows_stated(content: Content, options: PageOptions) -> list[str]:
     if len(ground.rows) < len(ground.origins):
         how = "named" if options.origins is not None else f"chosen at random with the seed {options.settings.seed}"
         sentences.append(
-            f"The page has the travel times from {len(ground.rows):,} of {len(ground.origins):,} origins, which were "
+            f"The page has the travel times from {len(ground.rows):,} of {quantity(len(ground.origins), 'origin')}, which were "
             f"{how}, and access from all."
         )
     if content.hidden:
@@ -153,7 +153,9 @@ def rows_stated(content: Content, options: PageOptions) -> list[str]:
         )
     lost = sum(1 for latitude in ground.places.latitudes if math.isnan(latitude))
     if lost:
-        sentences.append(f"{lost:,} places have no coordinates: you can find them by name, but they aren't on the map.")
+        places = "1 place has" if lost == 1 else f"{lost:,} places have"
+        which = "it by name, but it isn't" if lost == 1 else "them by name, but they aren't"
+        sentences.append(f"{places} no coordinates: you can find {which} on the map.")
     return sentences
 
 
