@@ -6,9 +6,9 @@ A new body in `timetable` asks for a trial of `timetable` alone, a new contract 
 toolchain counts, too.
 
 `planted.lock` has the digest at which all planted bugs of a crate were last refused: `.ci/run --planted` writes it, and
-the gate reads it. `-` stands for a crate whose bugs weren't tried together yet: the gate names it, and tries none of its
-bugs until `.ci/run --planted` has. What any of the two tried on this machine is also kept in the user's cache. Standard
-library only.
+the gate reads it. `-` stands for a crate whose bugs weren't tried together yet: the gate names it, and tries none of
+its bugs until `.ci/run --planted` has. What any of the two tried on this machine is also kept in the user's cache.
+Standard library only.
 """
 
 from __future__ import annotations

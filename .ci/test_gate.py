@@ -223,7 +223,11 @@ def test_the_gate_tries_what_changed_and_one_more(small: Gate, file: str, old: s
 def test_a_crate_that_was_never_tried_is_named_and_skipped(small: Gate) -> None:
     small.repository.write(lock.FILE, f"one {lock.PENDING}\ntwo {lock.PENDING}\n")
     run = small.run()
-    assert (run.status, run.lines[-1], crates_tried(run)) == (0, f"{5 + 2} passed, 0 failed, 2 skipped", {"lower", "upper"})
+    assert (run.status, run.lines[-1], crates_tried(run)) == (
+        0,
+        f"{5 + 2} passed, 0 failed, 2 skipped",
+        {"lower", "upper"},
+    )
     assert "skipped until `.ci/run --planted` has tried them, the planted bugs of one, two" in run.lines
     small.run("--planted", "one")
     assert lock.locked(small.repository.root)["one"] == lock.digests(small.repository.root)["one"]
