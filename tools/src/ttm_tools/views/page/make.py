@@ -144,7 +144,8 @@ def rows_stated(content: Content, options: PageOptions) -> list[str]:
         how = "named" if options.origins is not None else f"chosen at random with the seed {options.settings.seed}"
         origins = quantity(len(ground.origins), "origin")
         sentences.append(
-            f"The page has the travel times from {len(ground.rows):,} of {origins}, which were {how}, and access from all."
+            f"The page has the travel times from {len(ground.rows):,} of {origins}, which were {how}, and access "
+            "from all."
         )
     if content.hidden:
         names = ", ".join(content.hidden)
