@@ -189,3 +189,24 @@ def test_many_streets_take_seconds(monkeypatch: pytest.MonkeyPatch) -> None:
     # strips of 40 m cover all but 20 x 20 squares of 60 m; around them the edge with round corners
     wanted = 2.04**2 - 400 * 0.06**2 - (4 - math.pi) * 0.02**2
     assert area == pytest.approx(wanted, rel=1e-3)
+
+
+@pytest.mark.parametrize("seed", range(3))
+def test_areas_of_streets_that_grow_are_those_of_all_streets_at_once(seed: int) -> None:
+    from shapely.geometry import LineString
+    from shapely.ops import unary_union
+    from ttm_tools.walks.reach import GrowingStrip
+
+    draw = np.random.default_rng(seed)
+    begin = draw.uniform(0, 2, (120, 2))  # kilometres
+    pieces = np.concatenate([begin, begin + draw.normal(0, 0.15, (120, 2))], axis=1)
+    strips = GrowingStrip(lambda east, north: (east, north), 50)
+    for count in (0, 20, 20, 70, 120):
+        # the pieces that an earlier limit had, some of them longer by now, and new ones
+        longer = pieces[:count].copy()
+        longer[count // 2 :, 2:] += 0.3 * (longer[count // 2 :, 2:] - longer[count // 2 :, :2]) * (count == 120)
+        area = strips.grown(longer)
+        lines = [LineString([line[:2], line[2:]]) for line in longer.round(6).tolist()]
+        whole = unary_union([line.buffer(0.05, 8) for line in lines])
+        assert area.area == pytest.approx(whole.area, rel=1e-6)
+        assert area.symmetric_difference(whole).area < 1e-6

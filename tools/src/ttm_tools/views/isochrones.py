@@ -23,7 +23,7 @@ from ..points.table import AREAS, read_frame, text_of
 from ..records import shown
 from ..walks import Pace
 from ..walks.osm import read_streets
-from ..walks.reach import Reach, reach_of, strip
+from ..walks.reach import GrowingStrip, Reach, reach_of
 from .gis import write_features, write_layer
 
 LAYER = "isochrones"
@@ -76,21 +76,24 @@ class AreaGround:
         east, north = projection.kilometres(self.stops.longitudes, self.stops.latitudes)
         return replace(self, projection=projection, east=east, north=north)
 
-    def shape_within(self, seconds: Floats, limit: float, walking: Walking) -> Any:
+    def shapes_within(self, seconds: Floats, limits: Sequence[float], walking: Walking) -> Iterator[Any]:
+        """What is reached within each of some limits in seconds, which ascend."""
         from shapely.ops import unary_union
 
-        near = np.flatnonzero(self.placed & (seconds <= limit))
-        parts = [self.shapes[place] for place in near.tolist() if self.shapes[place] is not None]
-        return unary_union([*parts, *self.walked(limit - seconds, walking)])
+        streets = GrowingStrip(self.projection.kilometres, ASIDE)
+        for limit in limits:
+            near = np.flatnonzero(self.placed & (seconds <= limit))
+            parts = [self.shapes[place] for place in near.tolist() if self.shapes[place] is not None]
+            yield unary_union([*parts, *self.walked(limit - seconds, walking, streets)])
 
-    def walked(self, left: Floats, walking: Walking) -> Iterator[Any]:
+    def walked(self, left: Floats, walking: Walking, streets: GrowingStrip) -> Iterator[Any]:
         """What one reaches on foot in the seconds that are left, from where there is no shape."""
         from shapely.geometry import Point
 
         bare = np.flatnonzero(self.placed & np.array([shape is None for shape in self.shapes], dtype=np.bool_))
         if self.reach is not None:
             metres = np.where(left[bare] >= 0, np.minimum(left[bare], walking.most) * walking.speed, -1.0)
-            yield strip(self.reach.pieces(metres), self.projection.kilometres, ASIDE)
+            yield streets.grown(self.reach.pieces(metres))
             return
         # as the crow flies, in kilometres
         radii = np.minimum(left[bare], walking.most) * walking.speed / walking.detour / 1000
@@ -185,9 +188,10 @@ def isochrones_of(matrix: Matrix, ground: AreaGround, bands: Bands, counts: Coun
     areas, ground = list[Isochrone](), ground.around(bands.origin)
     for scenario, share in itertools.product(bands.scenarios, bands.shares):
         seconds = matrix.seconds(scenario, share, bands.origin).astype(np.float64)
-        for minutes in bands.minutes:
-            limit = round(minutes * 60)
-            shape, near = ground.shape_within(seconds, limit, bands.walking), seconds <= limit
+        limits = [round(minutes * 60) for minutes in bands.minutes]
+        shapes = ground.shapes_within(seconds, limits, bands.walking)
+        for minutes, limit, shape in zip(bands.minutes, limits, shapes):
+            near = seconds <= limit
             there = {} if counts is None else {name: float(counts.named(name)[near].sum()) for name in counts.names}
             sizes = float(shape.area), int(near.sum())
             areas.append(Isochrone(scenario, share, minutes, ground.in_degrees(shape), *sizes, there))

@@ -100,7 +100,8 @@ def figure_of_isochrones(matrix: Matrix, stops: Stops, folder: str, sheet: Sheet
     scenario = matrix.scenario(areas.options.scenario or areas.options.base)
     seconds = matrix.seconds(scenario, share, areas.origin).astype(np.float64)
     limits, ground = areas.options.breaks or BANDS, areas.ground.around(areas.origin)
-    bands = [(minutes, ground.shape_within(seconds, round(60 * minutes), areas.walking)) for minutes in limits]
+    shapes = ground.shapes_within(seconds, [round(60 * minutes) for minutes in limits], areas.walking)
+    bands = list(zip(limits, shapes))
     title = sheet.title or f"Areas reached from {stops.of([areas.origin]).name_of(areas.origin)}"
     subtitle = f"{bands[-1][1].area:,.1f} km² within {bands[-1][0]:g} minutes"
     source, place = pictures.source_of(shown(scenario), share, matrix), there.places.get(areas.origin)
