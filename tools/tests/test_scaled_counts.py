@@ -1,11 +1,14 @@
 """Counts with decimals, which `ttm` adds up in whole numbers: no sum differs from its source by more than a half."""
 
+import csv
+from pathlib import Path
 
 import numpy as np
 import pytest
 
 from helpers import Room, read
-from test_points import PACE, feed, place
+from test_points import PACE, feed, place as spot
+from test_study import STOPS, STUDY, Place, place  # noqa: F401
 from ttm_tools.study import joining
 from ttm_tools.study.counted import COUNTED, OPPORTUNITIES, opportunities_stage, scale_in, scale_of
 from ttm_tools.study.stages import Record
@@ -14,7 +17,7 @@ from ttm_tools.study.stages import Record
 def written(room: Room, numbers: list[str]) -> tuple[list[dict[str, str]], str]:
     """What `ttm` gets of counts of people, and what is said of it."""
     (room.folder / "inputs" / "counted").mkdir(parents=True)
-    room.write(COUNTED, "stop_id,people", [[f"c{place}", number] for place, number in enumerate(numbers)])
+    room.write(COUNTED, "stop_id,people", [[f"c{row}", number] for row, number in enumerate(numbers)])
     (line,) = opportunities_stage(room.folder, Record("", {}, [], 0.0), "people").make()
     return read((room.folder / OPPORTUNITIES).read_text()), line
 
@@ -51,9 +54,52 @@ def test_sums_are_divided_where_parts_are_joined() -> None:
 
 
 def test_points_say_what_rounding_changes(room: Room) -> None:
-    rows = [[f"p{number}", *place(10 + number, 0), 0.3, 1] for number in range(10)]
+    rows = [[f"p{number}", *spot(10 + number, 0), 0.3, 1] for number in range(10)]
     points = room.write("cells.csv", "id,lat,lon,people,jobs", rows)
     _, errors, status = room.ran("points", feed(room), points, "--out", room.path("doors"), "--limit", "300", *PACE)
     assert status == 0
     sentence = "rounded, ttm counts 0 people instead of 3: use ttm-tools access, which counts decimals"
     assert [line for line in errors.splitlines() if line.startswith("rounded")] == [sentence]
+
+
+def sums_of_cells(path: str, limit: int, counts: dict[str, float]) -> dict[tuple[str, str], float]:
+    """What is reached within a limit by scenario and origin, summed from the travel times of a matrix, median alone."""
+    with open(path, newline="") as file:
+        rows = [row for row in csv.DictReader(file) if row["share"] == "50"]
+    reached = [[stop for stop in counts if row[stop] and int(row[stop]) <= limit] for row in rows]
+    return {(row["scenario"], row["origin"]): sum(counts[stop] for stop in stops) for row, stops in zip(rows, reached)}
+
+
+def test_a_study_of_decimals_agrees_with_the_sums_of_its_cells(place: Place) -> None:  # noqa: F811
+    # 0.45 jobs at each stop, all of which would be 0 if each were rounded on its own
+    path = place.lay_out(STUDY.replace("csv = true", "csv = true\nmaps = false\nwithin = 1800"))
+    place.write("jobs.csv", "stop_id,jobs,schools", [[stop, 0.45, 0] for stop in STOPS])
+    _, errors, status = place.ran("study", path)
+    assert status == 0, errors
+    given = (place.folder / "nine/inputs/opportunities.csv").read_text().splitlines()
+    assert given == ["stop_id,opportunities,scale", *[f"{stop},45,100" for stop in STOPS]]
+    wanted = sums_of_cells(place.path("nine/matrix.csv"), 1800, dict.fromkeys(STOPS, 0.45))
+    with open(place.path("nine/matrix.csv"), newline="") as file:
+        of_ttm = [row for row in csv.DictReader(file) if row["share"] == "50"]
+    assert {(row["scenario"], row["origin"]): int(row["access_1800"]) for row in of_ttm} == {
+        key: round(100 * number) for key, number in wanted.items()
+    }
+    table = read(Path(place.path("nine/access.csv")).read_text())
+    own = {
+        (line["scenario"], line["id"]): float(line["accessibility"])
+        for line in table
+        if (line["opportunity"], line["percentile"], line["cutoff"]) == ("jobs", "50", "30")
+    }
+    assert own == pytest.approx(wanted)
+    changes = {
+        line["origin"]: (int(line["access_before"]), int(line["access_after"]))
+        for line in read(Path(place.path("nine/compare_cut.csv")).read_text())
+    }
+    assert changes["S8"] == (round(wanted["base", "S8"]), round(wanted["cut", "S8"]))
+    for origin, (before, after) in changes.items():
+        assert before == pytest.approx(wanted["base", origin], abs=0.5)
+        assert after == pytest.approx(wanted["cut", origin], abs=0.5)
+    lost = [wanted["base", stop] - wanted["cut", stop] for stop in STOPS]
+    lose = sum(number > 0.01 for number in lost)
+    sentence = f"with decimals of 9 origins {lose} lose{'s' * (lose == 1)}, 0 gain; in all -{sum(lost):g}"
+    assert lose > 0 and sentence in Path(place.path("nine/report.md")).read_text().replace("\\", "")
