@@ -39,9 +39,10 @@ def test_drawn_people_count_in_the_cell_in_which_they_live(room: Room, seed: int
     sure, unsure, outside = [0.0] * len(cells), [0.0] * len(cells), sum(numbers)
     for spot, number in zip(spots, numbers):
         for place, cell in enumerate(cells):
-            most = max(map(abs, offsets(cell, spot)))
-            sure[place] += number * (most < SIDE / 2 - UNSURE)
-            unsure[place] += number * (abs(most - SIDE / 2) <= UNSURE)
+            north, east = offsets(cell, spot)
+            beyond = max(abs(north), abs(east)) - SIDE / 2
+            sure[place] += number if beyond < -UNSURE else 0
+            unsure[place] += number if abs(beyond) <= UNSURE else 0
     for cell, least, more in zip(cells, sure, unsure):
         assert least <= float(cell["people"]) <= least + more
         outside -= float(cell["people"])

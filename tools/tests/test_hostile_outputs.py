@@ -136,8 +136,8 @@ def started(words: list[str], folder: Path, streams: str, by_module: bool) -> "s
     environment = {**os.environ, "PYTHONPATH": str(Path(LAUNCHER).parent / "src")}
     first = [sys.executable, "-m", "ttm_tools"] if by_module else [sys.executable, LAUNCHER]
     shell = ["sh", "-c", f'exec "$@" {streams}', "sh", *first, *words]
-    pipes = {"stdout": subprocess.PIPE, "stderr": subprocess.PIPE}
-    return subprocess.Popen(shell, cwd=folder, env=environment, **pipes)
+    pipe = subprocess.PIPE
+    return subprocess.Popen(shell, cwd=folder, env=environment, stdout=pipe, stderr=pipe)
 
 
 def test_two_runs_planted_modules_and_closed_streams_leave_whole_outputs(town: Town) -> None:
