@@ -196,7 +196,7 @@ def test_the_browser_gets_no_token_that_other_users_can_see(tmp_path: Path, brow
         lines = [Path(f"/proc/{item.name}/cmdline") for item in Path("/proc").glob("[0-9]*")]
         assert not any(token.encode() in cmdline(line.parent) for line in lines)
         browser.driver.get(called)
-        wait_until(lambda: browser.driver.current_url.startswith(served.address))
+        wait_until(lambda: str(browser.driver.current_url).startswith(served.address))
         browser.settle()
         assert browser.text("heading") != "" and browser.complaints() == []
     wait_until(lambda: not path.exists())
@@ -204,7 +204,7 @@ def test_the_browser_gets_no_token_that_other_users_can_see(tmp_path: Path, brow
 
 def test_a_page_of_another_site_may_lead_here_and_ask_nothing(served: Explored) -> None:
     """A link with the token, such as that of the file, opens the page; nothing else is answered to another site."""
-    leads = {"Sec_Fetch_Site": "cross-site", "Sec_Fetch_Mode": "navigate", "Sec_Fetch_Dest": "document"}
+    leads: dict[str, Any] = {"Sec_Fetch_Site": "cross-site", "Sec_Fetch_Mode": "navigate", "Sec_Fetch_Dest": "document"}
     assert served.status(**leads) == 200
     assert [served.status(path, **leads) for path in (TIMES, "routes", "journey?origin=0")] == [403, 403, 403]
     for name, value in (("Sec_Fetch_Mode", "no-cors"), ("Sec_Fetch_Dest", "iframe"), ("Sec_Fetch_Dest", "script")):
