@@ -17,22 +17,8 @@ for _package in ("flask", "jinja2", "pandas"):
 SEED = int(os.environ.get("TTM_HOSTILE_SEED", "58"))
 CASES = 400
 ANSWERED = {200, 204, 404, 411, 413, 422}
-NAMES: tuple[str, ...] = (
-    "actions",
-    "walk",
-    "tab",
-    "do",
-    "route",
-    "every",
-    "from",
-    "to",
-    "way",
-    "after",
-    "stop",
-    "factor",
-    "version",
-)
-NAMES += ("name", "title", "origin", "lat", "lon", "stops", "departures", "\x00", "__class__")
+NAMES = "actions walk tab do route every from to way after stop factor version name title origin lat lon stops".split()
+NAMES += ["departures", "\x00", "__class__"]
 TEXTS = ("", "a", "08:00", "headway", "remove_route", "speed", "cut", "../../etc/passwd", "1e999", "\ud800", "x" * 9000)
 NUMBERS = (0, 1, -1, 2**31, 2**63, 10**400, 0.5, -0.0, 1e308, float("nan"), float("inf"))
 PATHS = ("times", "journey", "routes", "", "changes", "study")

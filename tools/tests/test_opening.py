@@ -229,8 +229,10 @@ def test_an_input_is_never_replaced_by_the_output(town: Town, make: Callable[[To
     os.link(town.path("stops.txt"), town.path("link.json"))
     arguments = make(town)
     before = {path: path.read_bytes() for path in town.folder.iterdir()}
-    _, said, status = town.ran(*arguments)
+    _, said, status = town.ran(*arguments, "--force")
     assert status == 1 and said.splitlines()[-1].endswith(": is an input as well: name another output"), said
+    assert {path: path.read_bytes() for path in town.folder.iterdir()} == before
+    assert town.ran(*arguments)[2] == 1
     assert {path: path.read_bytes() for path in town.folder.iterdir()} == before
 
 

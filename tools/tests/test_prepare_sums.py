@@ -92,7 +92,8 @@ def test_decimal_commas_are_points_where_all_of_a_column_have_them(feed: Room) -
 def test_a_feed_without_any_service_day_is_refused(feed: Room) -> None:
     feed.write("in/calendar.txt", CALENDAR[0], [["M", *[0] * 7, 20260504, 20260531]])
     hint = "(--allow-loss writes the feed anyway; --check lists all errors)"
-    for arguments in (("--repair",), ()):
+    choices: list[list[str]] = [["--repair"], []]
+    for arguments in choices:
         message = f"{feed.path('in')}: no trip runs on any day {hint}"
         feed.refused(message, "prepare", *arguments, "--out", feed.path("out"), feed.path("in"))
 

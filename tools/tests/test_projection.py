@@ -67,7 +67,8 @@ def test_an_isochrone_has_the_area_on_the_ground(room: Room, others: list[list[A
     stops = [["A", 60.0, 10.0], ["B", *place(60, 10, 0, 900)], *others]
     room.write("stops.txt", "stop_id,stop_lat,stop_lon", stops)
     names = [str(stop[0]) for stop in stops]
-    rows: dict[str, dict[str, list[Cell]]] = {"base": {"A": [100, 100, *[""] * len(others)]}}
+    times: list[Cell] = [100, 100, *[""] * len(others)]
+    rows = {"base": {"A": times}}
     matrix = room.folder / "m.csv"
     matrix.write_text(town_matrix(True, rows, stops=names))
     out = room.path("areas.geojson")
@@ -167,8 +168,7 @@ def test_drawn_isochrones_have_the_area_of_their_circles(room: Room, seed: int) 
     names = [f"P{number}" for number in range(16)]
     spots = [place(*centre, 4000 * (number // 4), 4000 * (number % 4)) for number in range(16)]
     room.write("stops.txt", "stop_id,stop_lat,stop_lon", [[name, *spot] for name, spot in zip(names, spots)])
-    drawn: list[Cell] = [draw.randrange(1, 2400) if draw.random() < 0.5 else "" for _ in names[1:]]
-    times: list[Cell] = [0, *drawn]
+    times: list[Cell] = [0, *["" if draw.random() < 0.5 else draw.randrange(1, 2400) for _ in names[1:]]]
     matrix = room.folder / "m.csv"
     matrix.write_text(town_matrix(True, {"base": {"P0": times}}, stops=names))
     out, walk = room.path("areas.geojson"), ["--speed", "1", "--detour", "1", "--walk", "1200"]
