@@ -6,6 +6,7 @@ import shutil
 import subprocess
 import sys
 from pathlib import Path
+from typing import Any
 
 import pytest
 
@@ -63,11 +64,24 @@ def environment_of(room: Room) -> dict[str, str]:
 
 def commands_run(room: Room, *names: str, before: str = "true") -> int:
     """Runs each command of some pages, after one that prints nothing, and compares the output with the page; returns
-    the number of commands.
+    the number of commands. Who reads a page a second time runs them again: no tool may refuse what it wrote itself.
     """
     page = [pages.Command(before), *(command for name in names for command in pages.commands(text_of(name)))]
     assert pages.differences(page, room.folder, environment_of(room)) == []
+    assert refused_again(page, room) == []
     return len(page) - 1
+
+
+def refused_again(page: list[pages.Command], room: Room) -> list[str]:
+    """Runs the commands of a page again, and returns the errors of the tools that the page doesn't show. A folder that
+    isn't empty is no output, whoever wrote it.
+    """
+    script = "exec 2>&1\n" + "\n".join(command.text for command in page)
+    how: dict[str, Any] = {"cwd": room.folder, "env": environment_of(room), "stdin": subprocess.DEVNULL}
+    printed = subprocess.run(["bash", "-c", script], stdout=subprocess.PIPE, text=True, **how).stdout
+    expected = {line for command in page for line in command.printed}
+    found = [line for line in printed.splitlines() if line.startswith("ttm-tools ") and line not in expected]
+    return [line for line in found if not line.endswith(": already exists, and isn't empty")]
 
 
 def test_readme_prints_what_it_says_and_its_commands_take_another_feed(room: Room, program: str) -> None:

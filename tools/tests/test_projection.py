@@ -168,7 +168,8 @@ def test_drawn_isochrones_have_the_area_of_their_circles(room: Room, seed: int) 
     names = [f"P{number}" for number in range(16)]
     spots = [place(*centre, 4000 * (number // 4), 4000 * (number % 4)) for number in range(16)]
     room.write("stops.txt", "stop_id,stop_lat,stop_lon", [[name, *spot] for name, spot in zip(names, spots)])
-    times: list[Cell] = [0, *["" if draw.random() < 0.5 else draw.randrange(1, 2400) for _ in names[1:]]]
+    others: list[Cell] = ["" if draw.random() < 0.5 else draw.randrange(1, 2400) for _ in names[1:]]
+    times: list[Cell] = [0, *others]
     matrix = room.folder / "m.csv"
     matrix.write_text(town_matrix(True, {"base": {"P0": times}}, stops=names))
     out, walk = room.path("areas.geojson"), ["--speed", "1", "--detour", "1", "--walk", "1200"]
