@@ -1,5 +1,6 @@
 """What a command writes replaces nothing that somebody else wrote, and no two commands write one file at once."""
 
+import fcntl
 import os
 import stat
 import subprocess
@@ -16,6 +17,7 @@ from asking import script
 from helpers import CALENDAR, LAUNCHER, LONGEST_WAIT, Room, Town, launched, town_matrix, wait_until
 from ttm_tools import folders
 from ttm_tools.files import output, this_machine
+from ttm_tools.locks import lock_file
 from ttm_tools.provenance import command_runs
 
 MINE = "from_stop_id,to_stop_id,seconds\nA,B,77\n"
@@ -204,6 +206,17 @@ def test_temporary_folders_of_other_machines_stay_and_those_of_killed_runs_go(
         other.kill()
         other.wait()
     assert len(this_machine()) == 8
+
+
+def test_the_kind_of_a_map_is_no_output(town: Town, monkeypatch: pytest.MonkeyPatch) -> None:
+    """Maps of one kind are drawn at once in one folder: the kind names no file that they lock."""
+    pytest.importorskip("matplotlib")
+    monkeypatch.chdir(town.folder)
+    town.matrix(town_matrix(True))
+    with lock_file(town.folder / "access", "access").open("w") as other:
+        fcntl.flock(other, fcntl.LOCK_EX)
+        words = ["map", "access", "--feed", town.feed, "--out", town.path("a.png"), town.file]
+        assert town.ran(*words)[2] == 0
 
 
 @pytest.mark.parametrize(

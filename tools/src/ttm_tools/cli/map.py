@@ -67,6 +67,11 @@ def describe(parser: Parser) -> None:
     parser.add_out("the file of the picture, PNG, or SVG or PDF if its name ends so", "", "map.png", picture_name)
 
 
+def outputs(args: argparse.Namespace) -> list[str]:
+    """The file that the command writes; its argument `picture` is the kind of map."""
+    return [args.out]
+
+
 def run(args: argparse.Namespace) -> None:
     if args.picture in ("times", "isochrones") and args.origin is None:
         raise WrongWords(f"{args.picture} needs --origin")
