@@ -265,7 +265,7 @@ def prepared(folder: Path, *arguments: str) -> Path:
     """The feed of a folder made ready in another one."""
     out = folder.with_name(folder.name + "-out")
     with contextlib.redirect_stderr(io.StringIO()) as errors:
-        status = cli.main(["prepare", "--out", str(out), *arguments, str(folder)])
+        status = cli.main(["prepare", "--allow-loss", "--out", str(out), *arguments, str(folder)])
     if status:
         raise AssertionError(f"{folder}: {errors.getvalue()}")
     return out
@@ -284,7 +284,7 @@ def damage_stays(program: str, seed: int, room: Path) -> str:
     """What is wrong where a damaged feed is mended: the program must take it; nothing where it does."""
     feed = Damaged(seed)
     feed.put_into(room / str(seed))
-    status, _, printed = matrix_of(program, prepared(room / str(seed), "--repair", "--allow-loss"))
+    status, _, printed = matrix_of(program, prepared(room / str(seed), "--repair"))
     return "" if (status, printed) == (0, b"") else f"seed {seed}: {', '.join(feed.done)}: {printed.decode()}"
 
 

@@ -80,7 +80,7 @@ def test_travel_times_of_each_feed_are_what_they_were(program: str, room: Room, 
         for part, name in enumerate(names):
             Damaged(2 * seed + part, 0).put_into(room.folder / name)
         out = room.path(f"out{seed}")
-        assert room.ran("prepare", "--out", out, *map(room.path, names))[2] == 0
+        assert room.ran("prepare", "--allow-loss", "--out", out, *map(room.path, names))[2] == 0
         status, matrix, printed = matrix_of(program, Path(out))
         assert status == 0, printed
         result = cells(matrix)

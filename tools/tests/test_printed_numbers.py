@@ -26,6 +26,7 @@ for _package in ("h5py", "pandas", "matplotlib", "shapely"):
 
 SHARE, LIMIT = 50, 1800  # of maps and comparisons: the default, and the limit nearest to it
 KINDS = ("cut off", "slower", "new", "faster")
+WITH_DECIMALS = "that access is in whole numbers; with decimals"
 Row = dict[str, str]
 
 
@@ -149,7 +150,9 @@ def check_report(checked: Checked, sentences: Sequence[str]) -> None:
     """The figures of the report: its tables are those of the files, and no other number is in it."""
     text = (checked.folder / "report.md").read_text().replace("\\", "")
     blocks = text[text.index("## Figures") : text.index("## Inputs")].strip().split("\n\n")
-    assert [line[2:] for block in blocks if block.startswith("- ") for line in block.splitlines()] == sentences
+    printed = [line[2:] for block in blocks if block.startswith("- ") for line in block.splitlines()]
+    exact = [line for line in printed if line.startswith(WITH_DECIMALS)]  # test_scaled_counts has their numbers
+    assert [line for line in printed if line not in exact] == sentences and len(exact) == len(SCENARIOS) - 1
     for caption, block in zip(blocks, blocks[1:]):
         if block.startswith("| "):
             header, _, *rows = [[cell.strip() for cell in line[2:-1].split("|")] for line in block.splitlines()]

@@ -248,7 +248,7 @@ def test_a_part_of_other_inputs_or_with_other_bytes_is_never_taken(place: Place,
     (parts / "0004/key").write_bytes((parts / "0001/key").read_bytes())
     assert computed() == ["0002", "0003", "0004"]
     rotten = (parts / "0001/matrix.csv").read_bytes()
-    (parts / "0001/matrix.csv").write_bytes(rotten.replace(b"base,S0,25,100,", b"base,S0,25,200,"))
+    (parts / "0001/matrix.csv").write_bytes(rotten.replace(b"base,S0,25,1008,", b"base,S0,25,2008,"))
     (place.folder / "nine/matrix.omx").unlink()
     with pytest.raises(BadInput, match="parts/0001/matrix.csv: changed since it was written"):
         make_study(study, place.folder / "nine", Means(2))
@@ -307,9 +307,9 @@ def test_verification_finds_a_row_that_ttm_does_not_compute(place: Place) -> Non
     make_study(read_study(place.lay_out(NO_MAPS)), place.folder / "nine", Means(2))
     notes = json.loads((place.folder / "nine/study.json").read_text())
     text = (place.folder / "nine/matrix.csv").read_text()
-    assert "base,S0,25,100,100,0,435," in text
+    assert "base,S0,25,1008,1008,0,435," in text  # tenths of a job: the jobs have decimals
     (place.folder / "nine/matrix.csv").write_text(
-        text.replace("base,S0,25,100,100,0,435,", "base,S0,25,100,100,0,436,")
+        text.replace("base,S0,25,1008,1008,0,435,", "base,S0,25,1008,1008,0,436,")
     )
     notes["stages"]["matrix"]["files"]["matrix.csv"] = sum_of(place.folder / "nine/matrix.csv")
     (place.folder / "nine/study.json").write_text(json.dumps(notes))
