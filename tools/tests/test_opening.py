@@ -158,7 +158,7 @@ def test_two_equal_columns_are_told(town: Town) -> None:
         assert told(town, *arguments) == f"{path}: record 1: two columns {name}"
     town.matrix(town_matrix(True, stops=("A", "B", "C", "C")))
     arguments = ["omx", "--out", town.path("out.omx"), town.file]
-    assert told(town, *arguments) == f"{town.file}: 'C' destination 4 is repeated"
+    assert told(town, *arguments) == f"{town.file}: record 1: two columns C"
 
 
 def test_a_property_that_is_called_as_the_shapes_is_told(town: Town) -> None:

@@ -53,7 +53,8 @@ def test_the_folder_has_what_a_run_needs(room: Room) -> None:
     _, errors, status = room.ran("points", town, cells(room), "--out", out, "--limit", "300", *PACE)
     whole = f"{out}: 3 points, 4 footpaths; the arguments of a run are in {out}/words.txt"
     rounded = "1 number with decimals rounded for ttm"
-    assert (errors.splitlines(), status) == (["1 point without a stop in reach: 3", rounded, whole], 0)
+    by_how_much = "rounded, ttm counts 3 jobs instead of 2.5: use ttm-tools access, which counts decimals"
+    assert (errors.splitlines(), status) == (["1 point without a stop in reach: 3", rounded, by_how_much, whole], 0)
     result = {str(path.relative_to(out)): path.read_text() for path in Path(out).rglob("*") if path.is_file()}
     assert result["footpaths.csv"] == "from_stop_id,to_stop_id,seconds\nA,1,30\nB,2,40\n1,A,30\n2,B,40\n"
     assert result["origins.csv"] == result["destinations.csv"] == "stop_id\n1\n2\n3\n"
