@@ -70,7 +70,8 @@ def run(args: argparse.Namespace) -> None:
         raise WrongWords("--tiles begins with https:// or http://")
     needs("numpy", "pandas", "jinja2", *(["osmium", "scipy"] if args.streets else []))
     from ..views.page.document import leaflet_files
-    from ..views.page.make import PageSettings, page_of, tell
+    from ..views.page.make import page_of, tell
+    from ..views.page.settings import PageSettings
 
     leaflet_files(args.leaflet)
     matrix = opened(args)

@@ -1,16 +1,23 @@
 """The features of a file of areas, checked one by one: what cannot be used is refused, so that no number gets lost."""
 
+import math
 from pathlib import Path
 from typing import Any, Iterator, Sequence
 
 import numpy as np
 
-from ..faults import BadInput, quantity, some
+from ..faults import BadInput, needs, quantity, some
 from ..gtfs.fields import Floats
+from ..opening.paths import as_one_line, sized
 from ..opening.texts import MOST_JSON, read_json
 from ..records import number_of, shown
-from .table import AREAS, NUMBER, read_frame, text_of
 
+AREAS = {".gpkg": b"SQLite format 3", ".geojson": b"{", ".json": b"{"}  # what geopandas reads, and how it begins
+BYTE_ORDER = b"\xef\xbb\xbf"
+MOST_AREAS = 1_000_000_000  # bytes
+MOST_POINTS = 1_000_000  # of a file
+Range = tuple[float, float, str]  # the least number that is allowed, the most, and what an error says of them
+NUMBER = (0, math.inf, "a number from 0 on")
 POLYGONS = ("Polygon", "MultiPolygon")
 JSON = (".geojson", ".json")
 RECORD = "record of the file"  # a column of the tables that `read_features` returns
@@ -79,7 +86,7 @@ def valid(path: str, record: int, shape: Any) -> Any:
     return shape
 
 
-def number_columns(path: str, frame: Any, others: Sequence[str]) -> tuple[list[str], list[str]]:
+def numeric_columns(path: str, frame: Any, others: Sequence[str]) -> tuple[list[str], list[str]]:
     """Return which of some columns have numbers, and sentences on those that might.
 
     A column of texts counts if the file states a number in it, as only GeoJSON can; each of its texts must then be a
@@ -147,3 +154,36 @@ def numbers_of(path: str, frame: Any, names: Sequence[str]) -> Floats:
         value = text_of(frame[name].iat[row])
         raise BadInput(path, "is invalid", record=record, column=name, value=value, allowed=NUMBER[2])
     return numbers
+
+
+def read_frame(path: str) -> Any:
+    """The table of geopandas of a file."""
+    needs("geopandas")
+    import geopandas  # each of the libraries by which it reads has faults of its own kinds
+
+    kind = AREAS[Path(path).suffix.lower()]
+    sized(path, MOST_AREAS, "a file of areas")
+    with as_one_line(path, "not read"):
+        with open(path, "rb") as file:
+            begins_right = file.read(len(BYTE_ORDER) + 64).removeprefix(BYTE_ORDER).lstrip().startswith(kind)
+        if not begins_right:  # no other kind of file is opened, since some lead to further ones
+            raise BadInput(path, "not read: it isn't what its name says")
+        return geopandas.read_file(path, rows=MOST_POINTS + 1)
+
+
+def text_of(value: Any) -> str:
+    """A field of a frame as it would stand in a table; nothing where it is missing."""
+    if value is None or value != value:
+        return ""
+    if isinstance(value, (bool, np.bool_)):
+        return str(int(value))
+    if isinstance(value, (float, np.floating)):
+        return plain(float(value))
+    return str(value)
+
+
+def plain(number: float) -> str:
+    """A number without needless decimals; nothing for NaN."""
+    if math.isnan(number):
+        return ""
+    return str(int(number)) if math.isfinite(number) and number == int(number) else repr(number)

@@ -16,8 +16,8 @@ from ..gtfs.fields import Floats
 from ..gtfs.projection import Projection
 from ..gtfs.stops import Stops
 from ..records import shown
-from .features import POLYGONS, RECORD, checked, number_columns, numbers_of, read_features
-from .table import AREAS, Points, plain, read_points
+from .features import AREAS, POLYGONS, RECORD, checked, numeric_columns, numbers_of, plain, read_features
+from .table import Points, read_points
 
 MOST_CELLS = 65_535  # stops and points that `ttm` takes
 MOST_TRIED = 2_000_000  # squares of a bounding box
@@ -194,7 +194,7 @@ def from_polygons(grid: Grid, path: str, frame: Any) -> tuple[list[str], Floats,
     from shapely.ops import transform
 
     others = [column for column in frame.columns if column not in ("id", "width", "height", RECORD, "geometry")]
-    names, notes = number_columns(path, frame, others)
+    names, notes = numeric_columns(path, frame, others)
     refuse_none(path, names)
     frame, repaired = checked(path, frame, names)
     numbers = numbers_of(path, frame, names)

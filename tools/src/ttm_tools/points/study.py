@@ -14,8 +14,8 @@ import numpy as np
 import numpy.typing as npt
 
 from ..faults import BadInput, quantity, some
-from ..gtfs.stops import Stops, read_stops
 from ..files import copy_file, is_free, many_written_aside
+from ..gtfs.stops import Stops, read_stops
 from ..naming import file_names
 from ..opening.paths import inside
 from ..parts import write_stops
@@ -23,7 +23,8 @@ from ..records import Rounded, places_of, records, shown, write_rows
 from ..walks import Walks, summary as walks_summary
 from ..walks.counting import TooManyWalks
 from .areas import AREAS_FILE, write_areas
-from .table import Points, plain
+from .features import plain
+from .table import Points
 
 MOST_STOPS, MOST_PAIRS = 65_535, 4_000_000  # that `ttm` takes
 FEED, POINTS, WORDS, LABELS, FOOTPATHS = "feed", "points.csv", "words.txt", "labels.csv", "footpaths.csv"

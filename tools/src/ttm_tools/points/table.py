@@ -4,28 +4,22 @@ import math
 from array import array
 from dataclasses import dataclass, field, replace
 from pathlib import Path
-from typing import Any, Iterable, Mapping, Sequence
+from typing import Iterable, Mapping, Sequence
 
 import numpy as np
 import numpy.typing as npt
 
-from ..faults import BadInput, needs
+from ..faults import BadInput
 from ..gtfs.fields import Floats
 from ..gtfs.stops import Area, Stops
-from ..opening.paths import as_one_line, sized
 from ..records import number_of, places_of, records, refuse_alike, rows, shown
 from .areas import KINDS, area_of
+from .features import AREAS, MOST_POINTS, NUMBER, Range, numeric_columns, read_frame, text_of, valid
 
 NEEDED, WANTED = ("id", "lat", "lon"), ("name", "width", "height")
-AREAS = {".gpkg": b"SQLite format 3", ".geojson": b"{", ".json": b"{"}  # what geopandas reads, and how it begins
-BYTE_ORDER = b"\xef\xbb\xbf"
-MOST_AREAS = 1_000_000_000  # bytes
-MOST_POINTS = 1_000_000  # of a file
 WIDEST = 1_000_000.0  # metres
-Range = tuple[float, float, str]  # the least number that is allowed, the most, and what an error says of them
 LATITUDE, LONGITUDE = (-90, 90, "degrees from -90 to 90"), (-180, 180, "degrees from -180 to 180")
 SIDE = (math.ulp(0), WIDEST, f"metres above 0, up to {WIDEST:,.0f}, or nothing")
-NUMBER = (0, math.inf, "a number from 0 on")
 
 
 @dataclass(frozen=True)
@@ -156,8 +150,6 @@ def read_table(path: str, called: Columns) -> Points:
 
 def read_areas(path: str, called: Columns) -> Points:
     """A point inside each area of a file, with the area, or each of its points; columns of text have labels."""
-    from .features import number_columns, valid
-
     frame = read_frame(path)
     twice = next((name for name in frame.columns if list(frame.columns).count(name) > 1), None)
     if twice is not None:
@@ -173,7 +165,7 @@ def read_areas(path: str, called: Columns) -> Points:
     frame = frame.set_geometry([valid(path, place + 1, shape) for place, shape in enumerate(frame.geometry)])
     inside = frame.geometry.representative_point().to_crs(4326)
     others = [name for name in frame.columns if frame[name].dtype.kind in "iufbO" and name not in (*NEEDED, *WANTED)]
-    counted, _ = number_columns(path, frame, others)
+    counted, _ = numeric_columns(path, frame, others)
     kept = [name for name in others if frame[name].dtype.kind == "b" or name in counted]
     texts = [name for name in others if name not in kept]
     taken = Taken(path, kept)
@@ -189,36 +181,3 @@ def read_areas(path: str, called: Columns) -> Points:
     shapes = zip(taken.identifiers, frame.geometry.to_crs(4326))
     areas = {name: area_of(shape) for name, shape in shapes if shape.geom_type in KINDS}
     return replace(taken.points(), labels=labels, areas=areas)
-
-
-def read_frame(path: str) -> Any:
-    """The table of geopandas of a file."""
-    needs("geopandas")
-    import geopandas  # each of the libraries by which it reads has faults of its own kinds
-
-    kind = AREAS[Path(path).suffix.lower()]
-    sized(path, MOST_AREAS, "a file of areas")
-    with as_one_line(path, "not read"):
-        with open(path, "rb") as file:
-            begins_right = file.read(len(BYTE_ORDER) + 64).removeprefix(BYTE_ORDER).lstrip().startswith(kind)
-        if not begins_right:  # no other kind of file is opened, since some lead to further ones
-            raise BadInput(path, "not read: it isn't what its name says")
-        return geopandas.read_file(path, rows=MOST_POINTS + 1)
-
-
-def text_of(value: Any) -> str:
-    """A field of a frame as it would stand in a table; nothing where it is missing."""
-    if value is None or value != value:
-        return ""
-    if isinstance(value, (bool, np.bool_)):
-        return str(int(value))
-    if isinstance(value, (float, np.floating)):
-        return plain(float(value))
-    return str(value)
-
-
-def plain(number: float) -> str:
-    """A number without needless decimals; nothing for NaN."""
-    if math.isnan(number):
-        return ""
-    return str(int(number)) if math.isfinite(number) and number == int(number) else repr(number)

@@ -12,14 +12,14 @@ import numpy as np
 from ..faults import BadInput, quantity, some
 from ..files import sum_of
 from ..gtfs.fields import Floats
-from ..measures.opportunities import OWN_NAME, Counts, called, columns_of, identifier_of, read_counts
+from ..measures.opportunities import Counts, OWN_NAME, called, columns_of, identifier_of, read_counts
 from ..parts import origins_in
 from ..points import read_points
-from ..points.table import plain
+from ..points.features import plain
 from ..records import Rounded, names_of, rows as table_rows, shown, write_rows
+from .settings import Study
 from .sources import Sources
 from .stages import Record, Stage
-from .settings import Study
 
 ORIGINS, OPPORTUNITIES = "inputs/origins.csv", "inputs/opportunities.csv"
 COUNTED, PEOPLE = "inputs/counted/opportunities.csv", "inputs/people.csv"

@@ -12,7 +12,7 @@ import numpy as np
 from ..gtfs.fields import Floats
 from ..measures.access_table import AccessTable
 from ..measures.opportunities import Counts
-from ..points.table import plain
+from ..points.features import plain
 from ..records import rows, shown
 from .settings import Study
 from .walking import GRID, OUTSIDE, OUTSIDE_COLUMNS

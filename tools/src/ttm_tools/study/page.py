@@ -6,7 +6,8 @@ from ..faults import quantity
 from ..files import output
 from ..measures.opportunities import columns_of
 from ..points.study import POINTS
-from ..views.page.make import PageSettings, page_of
+from ..views.page.make import page_of
+from ..views.page.settings import PageSettings
 from .counted import COUNTED, PEOPLE
 from .results import Records, StudyMatrix
 from .sources import Sources

@@ -8,7 +8,7 @@ import threading
 import time
 from dataclasses import dataclass
 from types import FrameType
-from typing import TYPE_CHECKING, Callable, Generator, Iterator, Sequence
+from typing import Callable, Generator, Iterator, Protocol, Sequence
 
 from .. import progress
 from ..engine import Run
@@ -18,11 +18,23 @@ from .cutting import Part
 from .stages import log
 from .ttm import Running, with_origins
 
-if TYPE_CHECKING:
-    from .asking import Asked
-
 SECONDS_BETWEEN_LOOKS = 0.02
 SECONDS_BETWEEN_LINES = 60.0
+
+
+class PartRun(Protocol):
+    """A part that is being computed."""
+
+    begin: float  # of the monotonic clock, seconds
+
+    def is_over(self) -> bool:
+        """Whether `end` returns at once."""
+
+    def end(self) -> str | None:
+        """Give the matrix its name; returns the error line if there is none."""
+
+    def stop(self) -> None:
+        """End the computation and remove what it wrote."""
 
 
 @dataclass(frozen=True)
@@ -75,7 +87,7 @@ class Pool:
         self.run, self.at_once, self.threads = run, at_once, threads
         self.waiting = list(reversed(missing))
         self.said = time.monotonic()
-        self.running: dict[int, tuple[Part, Running | Asked]] = {}
+        self.running: dict[int, tuple[Part, PartRun]] = {}
         self.is_ending = False  # whether no more parts begin, since somebody pressed Ctrl-C
         self.has_said_so = False
 
@@ -93,10 +105,10 @@ class Pool:
             self.has_said_so = True
             tell_ending(len(self.running))
 
-    def begun(self, part: Part) -> "Running | Asked":
+    def begun(self, part: Part) -> PartRun:
         return Running(with_origins(self.run, part.origins_name, self.threads), part.matrix, part.study)
 
-    def over(self) -> "list[tuple[Part, Running | Asked]]":
+    def over(self) -> list[tuple[Part, PartRun]]:
         """The runs that are over, after a while."""
         numbers = [number for number, (_, process) in self.running.items() if process.is_over()]
         if numbers:
@@ -150,7 +162,7 @@ def ends_of(pool: Pool) -> Generator[Failed | None, None, None]:
         pool.stop()
 
 
-def ended(part: Part, running: "Running | Asked") -> Failed | None:
+def ended(part: Part, running: PartRun) -> Failed | None:
     """Notes a part whose run is over."""
     message = running.end()
     if message is not None:

@@ -1,27 +1,42 @@
 """Stages before the run: walks between stops, points as stops with walks to and from them, and cells as points."""
 
 from dataclasses import replace
-from typing import TYPE_CHECKING
+from typing import Protocol
 
 from ..faults import quantity
 from ..gtfs.stops import read_stops
 from ..plans.nearness import sentences_on_nearer
 from ..points import grid as grids, read_points, study as points
-from ..points.table import plain
+from ..points.features import plain
 from ..records import write_rows
 from ..walks import Pace, footpaths_of, walks_of
+from .settings import Study
 from .sources import Sources
 from .stages import Stage
-from .settings import Study
-
-if TYPE_CHECKING:
-    from .inputs import Maker
 
 POINTS, FOOTPATHS, GRID = "inputs/points", "inputs/footpaths.csv", "inputs/grid.csv"
 OUTSIDE, OUTSIDE_COLUMNS = "inputs/outside.csv", ("column", "outside")  # sums of what lies in no cell
 
 
-def walks_stage(maker: "Maker") -> Stage:
+class FeedInputs(Protocol):
+    """The feed of a study as the stages so far left it."""
+
+    study: Study
+    feed: str  # its folder, relative to the study's
+
+    def at(self, name: str) -> str:
+        """The path of a file in the study's folder."""
+
+    @property
+    def feed_sums(self) -> dict[str, str]:
+        """Checksums of the feed's files, by their paths in the study's folder."""
+
+    @property
+    def stops_sum(self) -> str | None:
+        """The checksum of stops.txt."""
+
+
+def walks_stage(maker: FeedInputs) -> Stage:
     """Walks between the stops."""
     study, settings, feed = maker.study, maker.study.walks, maker.at(maker.feed)
     path = maker.at(FOOTPATHS)
@@ -46,7 +61,7 @@ def sentences_on_limits(study: Study) -> list[str]:
     return [limits] if limit < run else []
 
 
-def points_stage(maker: "Maker") -> Stage:
+def points_stage(maker: FeedInputs) -> Stage:
     """The feed with points as stops, and the walks to and from them."""
     study, settings, feed, out = maker.study, maker.study.points, maker.at(maker.feed), maker.at(POINTS)
     walks, near = study.walks, study.walks.near

@@ -18,8 +18,7 @@ from ..gtfs.projection import Projection
 from ..gtfs.stops import Stops
 from ..matrices import Matrix, Share
 from ..measures.opportunities import Counts
-from ..points.features import POLYGONS, valid
-from ..points.table import AREAS, read_frame, text_of
+from ..points.features import AREAS, POLYGONS, read_frame, text_of, valid
 from ..records import shown
 from ..walks import Pace
 from ..walks.osm import read_streets

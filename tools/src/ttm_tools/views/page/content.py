@@ -2,7 +2,7 @@
 
 import itertools
 from dataclasses import dataclass
-from typing import TYPE_CHECKING, Any, Sequence
+from typing import Any, Sequence
 
 import numpy as np
 import numpy.typing as npt
@@ -17,9 +17,7 @@ from ...measures.opportunities import Counts, read_counts
 from ...records import shown
 from .parts import Bytes, minutes_of
 from .places import in_order
-
-if TYPE_CHECKING:
-    from .make import PageSettings
+from .settings import PageSettings
 
 MOST_CELLS = 60_000_000  # that a page takes
 PageTimes = tuple[Bytes, Floats]
@@ -29,7 +27,7 @@ PageTimes = tuple[Bytes, Floats]
 class PageOptions:
     """What of a matrix a page is to show."""
 
-    settings: "PageSettings"
+    settings: PageSettings
     what: str  # stops or points
     scenarios: list[str]  # the base first
     shares: list[Share]

@@ -21,10 +21,10 @@ from .content import Content
 from .lines import Lines
 from .parts import Element, blocks_of, part, rows_in_block
 from .places import degrees_of, rings_of
+from .settings import LEAFLET
 from .streets import ASIDE, PageStreets
 
 ASSETS = Path(__file__).resolve().parent / "assets"
-LEAFLET = "/usr/share/javascript/leaflet"
 NAMES = "data cells classes areas stamps layer figures panel nearest reached streets bands search main"
 SCRIPTS = tuple(f"{name}.js" for name in NAMES.split())
 STYLES = ("page.css",)

@@ -2,7 +2,7 @@
 
 import math
 import os
-from dataclasses import dataclass, field, replace
+from dataclasses import dataclass, replace
 from typing import BinaryIO
 
 from ...faults import BadInput, quantity, say
@@ -10,45 +10,15 @@ from ...gtfs.stops import read_list
 from ...matrices import Matrix, Share
 from ...points.shown import points_in, shown_of
 from ...records import shown
-from ...walks import NEAR, Pace
+from ...walks import Pace
 from . import sources
 from .content import MOST_CELLS, Content, Ground, PageOptions, content_of, origins_of
-from .document import LEAFLET, Frame, write_page
+from .document import Frame, write_page
 from .lines import Lines, page_lines, scenario_files
+from .settings import PageSettings
 from .streets import MOST_NODES, page_streets
 
 MINUTES, MOST_MINUTES = 30, 120  # of the slider: where it stands first, and where it ends
-
-
-@dataclass(frozen=True, kw_only=True)
-class PageSettings:
-    """The settings of a page, as arguments and names of files."""
-
-    feed: str
-    points: str | None
-    edits: list[str]
-    opportunities: list[str]
-    people: list[str]
-    scenarios: list[str] = field(default_factory=list)  # in addition to the base; none for all
-    base: str
-    share: int | None = None
-    cutoffs: list[float]  # minutes
-    origins: str | None = None
-    seed: int
-    unit: str
-    title: str | None
-    note: str | None
-    arguments: str | None
-    tiles: str | None = None
-    attribution: str | None = None
-    leaflet: str = LEAFLET
-    within: int | None = None  # seconds, the limit with which the page opens; without it, the first of the matrix
-    nearest: list[float] = field(default_factory=list)  # how many of the nearest opportunities are looked for
-    walk: int = 600  # seconds that one walks on from a stop at most
-    speed: float = 1.33  # metres a second
-    detour: float = 1.3  # metres of way for a metre of straight line
-    streets: str | None = None  # a file of OpenStreetMap, along whose ways one walks on
-    near: float = NEAR  # the greatest distance of a stop from a way, metres
 
 
 @dataclass(frozen=True)

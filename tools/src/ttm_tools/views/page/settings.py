@@ -1,0 +1,38 @@
+"""The settings of a page."""
+
+from dataclasses import dataclass, field
+
+from ...walks import NEAR
+
+LEAFLET = "/usr/share/javascript/leaflet"
+
+
+@dataclass(frozen=True, kw_only=True)
+class PageSettings:
+    """The settings of a page, as arguments and names of files."""
+
+    feed: str
+    points: str | None
+    edits: list[str]
+    opportunities: list[str]
+    people: list[str]
+    scenarios: list[str] = field(default_factory=list)  # in addition to the base; none for all
+    base: str
+    share: int | None = None
+    cutoffs: list[float]  # minutes
+    origins: str | None = None
+    seed: int
+    unit: str
+    title: str | None
+    note: str | None
+    arguments: str | None
+    tiles: str | None = None
+    attribution: str | None = None
+    leaflet: str = LEAFLET
+    within: int | None = None  # seconds, the limit with which the page opens; without it, the first of the matrix
+    nearest: list[float] = field(default_factory=list)  # how many of the nearest opportunities are looked for
+    walk: int = 600  # seconds that one walks on from a stop at most
+    speed: float = 1.33  # metres a second
+    detour: float = 1.3  # metres of way for a metre of straight line
+    streets: str | None = None  # a file of OpenStreetMap, along whose ways one walks on
+    near: float = NEAR  # the greatest distance of a stop from a way, metres
