@@ -1,0 +1,176 @@
+"""Where the code of `ttm_tools` lies: which package may import which, without cycles, and what an import loads."""
+
+import ast
+import graphlib
+import subprocess
+import sys
+from functools import cache
+from pathlib import Path
+from typing import Iterator
+
+SOURCES = Path(__file__).resolve().parents[1] / "src"
+ROOT = "ttm_tools"
+LAYERS = ("core", "gtfs", "streets", "prepare", "plans", "engine", "matrices", "measures", "places", "journeys")
+MAY_IMPORT = {  # besides itself
+    "core": (),
+    "gtfs": ("core",),
+    "streets": ("core", "gtfs"),
+    "prepare": ("core", "gtfs"),
+    "plans": ("core", "gtfs"),
+    "engine": ("core",),
+    "matrices": ("core",),
+    "measures": ("core",),
+    "places": ("core", "gtfs", "streets"),
+    "journeys": ("core", "gtfs", "streets", "engine"),
+    "api": LAYERS,
+    "views": (*LAYERS, "api"),
+    "web": (*LAYERS, "api", "views"),
+    "study": (*LAYERS, "api", "views", "web"),
+    "compat": ("core", "engine", "api"),
+    "cli": (*LAYERS, "api", "views", "web", "study", "compat"),
+}
+# Modules that have not moved to their packages yet. The longest name counts.
+BELONGS_TO = {
+    "__main__": "cli",
+    "column_list": "core",
+    "conversation": "engine",
+    "dates": "core",
+    "escaping": "core",
+    "explanation": "journeys",
+    "explore": "web",
+    "faults": "core",
+    "files": "core",
+    "folders": "core",
+    "locks": "core",
+    "measures.journeys": "journeys",
+    "measures.search_network": "journeys",
+    "memory": "web",
+    "naming": "core",
+    "network": "compat",
+    "opening": "core",
+    "opening.open_matrices": "matrices",
+    "parts": "matrices",
+    "picture_files": "views",
+    "points": "places",
+    "prepare.check": "gtfs",
+    "process_pool": "engine",
+    "progress": "core",
+    "provenance": "core",
+    "r5py": "compat",
+    "r5py.cache": "core",
+    "records": "core",
+    "threads": "core",
+    "views.page": "web",
+    "walks": "streets",
+}
+# Imports that the table forbids and that are still there: the modules, and the packages that they may import until they
+# are changed. This list only gets shorter.
+EXCEPTIONS = {
+    "engine": ("matrices", "plans"),
+    "explanation": ("matrices", "views"),
+    "explore.of_study": ("study",),
+    "explore.standing": ("compat",),
+    "measures.access": ("gtfs", "matrices"),
+    "measures.access_table": ("gtfs", "matrices"),
+    "measures.bands": ("gtfs",),
+    "measures.comparison": ("gtfs", "matrices"),
+    "measures.competition": ("gtfs", "matrices"),
+    "measures.equity": ("gtfs",),
+    "measures.fairness": ("gtfs",),
+    "measures.nearness": ("gtfs",),
+    "measures.opportunities": ("gtfs",),
+    "measures.service": ("gtfs",),
+    "network": ("matrices",),
+    "parts": ("gtfs",),
+    "plans.base": ("prepare",),
+    "plans.limits": ("prepare",),
+    "points.shown": ("matrices",),
+    "points.study": ("matrices",),
+    "prepare.check": ("prepare",),
+    "r5py": ("gtfs", "journeys", "matrices", "places", "prepare", "streets"),
+    "views.lines": ("web",),
+    "views.maps": ("web",),
+}
+
+
+@cache
+def modules() -> dict[str, Path]:
+    """The files of all modules, by their names without `ttm_tools`; the package itself is the empty name."""
+    found = dict[str, Path]()
+    for path in sorted((SOURCES / ROOT).rglob("*.py")):
+        parts = path.relative_to(SOURCES / ROOT).with_suffix("").parts
+        found[".".join(parts[:-1] if parts[-1] == "__init__" else parts)] = path
+    return found
+
+
+def named_by(node: ast.AST, package: list[str]) -> Iterator[str]:
+    """What an import names, as full dotted names; `package` is where relative names begin."""
+    if isinstance(node, ast.Import):
+        yield from (alias.name for alias in node.names)
+    elif isinstance(node, ast.ImportFrom):
+        begin = package[: len(package) - node.level + 1] if node.level else []
+        base = [*begin, *([node.module] if node.module else [])]
+        yield from (".".join([*base, alias.name]) for alias in node.names)
+
+
+@cache
+def imports() -> dict[str, set[str]]:
+    """The modules that each module imports, also inside functions and for types alone."""
+    found = dict[str, set[str]]()
+    for name, path in modules().items():
+        parts = [ROOT, *name.split(".")] if name else [ROOT]
+        package = parts if path.name == "__init__.py" else parts[:-1]
+        named = [one for node in ast.walk(ast.parse(path.read_text())) for one in named_by(node, package)]
+        own = (one.removeprefix(ROOT).removeprefix(".") for one in named if f"{one}.".startswith(f"{ROOT}."))
+        # a name that is no module is one of a function or class of the module before it
+        found[name] = {one if one in modules() else one.rpartition(".")[0] for one in own} - {name}
+    return found
+
+
+def longest(name: str, names: dict[str, str]) -> str | None:
+    """The entry for a module or, failing that, for the nearest package around it."""
+    while name and name not in names:
+        name = name.rpartition(".")[0]
+    return names.get(name)
+
+
+def package_of(name: str) -> str:
+    return longest(name, BELONGS_TO) or name.partition(".")[0]
+
+
+def forbidden() -> set[tuple[str, str]]:
+    """Each module that imports a package against the table, and that package."""
+    found = {(name, package_of(other)) for name, others in imports().items() for other in others if name and other}
+    return {(name, other) for name, other in found if other not in (package_of(name), *MAY_IMPORT[package_of(name)])}
+
+
+def excepted(name: str, package: str) -> str | None:
+    """The exception that covers an import."""
+    names = {own: own for own, packages in EXCEPTIONS.items() if package in packages}
+    return longest(name, names)
+
+
+def test_each_module_belongs_to_a_package_of_the_table() -> None:
+    assert {package_of(name) for name in modules() if name} <= MAY_IMPORT.keys()
+    assert {name for name in BELONGS_TO if name not in modules()} == set()
+
+
+def test_no_module_imports_a_package_that_it_may_not() -> None:
+    new = [f"{name} imports {other}" for name, other in sorted(forbidden()) if not excepted(name, other)]
+    assert new == []
+
+
+def test_each_exception_is_still_needed() -> None:
+    needed = {(excepted(name, other), other) for name, other in forbidden()}
+    assert {(name, other) for name, others in EXCEPTIONS.items() for other in others} - needed == set()
+
+
+def test_no_modules_import_each_other() -> None:
+    graph = {name: {other for other in others if other} for name, others in imports().items() if name}
+    assert len(list(graphlib.TopologicalSorter(graph).static_order())) == len(modules()) - 1
+
+
+def test_the_package_alone_loads_nothing_that_takes_long() -> None:
+    code = "import sys, ttm_tools; print(*{'numpy', 'pandas', 'geopandas'} & sys.modules.keys())"
+    ran = subprocess.run([sys.executable, "-c", code], env={"PYTHONPATH": str(SOURCES)}, capture_output=True, text=True)
+    assert (ran.returncode, ran.stdout, ran.stderr) == (0, "\n", "")
