@@ -144,10 +144,10 @@ def forbidden() -> set[tuple[str, str]]:
     return {(name, other) for name, other in found if other not in (package_of(name), *MAY_IMPORT[package_of(name)])}
 
 
-def excepted(name: str, package: str) -> str | None:
-    """The exception that covers an import."""
+def excepted(name: str, package: str) -> str:
+    """The exception that covers an import; an empty text if there is none."""
     names = {own: own for own, packages in EXCEPTIONS.items() if package in packages}
-    return longest(name, names)
+    return longest(name, names) or ""
 
 
 def test_each_module_belongs_to_a_package_of_the_table() -> None:
