@@ -12,13 +12,13 @@ from typing import Any, Sequence
 from random_feeds import Drawn
 
 from ttm_tools import cli
-from ttm_tools.faults import BadInput
+from ttm_tools.core.errors import InputError
+from ttm_tools.gtfs.fields import FILES, clock
+from ttm_tools.opening.toml_file import Entry, LineNumbers
 from ttm_tools.plans.base import Base, read_base
 from ttm_tools.plans.carrying_out import carried_out
 from ttm_tools.plans.nearness import sentences_on_nearer
-from ttm_tools.opening.toml_file import Entry, LineNumbers
 from ttm_tools.plans.plan_file import PlannedScenario
-from ttm_tools.gtfs.fields import FILES, clock
 
 Values = dict[str, Any]
 Rows = dict[str, list[list[str]]]
@@ -162,7 +162,7 @@ def does_something(base: Base, actions: Sequence[Values]) -> bool:
     entries = [Entry("plan", action, LineNumbers(1)) for action in actions]
     try:
         carried_out(base, PlannedScenario("new", entries[0], entries))
-    except BadInput:
+    except InputError:
         return False
     return True
 

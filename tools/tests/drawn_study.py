@@ -97,7 +97,7 @@ def draw_study(room: Room, seed: int) -> DrawnStudy:
 
 def noted_figures(monkeypatch: pytest.MonkeyPatch) -> dict[str, FigureTexts]:
     """What is written on each figure that is saved from now on, by the name of its file."""
-    from ttm_tools import picture_files
+    from ttm_tools.views import picture_files
 
     noted, write = dict[str, FigureTexts](), picture_files.write_picture
 

@@ -10,12 +10,12 @@ import pytest
 from browser import Browser
 from helpers import TOWN, Town, town_matrix
 from test_maps import figure
-from ttm_tools.faults import BadInput
+from ttm_tools.core.errors import InputError
 from ttm_tools.gtfs.projection import Projection
 from ttm_tools.gtfs.stops import Stops, read_stops
 from ttm_tools.matrices import open_matrix
 from ttm_tools.points.areas import AREAS_FILE, areas_beside
-from ttm_tools.points.shown import shown_of
+from ttm_tools.points.shown import select_points
 from ttm_tools.points.table import read_points
 
 pytest.importorskip("geopandas")
@@ -92,7 +92,7 @@ def test_a_damaged_file_of_areas_is_told(town: Town, text: str) -> None:
     path.write_text(text)
     town.refused_with(f"{path}: ", "map", "access", "--feed", town.feed, "--out", town.path("m.png"), town.file)
     path.write_text(json.dumps({"features": [feature_of("a", [[[[500, 0], [0, 1], [1, 1], [500, 0]]]])]}))
-    with pytest.raises(BadInput, match="the area of a has an invalid ring"):
+    with pytest.raises(InputError, match="the area of a has an invalid ring"):
         areas_beside(f"{town.feed}/points.csv")
 
 
@@ -104,7 +104,7 @@ def test_areas_named_by_a_file_and_those_of_a_folder_are_alike(town: Town) -> No
     plain = read_stops(town.feed)
     feed = doors(town)
     for choice in (None, town.path("zones.geojson")):
-        stops = shown_of(open_matrix(town.file), feed, choice)[1]
+        stops = select_points(open_matrix(town.file), feed, choice)[1]
         assert stops is not None and set(stops.of(["a", "c"]).areas) == {"a", "c"}
     assert plain.areas == {} and read_points(town.path("zones.geojson")).only(np.array([1])).areas.keys() == {"b"}
 
@@ -131,7 +131,7 @@ def test_a_map_draws_areas_with_their_holes(town: Town, monkeypatch: pytest.Monk
     assert 10 in corners and 8 in corners  # b with its hole, and c; a is the origin, which a star stands for
     figures[0].canvas.draw()
     pixels = np.asarray(figures[0].canvas.buffer_rgba())
-    matrix, stops = shown_of(open_matrix(town.file), town.feed, None)
+    matrix, stops = select_points(open_matrix(town.file), town.feed, None)
     assert stops is not None
     there = stops.of(matrix.stops)
     on_map = Projection(there.latitudes, there.longitudes)

@@ -9,7 +9,9 @@ from pathlib import Path
 import pytest
 
 from helpers import LAUNCHER, Room, Town, launched, town_matrix
-from ttm_tools import cli, faults
+from ttm_tools import cli
+from ttm_tools.core import errors
+from ttm_tools.core.text import first_few
 
 NO_PACKAGES = """
 import sys
@@ -56,8 +58,8 @@ def test_the_launcher_runs_from_anywhere(room: Room) -> None:
 
 
 def test_a_package_that_is_not_there_is_told_in_a_line() -> None:
-    with pytest.raises(faults.Lacking) as raised:
-        faults.needs("csv", "nosuchpackage")
+    with pytest.raises(errors.MissingDependencyError) as raised:
+        errors.needs("csv", "nosuchpackage")
     way = "apt-get install python3-nosuchpackage and use /usr/bin/python3, or pip install nosuchpackage"
     assert str(raised.value) == f"this Python, {sys.executable}, has no nosuchpackage: {way}"
 
@@ -158,8 +160,8 @@ def test_a_limit_is_in_minutes_or_in_seconds_as_ttm_has_it(town: Town) -> None:
 
 
 def test_some_of_many_names_are_told_with_how_many_more() -> None:
-    assert faults.some(["a", "b", "c", "d"]) == "a, b, c, d"
-    assert faults.some([f"c{n}" for n in range(1234)]) == "c0, c1, c2, c3 and 1,230 more"
+    assert first_few(["a", "b", "c", "d"]) == "a, b, c, d"
+    assert first_few([f"c{n}" for n in range(1234)]) == "c0, c1, c2, c3 and 1,230 more"
 
 
 def test_pip_builds_the_package_without_network_or_other_packages(room: Room) -> None:

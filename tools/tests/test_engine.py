@@ -11,8 +11,8 @@ import pytest
 import ttm_tools
 from asking import standing_in
 from helpers import Room
+from ttm_tools.core.errors import ArgumentError, MissingDependencyError
 from ttm_tools.engine import EngineFault, Result, Run, program_at, refusal_of, run
-from ttm_tools.faults import Lacking, WrongWords
 
 PAGE = Path(__file__).resolve().parents[2] / "docs" / "howto" / "python.md"
 
@@ -100,8 +100,8 @@ def test_without_a_name_the_scenario_is_that_others_are_compared_with() -> None:
 
 
 def test_all_public_names_are_found_by_tab() -> None:
-    assert {"WrongWords", "matrix", "EngineFault"} <= set(dir(ttm_tools))
-    assert ttm_tools.WrongWords is WrongWords
+    assert {"ArgumentError", "matrix", "EngineFault"} <= set(dir(ttm_tools))
+    assert ttm_tools.ArgumentError is ArgumentError
 
 
 def test_a_run_that_fails_leaves_no_matrix(room: Room) -> None:
@@ -115,7 +115,7 @@ def test_a_run_that_fails_leaves_no_matrix(room: Room) -> None:
 
 
 def test_a_program_that_is_not_there_is_told(room: Room) -> None:
-    with pytest.raises(Lacking) as raised:
+    with pytest.raises(MissingDependencyError) as raised:
         program_at(room.path("nothing"))
     assert str(raised.value).startswith(f"no program ttm {room.path('nothing')}: ")
 
@@ -127,9 +127,9 @@ def test_a_share_that_is_not_there_is_told(program: str, room: Room) -> None:
     room.write("stop_times.txt", "trip_id,arrival_time,departure_time,stop_id,stop_sequence", [])
     room.write("calendar_dates.txt", "service_id,date,exception_type", [])
     result = ttm_tools.matrix(room.folder, "20260504", ("08:00", "08:00"), shares=(25, 50), program=program)
-    with pytest.raises(WrongWords, match="it has base with 25, 50"):
+    with pytest.raises(ArgumentError, match="it has base with 25, 50"):
         result.times("cut", 50)
-    with pytest.raises(WrongWords, match="name one"):
+    with pytest.raises(ArgumentError, match="name one"):
         result.array("base")
 
 

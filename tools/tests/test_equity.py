@@ -11,7 +11,7 @@ import numpy as np
 import pytest
 
 from helpers import Cell, Room, Town, read, town_matrix
-from ttm_tools.gtfs.fields import Floats
+from ttm_tools.core.arrays import Floats
 from ttm_tools.measures.equity import Equity, changes_by_tenth, equity
 
 HEAD = "opportunity,percentile,cutoff,group,scenario,people,mean,median,losers_percent,gini,palma,least_tenth"

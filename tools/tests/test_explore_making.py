@@ -20,9 +20,9 @@ pytest.importorskip("flask")
 pytest.importorskip("jinja2")
 pytest.importorskip("pandas")
 
+from ttm_tools.core.errors import ArgumentError  # noqa: E402
 from ttm_tools.explore.making import with_generated  # noqa: E402
 from ttm_tools.explore.options import ExploreOptions  # noqa: E402
-from ttm_tools.faults import WrongWords  # noqa: E402
 
 
 @pytest.fixture(scope="module")
@@ -84,7 +84,7 @@ def test_walks_go_along_streets(tmp_path: Path) -> None:
 
 def test_walks_that_are_named_and_made_are_refused(tmp_path: Path) -> None:
     options = replace(options_for(tmp_path), footpaths="walks.csv", grid=400.0)
-    with pytest.raises(WrongWords, match="--footpaths"):
+    with pytest.raises(ArgumentError, match="--footpaths"):
         with_generated(options, tmp_path)
     for arguments in (["--grid", "5"], ["--grid", "x"]):
         ran = launched("explore", str(tmp_path / "village"), "--date", "20260504", *arguments)

@@ -8,8 +8,8 @@ import pytest
 from exploring import village
 from ttm_tools.cli import parser_of
 from ttm_tools.cli.explore import options_of
+from ttm_tools.core.errors import ArgumentError, InputError
 from ttm_tools.explore.options import ExploreOptions
-from ttm_tools.faults import BadInput, WrongWords
 
 STUDY = """\
 title = "The study"
@@ -71,7 +71,7 @@ def test_each_option_takes_the_place_of_the_value_of_the_file(study: Path) -> No
     assert found.opportunities == [own["schools.csv"]]
     assert options(str(study), "--wal=600").walk == 600
     assert options(str(study), "--to", "08:30").window == ("08:05", "08:30")
-    with pytest.raises(WrongWords, match="--to is before --from"):
+    with pytest.raises(ArgumentError, match="--to is before --from"):
         options(str(study), "--to", "08:00")
 
 
@@ -93,7 +93,7 @@ def test_what_is_not_shown_is_said(study: Path, capsys: pytest.CaptureFixture[st
 
 def test_walks_that_an_option_names_need_none_in_the_file(study: Path) -> None:
     study.write_text(STUDY.replace("[walks]\n", ""))
-    with pytest.raises(BadInput, match="walks must be computed first"):
+    with pytest.raises(InputError, match="walks must be computed first"):
         options(str(study))
     (study.parent / "walks.csv").touch()
     for words in (["--footpaths", str(study.parent / "walks.csv")], ["--grid", "250"], ["--streets", "town.osm"]):

@@ -8,19 +8,20 @@ from pathlib import Path
 import pytest
 
 from helpers import LAUNCHER
+from ttm_tools.core.errors import ArgumentError, InputError, MissingDependencyError
+from ttm_tools.core.signals import Interrupted
+from ttm_tools.core.text import counted, singular
 from ttm_tools.engine import EngineFault
-from ttm_tools.faults import BadInput, Lacking, WrongWords, counted, singular
-from ttm_tools.files import Interrupted
 from ttm_tools.points.study import TooManyPlaces
 from ttm_tools.r5py.refusals import NotAvailable
 from ttm_tools.walks.counting import TooManyWalks
 
 FAULTS = [
-    BadInput("stops.txt", "is no number", record=3, column="stop_lat", value="x", allowed="-90 to 90"),
-    BadInput("stops.txt", "is empty"),
+    InputError("stops.txt", "is no number", record=3, column="stop_lat", value="x", allowed="-90 to 90"),
+    InputError("stops.txt", "is empty"),
     EngineFault("ttm: stops.txt: record 5: bad number\nttm: column stop_lat: 'x'", 2),
-    Lacking("no program"),
-    WrongWords("--to is before --from"),
+    MissingDependencyError("no program"),
+    ArgumentError("--to is before --from"),
     NotAvailable("transport_modes", "cars", "leave them out"),
     TooManyPlaces("points.csv", "too many"),
     TooManyWalks("points.csv", "too many"),
@@ -32,7 +33,7 @@ FAULTS = [
 def test_an_error_is_the_same_behind_a_pipe(fault: BaseException) -> None:
     again = pickle.loads(pickle.dumps(fault))
     assert (type(again), str(again), again.args, vars(again)) == (type(fault), str(fault), fault.args, vars(fault))
-    if isinstance(fault, BadInput):
+    if isinstance(fault, InputError):
         assert again.file == fault.file and again.record == fault.record and again.status == 1
 
 

@@ -11,15 +11,15 @@ from pathlib import Path
 import pytest
 
 from helpers import LAUNCHER, LONGEST_WAIT, Cell, Room, Town, as_in_a_terminal, town_matrix
-from ttm_tools.files import aside_name, many_written_aside, output, sum_of, written_aside
+from ttm_tools.core.files import aside_name, atomic_folder, atomic_path, output, sha256_of_file
 
 
 def test_a_file_gets_its_name_when_it_is_whole(room: Room) -> None:
-    with written_aside(room.path("a.csv")) as aside:
+    with atomic_path(room.path("a.csv")) as aside:
         aside.write_text("whole")
         assert room.names() == {aside.name, ".part.lock.a.csv"}
     assert (room.names(), (room.folder / "a.csv").read_text()) == ({"a.csv"}, "whole")
-    assert sum_of(room.path("a.csv")).startswith("5d57")
+    assert sha256_of_file(room.path("a.csv")).startswith("5d57")
 
 
 def test_a_fault_keeps_what_was_there_before(room: Room) -> None:
@@ -31,10 +31,10 @@ def test_a_fault_keeps_what_was_there_before(room: Room) -> None:
 
 
 def test_a_folder_gets_all_of_its_files_or_none(room: Room) -> None:
-    with many_written_aside(room.path("new/parts")) as aside:
+    with atomic_folder(room.path("new/parts")) as aside:
         (aside / "1").write_text("one")
     assert room.names() == {"new", "new/parts", "new/parts/1"}
-    with pytest.raises(RuntimeError), many_written_aside(room.path("other/parts")) as aside:
+    with pytest.raises(RuntimeError), atomic_folder(room.path("other/parts")) as aside:
         (aside / "1").write_text("one")
         raise RuntimeError
     assert room.names() == {"new", "new/parts", "new/parts/1"}
@@ -45,7 +45,7 @@ def test_what_a_killed_run_left_is_removed_by_the_next(room: Room) -> None:
     ended.wait()
     left = aside_name(room.folder / "a.csv")
     left.with_name(left.name.replace(str(os.getpid()), str(ended.pid))).write_text("half")
-    with written_aside(room.path("a.csv")) as aside:
+    with atomic_path(room.path("a.csv")) as aside:
         aside.write_text("whole")
     assert room.names() == {"a.csv"}
 
@@ -55,7 +55,7 @@ import sys, time
 sys.path.insert(0, sys.argv[1])
 from ttm_tools import files
 files.unwind_on_signals()
-with files.written_aside(sys.argv[2]) as made:
+with files.atomic_path(sys.argv[2]) as made:
     made.write_text("half")
     print("begun", flush=True)
     time.sleep(600)

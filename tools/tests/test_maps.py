@@ -8,7 +8,7 @@ import numpy as np
 import pytest
 
 from helpers import CALENDAR, STOP_TIMES, TOWN, Table, Town, read, town_matrix
-from ttm_tools.faults import counted, singular
+from ttm_tools.core.text import counted, singular
 from ttm_tools.gtfs.lines import lines_of, pieces, read_trips, removed_trips
 from ttm_tools.gtfs.projection import Projection
 from ttm_tools.gtfs.stops import read_stops

@@ -9,11 +9,11 @@ import numpy as np
 import pytest
 
 from helpers import TOWN, Cell, Town, town_matrix
-from ttm_tools.faults import BadInput
+from ttm_tools.core.errors import InputError
+from ttm_tools.core.threads import map_in_order
 from ttm_tools.matrices import Matrix, layout_of, open_matrix, pair_of, write_open_matrix
 from ttm_tools.matrices.layout import MatrixLayout
 from ttm_tools.matrices.lines import MOST, head_of, seconds_of
-from ttm_tools.threads import in_order
 
 BOTH_FORMS = pytest.mark.parametrize("second_form", [False, True])
 
@@ -30,7 +30,7 @@ def whole(matrix: Matrix) -> list[Any]:
 
 
 def refused(town: Town, text: str, message: str, use: Callable[[Matrix], Any] = whole) -> None:
-    with pytest.raises(BadInput) as seen:
+    with pytest.raises(InputError) as seen:
         use(open_matrix(town.matrix(text)))
     assert str(seen.value) == f"{town.file}: {message}"
 
@@ -130,7 +130,7 @@ def test_what_is_no_matrix_at_all_is_told(town: Town) -> None:
     refused(town, "", f"record 1: {message}")
     refused(town, "stop_id\nA\n", f"record 1: {message}")
     refused(town, "scenario,origin,access,A\n", "no rows")
-    with pytest.raises(BadInput, match="none.csv: No such file or directory"):
+    with pytest.raises(InputError, match="none.csv: No such file or directory"):
         open_matrix(town.path("none.csv"))
 
 
@@ -216,7 +216,7 @@ def test_an_open_matrix_file_wants_one_list_of_origins(town: Town) -> None:
     message = "an Open Matrix file has one list of origins: 1 of 2 origins of base aren't in cut, percentile 50: D"
     town.refused(f"{town.file}: {message}", "omx", "--out", town.path("town.omx"), town.file)
     Path(town.path("town.omx")).write_bytes(b"\x89HDF\r\n\x1a\n" + bytes(100))
-    with pytest.raises(BadInput, match="town.omx: not a complete HDF5 file"):
+    with pytest.raises(InputError, match="town.omx: not a complete HDF5 file"):
         open_matrix(town.path("town.omx"))
 
 
@@ -251,12 +251,12 @@ def test_work_of_threads_comes_in_order_and_ends_with_the_first_fault() -> None:
     def work(number: int) -> int:
         begun.append(number)
         if number == 30:
-            raise BadInput("parts", "thirty is lost")
+            raise InputError("parts", "thirty is lost")
         return number
 
-    assert list(in_order(work, range(30), 3)) == list(range(30))
-    with pytest.raises(BadInput, match="thirty is lost"):
-        list(in_order(work, range(1000), 3))
+    assert list(map_in_order(work, range(30), 3)) == list(range(30))
+    with pytest.raises(InputError, match="thirty is lost"):
+        list(map_in_order(work, range(1000), 3))
     assert max(begun) < 40  # few are ahead
 
 
@@ -273,7 +273,7 @@ def test_a_chunk_that_is_damaged_is_told_and_other_forms_of_data_are_read(town: 
     assert whole(open_matrix(town.path("plain.omx"))) == whole(matrix)
     with h5py.File(town.path("damaged.omx"), "r+") as file:
         file["data/cut_50"].id.write_direct_chunk((0, 0), b"no chunk")
-    with pytest.raises(BadInput, match="damaged.omx: /data/cut_50: the chunk that begins with row 1 can't be read"):
+    with pytest.raises(InputError, match="damaged.omx: /data/cut_50: the chunk that begins with row 1 can't be read"):
         whole(open_matrix(town.path("damaged.omx")))
 
 

@@ -6,7 +6,7 @@ from typing import Any
 
 import pytest
 
-from ttm_tools.column_list import BY_ORIGIN, EXPLAINED, JOURNEYS, TableColumn, explained, names_of
+from ttm_tools.core.columns import BY_ORIGIN, EXPLAINED, JOURNEYS, TableColumn, explained, names_of
 from ttm_tools.measures.columns import header, markdown_table
 from ttm_tools.measures.comparison import KINDS
 from ttm_tools.measures.equity import Equity

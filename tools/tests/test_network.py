@@ -16,7 +16,7 @@ import pytest
 import ttm_tools
 from asking import canned
 from helpers import CALENDAR, LONGEST_WAIT, STOP_TIMES, Room, wait_until
-from ttm_tools.faults import WrongWords
+from ttm_tools.core.errors import ArgumentError
 
 EIGHT, NINE = ("08:00", "08:00"), ("09:00", "09:00")
 
@@ -125,7 +125,7 @@ def test_a_closed_network_is_refused_and_leaves_nothing(room: Room) -> None:
     network.close()
     wait_until_gone(process)
     assert not folder.exists()
-    with pytest.raises(WrongWords, match="the network is closed"):
+    with pytest.raises(ArgumentError, match="the network is closed"):
         network.matrix(EIGHT)
 
 
@@ -135,7 +135,7 @@ def test_closing_ends_a_question_that_is_being_answered(room: Room) -> None:
     def ask() -> None:
         try:
             cell(network, EIGHT, "wait")
-        except WrongWords as fault:
+        except ArgumentError as fault:
             printed.append(fault)
 
     thread = threading.Thread(target=ask)
@@ -189,13 +189,13 @@ def test_a_fork_asks_a_process_of_its_own_and_leaves_its_parents_alone(room: Roo
 @pytest.mark.parametrize("path", ["two\nlines", ""])
 def test_a_word_that_no_question_has_is_refused(room: Room, path: str) -> None:
     with canned_network(room) as network:
-        with pytest.raises(WrongWords):
+        with pytest.raises(ArgumentError):
             network.matrix((path, "08:00"))
         assert cell(network, EIGHT) == 480
 
 
 def test_no_process_at_all_is_refused(room: Room) -> None:
-    with pytest.raises(WrongWords, match="at least one"):
+    with pytest.raises(ArgumentError, match="at least one"):
         canned_network(room, workers=0)
 
 

@@ -9,7 +9,7 @@ import numpy as np
 import pytest
 
 from helpers import TOWN, Town, town_matrix
-from ttm_tools.faults import BadInput
+from ttm_tools.core.errors import InputError
 from ttm_tools.matrices import open_matrix, write_open_matrix
 
 h5py = pytest.importorskip("h5py")
@@ -133,5 +133,5 @@ def test_bytes_that_are_damaged_are_told(town: Town, whole: Path) -> None:
             for name in result.scenarios:
                 result.rows(name, 50, 0, 2)
                 result.access(name, 50)
-        except BadInput as fault:
+        except InputError as fault:
             assert str(fault).startswith(town.path("damaged.omx"))

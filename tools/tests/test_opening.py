@@ -12,9 +12,9 @@ import pytest
 
 from helpers import LAUNCHER, STOP_TIMES, Room, Town, town_matrix
 from ttm_tools import cli
-from ttm_tools.faults import BadInput
-from ttm_tools.opening import zips
+from ttm_tools.core.errors import InputError
 from ttm_tools.gtfs import feeds
+from ttm_tools.opening import zips
 from ttm_tools.records import records
 
 FEED = {
@@ -92,13 +92,13 @@ def test_a_line_of_commas_is_told_before_it_is_cut(room: Room) -> None:
     assert "stops.txt: a line of more than 1,048,576 bytes" in told(room, "prepare", "--check", str(path))
     room.write("many.csv", "stop_id", [])
     Path(room.path("many.csv")).write_text("stop_id," + "," * 20_000)
-    with pytest.raises(BadInput, match="more than 10,000 columns"):
+    with pytest.raises(InputError, match="more than 10,000 columns"):
         list(records(room.path("many.csv")))
 
 
 def test_a_quote_without_an_end_does_not_take_the_file(room: Room) -> None:
     Path(room.path("a.csv")).write_text('stop_id\n"' + "A\n" * 1_000_000)
-    with pytest.raises(BadInput, match=r"a.csv: record 2: field larger than field limit"):
+    with pytest.raises(InputError, match=r"a.csv: record 2: field larger than field limit"):
         list(records(room.path("a.csv")))
 
 

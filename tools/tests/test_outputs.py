@@ -15,10 +15,10 @@ import pytest
 
 from asking import script
 from helpers import CALENDAR, LAUNCHER, LONGEST_WAIT, Room, Town, launched, town_matrix, wait_until
-from ttm_tools import folders
-from ttm_tools.files import output, this_machine
-from ttm_tools.locks import lock_file
-from ttm_tools.provenance import command_runs
+from ttm_tools.core import folders
+from ttm_tools.core.files import output, this_machine
+from ttm_tools.core.locks import lock_file
+from ttm_tools.core.provenance import command_runs
 
 MINE = "from_stop_id,to_stop_id,seconds\nA,B,77\n"
 FOREIGN = "did not write this file, or it was changed since: name another output, or add --force to replace it"

@@ -11,7 +11,7 @@ from typing import Sequence
 import pytest
 
 from helpers import CALENDAR, STOP_TIMES, Room, launched
-from ttm_tools.faults import BadInput
+from ttm_tools.core.errors import InputError
 from ttm_tools.parts import PartMatrix, in_order, parts_of, write_whole
 
 ORIGINS = ["A", 'b,"c"', "line\nend", "D", "E", "0004", "G"]
@@ -44,7 +44,7 @@ def joined(paths: Sequence[str]) -> bytes:
 
 
 def refused(paths: Sequence[str], message: str) -> None:
-    with pytest.raises(BadInput) as seen:
+    with pytest.raises(InputError) as seen:
         joined(paths)
     assert str(seen.value) == message
 
@@ -113,7 +113,7 @@ def test_a_matrix_that_ends_after_any_line_is_refused(room: Room) -> None:
         lines = Path(other).read_bytes().splitlines(keepends=True)
         for count in range(1, len(lines)):
             Path(other).write_bytes(b"".join(lines[:count]))
-            with pytest.raises(BadInput):
+            with pytest.raises(InputError):
                 joined([some, other])
 
 

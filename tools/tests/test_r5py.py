@@ -18,7 +18,7 @@ import geopandas  # noqa: E402
 from r5py_town import CLINIC, FAR, HOME, MINUTE, SEVEN_45, degrees, frame, square  # noqa: E402
 from r5py_town import write_feed, write_streets  # noqa: E402
 from ttm_tools import r5py  # noqa: E402
-from ttm_tools.faults import BadInput  # noqa: E402
+from ttm_tools.core.errors import InputError  # noqa: E402
 
 WALK = [r5py.TransportMode.WALK]
 QUARTER: Any = {"max_time_walking": 15 * MINUTE}
@@ -237,7 +237,7 @@ def test_frames_that_say_too_little_are_refused(walking: r5py.TransportNetwork, 
     places = places.drop(columns="id") if damage == "no id" else places
     if damage == "no crs":
         places = geopandas.GeoDataFrame({"id": [1, 2]}, geometry=places.geometry.tolist())
-    with pytest.raises(BadInput, match="^origins: "):
+    with pytest.raises(InputError, match="^origins: "):
         r5py.TravelTimeMatrix(walking, places.drop(columns="geometry") if damage == "no frame" else places)
 
 
@@ -264,7 +264,7 @@ def test_a_feed_with_errors_is_mended_with_a_warning(room: Room, cache: None, pr
         with pytest.warns(UserWarning, match="time: stop_times.txt: 2 fields repaired"):
             with r5py.TransportNetwork(*given, program=program) as network:
                 assert minutes(from_home(network)) == [41]
-    with pytest.raises(BadInput, match="2 errors, the first: stop_times.txt: record 3: bad time"):
+    with pytest.raises(InputError, match="2 errors, the first: stop_times.txt: record 3: bad time"):
         r5py.TransportNetwork(*given, repair=False)
 
 

@@ -14,7 +14,7 @@ for package in ("geopandas", "osmium", "scipy", "pyproj"):
 
 from r5py_town import CLINIC, HOME, MINUTE, SEVEN_45, degrees, frame, write_feed, write_streets  # noqa: E402
 from ttm_tools import r5py  # noqa: E402
-from ttm_tools.faults import BadInput  # noqa: E402
+from ttm_tools.core.errors import InputError  # noqa: E402
 
 WALK = [r5py.TransportMode.WALK]
 QUARTER: Any = {"max_time_walking": 15 * MINUTE, "departure": SEVEN_45}
@@ -163,5 +163,5 @@ def test_a_journey_that_ttm_does_not_confirm_is_refused(
     true = journeys.durations
     later = lambda *words: [item and item + 60 for item in true(*words)]  # noqa: E731
     monkeypatch.setattr(journeys, "durations", later)
-    with pytest.raises(BadInput, match="at 07:54: ttm has 2260.0 seconds, and this search 2320"):
+    with pytest.raises(InputError, match="at 07:54: ttm has 2260.0 seconds, and this search 2320"):
         r5py.DetailedItineraries(network, frame([HOME], ["home"]), frame([CLINIC], [7]), **QUARTER)

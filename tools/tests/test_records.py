@@ -9,7 +9,8 @@ import pytest
 
 from helpers import Room
 from ttm_tools import records
-from ttm_tools.faults import BadInput
+from ttm_tools.core.errors import InputError
+from ttm_tools.core.text import display_text
 from ttm_tools.gtfs import columns, reading
 
 
@@ -18,15 +19,15 @@ def test_bytes_that_are_not_utf8_are_kept_and_shown_as_windows_1252(room: Room) 
     path.write_bytes(b"\xef\xbb\xbfstop_id\nA\n\nB\xe9\n")
     found = list(records.rows(path, ["stop_id"]))
     assert found == [(2, ["A"]), (3, ["B\udce9"])]
-    assert (records.shown(found[1][1][0]), records.field(found[1][1][0])) == ("Bé", b"B\xe9")
+    assert (display_text(found[1][1][0]), records.field(found[1][1][0])) == ("Bé", b"B\xe9")
     assert reading.columns(path, ["stop_id"])["stop_id"].categories.tolist() == ["A", "B\udce9"]
 
 
 def test_a_missing_column_is_told(room: Room) -> None:
     path = room.write("some.csv", "a,b", [["1", "2"]])
-    with pytest.raises(BadInput) as seen:
+    with pytest.raises(InputError) as seen:
         list(records.rows(path, ["c"]))
-    with pytest.raises(BadInput) as same:
+    with pytest.raises(InputError) as same:
         reading.columns(path, ["c"])
     assert str(seen.value) == str(same.value) == f"{path}: record 1: no column c"
 
@@ -60,7 +61,7 @@ def test_a_number_that_is_none_is_told_by_its_record(room: Room) -> None:
     path = room.write("t.csv", "a,b", [["1", "2"], ["x", "1"], ["1_0", "3"]])
     found = reading.columns(path, ["a", "b"])
     assert columns.numbers_of(found["b"], path, "b").tolist() == [2, 1, 3]
-    with pytest.raises(BadInput) as seen:
+    with pytest.raises(InputError) as seen:
         columns.numbers_of(found["a"], path, "a")
     assert str(seen.value) == f"{path}: record 3: a 'x' is not a number"
 

@@ -9,12 +9,12 @@ import pytest
 from browser import Browser
 from helpers import Room
 from test_study import NO_MAPS, Place, place  # noqa: F401
-from ttm_tools.column_list import OF_PEOPLE, names_of
+from ttm_tools.core.columns import OF_PEOPLE, names_of
+from ttm_tools.measures.columns import header as columns_of
 from ttm_tools.measures.comparison import KINDS
+from ttm_tools.measures.equity import Equity
 from ttm_tools.study.document import Document
 from ttm_tools.study.report import as_phrase
-from ttm_tools.measures.columns import header as columns_of
-from ttm_tools.measures.equity import Equity
 
 SPREAD = ["jobs_in_the_centre", 50, 30, "households_of_one", "evening_twice", *[1234567, "123456.7891"], "123456.7891"]
 SPREAD += ["12.3456", "0.1234", "12.3456", "123456.7891", "-12345.6789"]

@@ -9,9 +9,9 @@ from typing import Any, Iterator
 import pytest
 
 from helpers import CALENDAR, LAUNCHER, STOP_TIMES, Cell, Room, Town, launched, town_matrix
-from ttm_tools.escaping import markdown, printed
-from ttm_tools.gtfs.service_days import days_of, runs_by_day
+from ttm_tools.core.text import markdown, printed
 from ttm_tools.gtfs.feeds import read_feed
+from ttm_tools.gtfs.service_days import days_of, runs_by_day
 from ttm_tools.study.document import Document
 
 HOSTILE = "<img src=x onerror=alert(1)> | [a](javascript:b) `c` *d* &lt;"

@@ -14,21 +14,21 @@ from typing import Any, Callable
 import pytest
 
 from helpers import CALENDAR, STOP_TIMES, Room
+from ttm_tools.core.errors import InputError
+from ttm_tools.core.files import sha256_of_file
 from ttm_tools.engine import Run
-from ttm_tools.faults import BadInput
-from ttm_tools.files import sum_of
+from ttm_tools.study import result_list
 from ttm_tools.study.cutting import Costs, Part, costs_of, parts_for, shape_of, study_key
 from ttm_tools.study.elsewhere import Means
 from ttm_tools.study.inputs import make_inputs
 from ttm_tools.study.running import shown
+from ttm_tools.study.settings import PartSettings
 from ttm_tools.study.slurm import ranges
 from ttm_tools.study.stages import Folder
 from ttm_tools.study.study_file import read_study
 from ttm_tools.study.task import write_task
-from ttm_tools.study import result_list
 from ttm_tools.study.template import template
 from ttm_tools.study.ttm import fault_of, toolchain_of, version_of
-from ttm_tools.study.settings import PartSettings
 from ttm_tools.study.work import make_study
 
 for _package in ("h5py", "pandas", "matplotlib"):
@@ -163,7 +163,7 @@ def test_the_matrix_is_that_of_one_run_and_every_result_is_there(place: Place, p
     assert files["matrix.csv"] == whole
     report = files["report.md"].decode()
     assert files["compare_cut.csv"].splitlines()[1].startswith(b"S8,Stop S8,")
-    for printed in ("Who loses if Q goes?", "18 fields repaired", sum_of(place.path("jobs.csv")), "proved"):
+    for printed in ("Who loses if Q goes?", "18 fields repaired", sha256_of_file(place.path("jobs.csv")), "proved"):
         assert printed in report
     assert {"access.csv", "equity.csv", "maps/access.png", "maps/access_cut.png", "matrix.omx"} < set(files)
     # who sets out from S0 after 08:00 reaches S1 on foot and nothing else today: 0.4 and 100.4 jobs
@@ -177,10 +177,10 @@ def test_the_notes_say_what_was_run_from_what_and_by_which_versions(place: Place
     known = {name: was for stage in notes["stages"].values() for name, was in stage["files"].items()}
     files = {str(path.relative_to(folder)) for path in folder.rglob("*") if path.is_file()}
     assert {name for name in files if not name.startswith((".lock", "stages/", "study.json"))} == set(known)
-    assert known == {name: sum_of(folder / name) for name in known}
-    assert notes["sources"]["jobs.csv"] == sum_of(place.path("jobs.csv"))
+    assert known == {name: sha256_of_file(folder / name) for name in known}
+    assert notes["sources"]["jobs.csv"] == sha256_of_file(place.path("jobs.csv"))
     assert [notes["versions"]["ttm"], notes["versions"]["toolchain"]] == [*version_of(program), ""][:2]
-    assert (notes["versions"]["ttm_sha256"], notes["parts"]) == (sum_of(program), 4)
+    assert (notes["versions"]["ttm_sha256"], notes["parts"]) == (sha256_of_file(program), 4)
     assert notes["study_file"] == STUDY and notes["question"] == "Who loses if Q goes?"
     assert set(notes["times"]["seconds"]) == set(notes["stages"])
 
@@ -250,7 +250,7 @@ def test_a_part_of_other_inputs_or_with_other_bytes_is_never_taken(place: Place,
     rotten = (parts / "0001/matrix.csv").read_bytes()
     (parts / "0001/matrix.csv").write_bytes(rotten.replace(b"base,S0,25,1008,", b"base,S0,25,2008,"))
     (place.folder / "nine/matrix.omx").unlink()
-    with pytest.raises(BadInput, match="parts/0001/matrix.csv: changed since it was written"):
+    with pytest.raises(InputError, match="parts/0001/matrix.csv: changed since it was written"):
         make_study(study, place.folder / "nine", Means(2))
     assert computed_after(study, place) == wanted
 
@@ -311,7 +311,7 @@ def test_verification_finds_a_row_that_ttm_does_not_compute(place: Place) -> Non
     (place.folder / "nine/matrix.csv").write_text(
         text.replace("base,S0,25,1008,1008,0,435,", "base,S0,25,1008,1008,0,436,")
     )
-    notes["stages"]["matrix"]["files"]["matrix.csv"] = sum_of(place.folder / "nine/matrix.csv")
+    notes["stages"]["matrix"]["files"]["matrix.csv"] = sha256_of_file(place.folder / "nine/matrix.csv")
     (place.folder / "nine/study.json").write_text(json.dumps(notes))
     drawn = {random.Random(seed).sample(range(9), 1)[0]: seed for seed in range(99)}
     message = "matrix.csv: the row of base, share 25, origin S0 isn't what ttm computes"
@@ -351,7 +351,7 @@ def test_wrong_words_of_a_study_are_told_with_their_line_and_the_nearest_name(ba
     for (old, new), printed in cases.items():
         assert STUDY.count(old) == 1
         path = bare.say(STUDY.replace(old, new))
-        with pytest.raises(BadInput) as seen:
+        with pytest.raises(InputError) as seen:
             read_study(path)
         assert str(seen.value).startswith(f"{path}: {printed}"), (new, str(seen.value))
 

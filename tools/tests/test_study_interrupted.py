@@ -14,8 +14,8 @@ import pytest
 
 from helpers import LAUNCHER, Room, as_in_a_terminal, wait_until
 from test_study import STUDY, Place, place  # noqa: F401
+from ttm_tools.core.signals import Interrupted
 from ttm_tools.engine import Run
-from ttm_tools.files import Interrupted
 from ttm_tools.study.cutting import Part
 from ttm_tools.study.running import Pool, run_parts, tell_ending
 

@@ -14,10 +14,10 @@ import pytest
 
 from helpers import LAUNCHER, Room
 from test_study import NO_MAPS, STOPS, STUDY, Place
+from ttm_tools.core.errors import InputError
+from ttm_tools.core.filenames import file_names
+from ttm_tools.core.files import atomic_folder, sha256_of_file
 from ttm_tools.engine import Run
-from ttm_tools.faults import BadInput
-from ttm_tools.files import many_written_aside, sum_of
-from ttm_tools.naming import file_names
 from ttm_tools.study import counted, inputs as study_inputs, stages
 from ttm_tools.study.cutting import Part
 from ttm_tools.study.hosts import command
@@ -154,7 +154,7 @@ def test_what_is_put_into_a_folder_that_a_kill_left_is_never_removed(
         def make() -> list[str]:
             if kill == "before":
                 os.kill(os.getpid(), signal.SIGKILL)
-            with many_written_aside("maps") as aside:
+            with atomic_folder("maps") as aside:
                 (aside / "access.png").write_text("drawn")
                 if kill == "within":
                     os.kill(os.getpid(), signal.SIGKILL)
@@ -171,7 +171,7 @@ def test_what_is_put_into_a_folder_that_a_kill_left_is_never_removed(
         assert os.waitstatus_to_exitcode(os.waitpid(child, 0)[1]) == -signal.SIGKILL
         Path("maps").mkdir(exist_ok=True)
         Path("maps/mine.png").write_text("mine")
-        with pytest.raises(BadInput, match="maps/mine.png: doesn't belong to this study"):
+        with pytest.raises(InputError, match="maps/mine.png: doesn't belong to this study"):
             folder.do(stage("never"))
         assert Path("maps/mine.png").read_text() == "mine"
         Path("maps/mine.png").unlink()
@@ -188,7 +188,7 @@ def test_a_kill_while_old_outputs_are_removed_leaves_the_study_its_own(
     folder = stages.Folder(Path("."))
 
     def make() -> list[str]:
-        with many_written_aside("maps") as aside:
+        with atomic_folder("maps") as aside:
             (aside / "access.png").write_text("drawn")
         return []
 
@@ -291,7 +291,7 @@ def noted(write: Callable[..., None], wanted: str, change: Callable[[], object])
 
 def test_the_sums_that_are_stated_are_those_that_were_read(place: Place, monkeypatch: pytest.MonkeyPatch) -> None:
     path = place.lay_out(NO_MAPS)
-    was = sum_of(place.path("jobs.csv"))
+    was = sha256_of_file(place.path("jobs.csv"))
     whole = stages.Folder.do
 
     def do(self: Any, stage: Any) -> Any:
@@ -390,7 +390,7 @@ def test_links_of_a_ready_feed_do_not_lead_out_of_it(bare: Place) -> None:
     path = bare.lay_out(STUDY.replace('files = ["published"]', 'files = ["published"]\nready = true'))
     (bare.folder / "published/shapes.txt").symlink_to("../jobs.csv")
     (bare.folder / "made").mkdir()
-    with pytest.raises(BadInput, match="leads out of the folder"), contextlib.chdir(bare.folder / "made"):
+    with pytest.raises(InputError, match="leads out of the folder"), contextlib.chdir(bare.folder / "made"):
         study_inputs.taken(str(bare.folder / "published"), bare.folder / "made")
     assert read_study(path).feed.ready
 

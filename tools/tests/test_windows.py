@@ -19,8 +19,8 @@ from asking import canned, script, standing_in
 from helpers import CALENDAR, read
 from test_study import STUDY, Place, bare, killed_after, place  # noqa: F401
 from ttm_tools.conversation import Answer
+from ttm_tools.core.signals import Interrupted
 from ttm_tools.engine import Run
-from ttm_tools.files import Interrupted
 from ttm_tools.matrices import open_matrix
 from ttm_tools.measures.access_table import AccessKind, AccessTable
 from ttm_tools.measures.opportunities import Counts
@@ -32,14 +32,7 @@ from ttm_tools.study.settings import DayWindow
 from ttm_tools.study.study_file import read_study
 from ttm_tools.study.window_changes import changes_of, write_changes
 from ttm_tools.study.work import make_study
-from ttm_tools.views.windows import (
-    WindowColumn,
-    FigureLabels,
-    figure_by_time,
-    figure_of_heat,
-    figure_of_maps,
-    levels,
-)
+from ttm_tools.views.windows import FigureLabels, WindowColumn, figure_by_time, figure_of_heat, figure_of_maps, levels
 
 WINDOWS = (
     'windows = [{ name = "early", from = "08:00", to = "08:00" }, { name = "night", from = "21:00", to = "21:01" }]'

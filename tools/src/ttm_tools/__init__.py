@@ -1,28 +1,52 @@
-"""What analysts do before and after a run of `ttm`: `ttm-tools --help` names the commands, and `matrix(..)` runs
-`ttm`, and `Network(..)` keeps one for many questions.
+"""Travel times by public transport, computed by the proved engine `ttm`, and tools for what comes before and after.
+
+`matrix` runs the engine once, and `Network` keeps a network for many questions. `ttm-tools --help` lists the commands.
 """
 
+from importlib import import_module
 from typing import TYPE_CHECKING
 
 if TYPE_CHECKING:
+    from .core.errors import ArgumentError, InputError, MissingDependencyError
     from .engine import EngineFault, Result, Run, matrix
-    from .faults import BadInput, WrongWords
     from .network import Network
 
 __version__ = "0.1.0"
-HOMES = {"BadInput": ".faults", "WrongWords": ".faults", "Network": ".network"}  # else .engine
-__all__ = ["BadInput", "EngineFault", "Network", "Result", "Run", "WrongWords", "matrix"]
+MODULES = {
+    "ArgumentError": "core.errors",
+    "EngineFault": "engine",
+    "InputError": "core.errors",
+    "MissingDependencyError": "core.errors",
+    "Network": "network",
+    "Result": "engine",
+    "Run": "engine",
+    "matrix": "engine",
+}
+RENAMED = {"BadInput": "InputError", "WrongWords": "ArgumentError"}  # removed in the next version
+__all__ = [
+    "ArgumentError",
+    "EngineFault",
+    "InputError",
+    "MissingDependencyError",
+    "Network",
+    "Result",
+    "Run",
+    "matrix",
+]
 
 
 def __getattr__(name: str) -> object:
-    """Names of the package that need numpy, from it only when they are used."""
-    from importlib import import_module
+    """Import a public name when it is first used, so that `import ttm_tools` stays quick."""
+    if name in RENAMED:
+        from .core.deprecation import warn_renamed
 
-    if name in __all__:
-        return getattr(import_module(HOMES.get(name, ".engine"), __name__), name)
-    raise AttributeError(name)
+        warn_renamed(f"ttm_tools.{name}", f"ttm_tools.{RENAMED[name]}")
+    new = RENAMED.get(name, name)
+    if new in MODULES:
+        return getattr(import_module(f".{MODULES[new]}", __name__), new)
+    raise AttributeError(f"module {__name__!r} has no attribute {name!r}")
 
 
 def __dir__() -> list[str]:
-    """All public names, also those that weren't used yet."""
+    """List all public names, including those that have not been imported yet."""
     return sorted({*globals(), *__all__})

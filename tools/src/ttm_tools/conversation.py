@@ -14,8 +14,8 @@ from collections import deque
 from dataclasses import dataclass
 from typing import IO, Any, Sequence
 
+from .core.errors import ArgumentError
 from .engine import EngineFault, Pathlike, refusal_of, warnings_in
-from .faults import WrongWords
 
 HEAD = re.compile(rb"answer ([0-9]{1,3}) ([0-9]{1,18})\n")
 LONGEST_HEAD = 64  # bytes
@@ -37,7 +37,7 @@ def block_of(arguments: Sequence[str]) -> bytes:
     """The bytes of a question. A word with a line end, or an empty one, has no place in it."""
     for word in arguments:
         if not word or "\n" in word:
-            raise WrongWords(f"a question has no word {word!r}")
+            raise ArgumentError(f"a question has no word {word!r}")
     return b"".join(os.fsencode(word) + b"\n" for word in arguments) + b"\n"
 
 

@@ -13,11 +13,11 @@ from typing import Any, Iterable, Mapping, Sequence
 
 import numpy as np
 
+from .core.errors import ArgumentError, InputError, MissingDependencyError
+from .core.files import output
+from .core.folders import scratch
 from .dates import as_ttm_reads
-from .faults import BadInput, Lacking, WrongWords
-from .files import output
-from .folders import scratch
-from .matrices import BASE, TODAY, Matrix, Seconds, Sums, open_matrix
+from .matrices import BASE, Matrix, Seconds, Sums, TODAY, open_matrix
 from .plans.nearness import new_stops_in, sentences_on_nearer
 from .records import Rounded, write_rows
 
@@ -36,7 +36,7 @@ BUILT = Path(__file__).resolve().parents[3] / "crates" / "ttm" / "out" / "ttm"  
 Pathlike = str | os.PathLike[str]
 
 
-class EngineFault(BadInput):
+class EngineFault(InputError):
     """What `ttm` printed where it ended without a matrix: `line` is its refusal, `explanation` the lines behind it,
     `ended` its exit status; file, record, column or option, value, and what is allowed as far as it says them.
     """
@@ -117,7 +117,7 @@ def program_at(path: Pathlike | None) -> str:
     if named is None and BUILT.is_file():
         named = BUILT
     if named is None or shutil.which(str(named)) is None:
-        raise Lacking(
+        raise MissingDependencyError(
             f"no program ttm {named or ''}: put it on the PATH, name it with TTM_PROGRAM, or with program=".strip()
         )
     return str(named)
@@ -195,11 +195,11 @@ class Result:
         """A scenario and a share that are there; the share needs to be named only where there are several."""
         scenario = self.base if named is None else named
         if share is None and len(self.shares) > 1:
-            raise WrongWords(f"the matrix has the percentiles {', '.join(map(str, self.shares))}: name one")
+            raise ArgumentError(f"the matrix has the percentiles {', '.join(map(str, self.shares))}: name one")
         key = (scenario, self.shares[0] if share is None else share)
         if key not in self.seconds:
             names, shares = ", ".join(self.scenarios), ", ".join(map(str, self.shares))
-            raise WrongWords(f"no scenario {scenario} with the percentile {key[1]}: it has {names} with {shares}")
+            raise ArgumentError(f"no scenario {scenario} with the percentile {key[1]}: it has {names} with {shares}")
         return key
 
 

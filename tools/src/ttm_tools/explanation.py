@@ -11,18 +11,20 @@ from dataclasses import replace
 from pathlib import Path
 from typing import IO, Iterator, Sequence
 
+from .core.arrays import Whole
+from .core.console import say
+from .core.errors import InputError
+from .core.folders import scratch
+from .core.text import display_text
 from .engine import EngineFault, Pathlike, Run, files_of, nearer_by_plan, program_at, refusal_of
-from .faults import BadInput, say
+from .gtfs.footpaths import Footpaths, read_walks
 from .gtfs.stops import Stops, read_stops
-from .folders import scratch
-from .matrices import BASE, TODAY, Matrix, open_matrix
+from .gtfs.timetable import DAY, Timetable, read_edits, read_timetable, runs_of
+from .matrices import BASE, Matrix, TODAY, open_matrix
 from .measures.journeys import Search, cell, durations, journey
 from .measures.search_network import Schedule
 from .opening.paths import regular
-from .records import Rounded, shown
-from .gtfs.fields import Whole
-from .gtfs.footpaths import Footpaths, read_walks
-from .gtfs.timetable import DAY, Timetable, read_edits, read_timetable, runs_of
+from .records import Rounded
 from .views.journeys import ExplainOptions, Found
 
 
@@ -40,7 +42,7 @@ def all_found(
     stops = read_stops(str(task.feed))
     for name in dict.fromkeys(name for pair in pairs for name in pair):
         if name not in stops.places or stops.kinds[stops.places[name]] != 0:
-            raise BadInput(stops.path, f"no stop {shown(name)} at which vehicles call")
+            raise InputError(stops.path, f"no stop {display_text(name)} at which vehicles call")
     files = scenarios_of(task.scenarios)
     timetable, cells = read_both(task, stops, list(files), pairs, matrix, program)
     say(*nearer_by_plan(task))
@@ -140,7 +142,7 @@ def cells_of(matrix: Matrix, names: Sequence[str], share: int, pairs: Pairs) -> 
     cells: dict[tuple[str, str], TimesByScenario] = {}
     for origin, destination in pairs:
         if destination not in matrix.places:
-            raise BadInput(matrix.path, f"no stop {shown(destination)}")
+            raise InputError(matrix.path, f"no stop {display_text(destination)}")
         place = matrix.places[destination]
         found = {name: float(matrix.seconds(matrix.scenario(name), chosen, origin)[place]) for name in names}
         cells[origin, destination] = {name: None if math.isnan(cell) else int(cell) for name, cell in found.items()}
@@ -163,7 +165,7 @@ def tell_difference(found: Found, seconds: int | None, origin: str, destination:
     """The fault where `ttm` has another travel time."""
     if found.cell != seconds:
         one, other = ("none" if value is None else f"{value} seconds" for value in (seconds, found.cell))
-        ends = f"from {shown(origin)} to {shown(destination)}, {shown(found.name)}"
-        raise BadInput(
+        ends = f"from {display_text(origin)} to {display_text(destination)}, {display_text(found.name)}"
+        raise InputError(
             "the travel times differ", f"{ends}: ttm has {one}, and this search, which isn't proved, has {other}"
         )

@@ -12,9 +12,9 @@ import weakref
 from pathlib import Path
 from typing import Iterable, Iterator, Mapping, Sequence
 
+from .core.errors import ArgumentError
+from .core.files import remove
 from .engine import EngineFault, Pathlike, Result, Run, files_of, program_at, refusal_of, result_of
-from .faults import WrongWords
-from .files import remove
 from .matrices import open_matrix
 from .process_pool import PLACEHOLDER_WINDOW, ProcessPool, ask_command
 from .records import Rounded
@@ -49,11 +49,11 @@ class Network:
 
     Raises
     ------
-    WrongWords
+    ArgumentError
         `workers` is below 1.
-    BadInput
+    InputError
         The seconds of a footpath are negative or too large.
-    Lacking
+    MissingDependencyError
         There is no `ttm` executable.
 
     Notes
@@ -81,7 +81,7 @@ class Network:
         program: Pathlike | None = None,
     ) -> None:
         if workers < 1:
-            raise WrongWords(f"workers={workers}: at least one process is needed")
+            raise ArgumentError(f"workers={workers}: at least one process is needed")
         executable, self.rounded = program_at(program), Rounded()
         self.folder = Path(tempfile.mkdtemp(prefix=f"ttm-tools-network.{os.getpid()}."))
         try:
@@ -154,9 +154,9 @@ class Network:
         ------
         EngineFault
             `ttm` refused the feed or the question. The exception has file, record and value if `ttm` names them.
-        WrongWords
+        ArgumentError
             The network is closed.
-        BadInput
+        InputError
             An opportunity is negative or too large.
         """
         rounded, numbers = Rounded(), {"trips": trips, "workers": workers, "tries": tries}
@@ -179,7 +179,7 @@ class Network:
     def question_folder(self) -> Iterator[Path]:
         """Create a folder for the files of one question, and remove it afterwards."""
         if not self.finalizer.alive:
-            raise WrongWords("the network is closed")
+            raise ArgumentError("the network is closed")
         try:
             folder = Path(tempfile.mkdtemp(dir=self.folder))
             try:
@@ -190,7 +190,7 @@ class Network:
             # Another thread's `close` removes the folder, so its files may be missing.
             if self.finalizer.alive:
                 raise
-            raise WrongWords("the network was closed during a question") from None
+            raise ArgumentError("the network was closed during a question") from None
 
     def close(self) -> None:
         """End the processes and remove the temporary files. Closing twice is allowed."""

@@ -8,13 +8,14 @@ from dataclasses import dataclass, field
 from pathlib import Path
 from typing import BinaryIO, Iterator, Sequence, TypeVar
 
-from .faults import BadInput, quantity, some
+from .core.errors import InputError
+from .core.files import atomic_folder
+from .core.text import display_text, first_few, quantity
 from .gtfs.stops import in_folder, kind_of
-from .files import many_written_aside
 from .matrices.layout import MatrixLayout, layout_of
 from .matrices.lines import content, count_of_fields, fields_of, head_of, read_record, records_of, refuse_wide
 from .opening.paths import as_one_line, regular
-from .records import rows, shown, write_rows
+from .records import rows, write_rows
 
 Item = TypeVar("Item")
 BYTES_AT_ONCE = 1 << 20
@@ -25,7 +26,7 @@ def origins_in(path: str) -> list[str]:
     named: dict[str, None] = {}
     for number, (stop,) in rows(path, ["stop_id"]):
         if stop in named:
-            raise BadInput(path, f"{shown(stop)} occurs twice", record=number)
+            raise InputError(path, f"{display_text(stop)} occurs twice", record=number)
         named[stop] = None
     return list(named)
 
@@ -53,8 +54,8 @@ def write_parts(origins: Sequence[str], parts: int, folder: str) -> int:
     cut = {f"part_{number:04}.csv": part for number, part in enumerate(parts_of(origins, parts), 1)}
     for other in sorted(Path(folder).glob("part_[0-9]*.csv")):
         if other.name not in cut:
-            raise BadInput(other, "belongs to another split: name another folder, or remove it")
-    with many_written_aside(folder) as aside:
+            raise InputError(other, "belongs to another split: name another folder, or remove it")
+    with atomic_folder(folder) as aside:
         for name, stops in {"origins.csv": origins, **cut}.items():
             with open(aside / name, "wb") as file:
                 write_stops(file, stops)
@@ -87,11 +88,11 @@ class PartMatrix:
         """Reads all records behind the header, the shares of each origin together."""
         layout = layout_of(fields_of(self.header))
         if layout is None or not self.header.endswith(b"\n"):
-            raise BadInput(self.path, "not a matrix" if layout is None else "truncated")
+            raise InputError(self.path, "not a matrix" if layout is None else "truncated")
         end = file.tell()
         for (name, origin), lines in itertools.groupby(self.lines(file, layout), key=operator.itemgetter(0, 1)):
             if name in self.scenarios and name != next(reversed(self.scenarios)):
-                raise BadInput(self.path, f"the rows of {shown(name)} aren't consecutive")
+                raise InputError(self.path, f"the rows of {display_text(name)} aren't consecutive")
             scenario = self.scenarios.setdefault(name, Scenario(end, end))
             scenario.origins.append(origin)
             shares = list[str]()
@@ -101,8 +102,8 @@ class PartMatrix:
             scenario.end = end
             self.shares = shares if self.shares is None else self.shares
             if shares != self.shares:
-                what = f"{shown(origin)} has other percentiles in {shown(name)} than the first origin"
-                raise BadInput(self.path, what)
+                what = f"{display_text(origin)} has other percentiles in {display_text(name)} than the first origin"
+                raise InputError(self.path, what)
 
     def lines(self, file: BinaryIO, layout: MatrixLayout) -> Iterator[tuple[str, str, list[str], int]]:
         """The scenario, the origin, the share if there is one, and the length of each line."""
@@ -110,7 +111,7 @@ class PartMatrix:
             line = content(record)
             heads, first = head_of(line, layout.first_cell)
             if len(heads) + count_of_fields(line, first) != layout.width or len(line) == len(record):
-                raise BadInput(self.path, "truncated")
+                raise InputError(self.path, "truncated")
             yield heads[0], heads[1], heads[2:3] if layout.names_share else [], len(record)
 
     @property
@@ -122,14 +123,14 @@ class PartMatrix:
 def are_alike(part: PartMatrix, first: PartMatrix) -> None:
     """Refuses a part that is of another study than the first one, or lacks rows."""
     if part.header != first.header:
-        raise BadInput(part.path, f"its header isn't that of {first.path}")
+        raise InputError(part.path, f"its header isn't that of {first.path}")
     if list(part.scenarios) != list(first.scenarios):
-        raise BadInput(part.path, f"its scenarios aren't those of {first.path}")
+        raise InputError(part.path, f"its scenarios aren't those of {first.path}")
     if part.shares != first.shares:
-        raise BadInput(part.path, f"its percentiles aren't those of {first.path}")
+        raise InputError(part.path, f"its percentiles aren't those of {first.path}")
     for name, scenario in part.scenarios.items():
         if scenario.origins != part.first:
-            raise BadInput(part.path, f"{shown(name)} has other origins than the first scenario")
+            raise InputError(part.path, f"{display_text(name)} has other origins than the first scenario")
 
 
 def in_order(parts: Sequence[PartMatrix], origins: Sequence[str], origins_file: str) -> list[PartMatrix]:
@@ -140,16 +141,16 @@ def in_order(parts: Sequence[PartMatrix], origins: Sequence[str], origins_file: 
         are_alike(part, parts[0])
         for origin in part.first:
             if origin not in place:
-                raise BadInput(part.path, f"{shown(origin)} isn't an origin of the study")
+                raise InputError(part.path, f"{display_text(origin)} isn't an origin of the study")
             if origin in holder:
-                raise BadInput(part.path, f"origin {shown(origin)} is in {holder[origin]}, too")
+                raise InputError(part.path, f"origin {display_text(origin)} is in {holder[origin]}, too")
             holder[origin] = part.path
-    lost = [shown(origin) for origin in origins if origin not in holder]
+    lost = [display_text(origin) for origin in origins if origin not in holder]
     if lost:
-        raise BadInput(origins_file, f"{quantity(len(lost), 'origin')} in no part: {some(lost, 1)}")
+        raise InputError(origins_file, f"{quantity(len(lost), 'origin')} in no part: {first_few(lost, 1)}")
     ordered = sorted(parts, key=lambda part: place[part.first[0]] if part.first else -1)
     if [origin for part in ordered for origin in part.first] != list(origins):
-        raise BadInput(origins_file, "the parts aren't consecutive origins of the study")
+        raise InputError(origins_file, "the parts aren't consecutive origins of the study")
     return ordered
 
 
@@ -169,4 +170,4 @@ def copy(path: Path, rows_of: Scenario, out: BinaryIO) -> None:
             out.write(block)
             left -= len(block)
         if left:
-            raise BadInput(path, "became shorter while it was read")
+            raise InputError(path, "became shorter while it was read")

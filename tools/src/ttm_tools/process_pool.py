@@ -5,8 +5,8 @@ import threading
 from typing import Sequence
 
 from .conversation import Answer, Conversation
+from .core.errors import ArgumentError
 from .engine import EngineFault, Pathlike
-from .faults import WrongWords
 
 # `ttm` requires a window on the command line; every question overrides it.
 PLACEHOLDER_WINDOW = ("00:00", "00:00")
@@ -52,7 +52,7 @@ class ProcessPool:
         """Start a process and register it for `close`."""
         with self.lock:
             if self.closed:
-                raise WrongWords("the network is closed")
+                raise ArgumentError("the network is closed")
             process = Conversation(self.command, self.cwd)
             self.running.add(process)
             return process
@@ -71,7 +71,7 @@ class ProcessPool:
         ------
         EngineFault
             The process ended instead of answering, or broke the protocol.
-        WrongWords
+        ArgumentError
             The pool was closed before or during the question, or an argument cannot be sent.
         """
         process = self.idle.get()
@@ -84,7 +84,7 @@ class ProcessPool:
             return process.ask(arguments)
         except EngineFault:
             if self.closed:
-                raise WrongWords("the network was closed during a question") from None
+                raise ArgumentError("the network was closed during a question") from None
             raise
         finally:
             self.idle.put(process)
@@ -97,7 +97,7 @@ class ProcessPool:
                 self.running.discard(process)
 
     def close(self) -> None:
-        """End all processes. Questions that are under way fail with `WrongWords`."""
+        """End all processes. Questions that are under way fail with `ArgumentError`."""
         with self.lock:
             self.closed, running = True, list(self.running)
             self.running.clear()

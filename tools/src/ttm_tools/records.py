@@ -2,7 +2,7 @@
 
 The header is record 1 and empty lines aren't counted. Identifiers are bytes to `ttm`: bytes that aren't UTF-8 are kept
 in a text as Python's surrogate escapes and written back as they were. What people read (names of stops) is made by
-`shown`.
+`display_text`.
 """
 
 import csv
@@ -14,7 +14,8 @@ from typing import Any, BinaryIO, Callable, Iterable, Iterator, Sequence
 import numpy as np
 import numpy.typing as npt
 
-from .faults import BadInput
+from .core.errors import InputError
+from .core.text import display_text
 from .opening.tables import MOST_COLUMNS, looked_at, parsed
 
 Texts = npt.NDArray[np.object_]
@@ -29,12 +30,12 @@ def records(path: str | Path) -> Iterator[tuple[int, list[str]]]:
                 if fields:
                     number += 1
                     if number == 1 and len(fields) > MOST_COLUMNS:
-                        raise BadInput(path, f"more than {MOST_COLUMNS:,} columns", record=1)
+                        raise InputError(path, f"more than {MOST_COLUMNS:,} columns", record=1)
                     yield number, fields
     except csv.Error as fault:
-        raise BadInput(path, str(fault), record=number + 1) from None
+        raise InputError(path, str(fault), record=number + 1) from None
     except OSError as fault:
-        raise BadInput(path, fault.strerror) from None
+        raise InputError(path, fault.strerror) from None
 
 
 def places_of(header: Sequence[str], path: str | Path, needed: Sequence[str]) -> dict[str, int]:
@@ -44,7 +45,7 @@ def places_of(header: Sequence[str], path: str | Path, needed: Sequence[str]) ->
         places.setdefault(name.strip(" "), place)
     for name in needed:
         if name not in places:
-            raise BadInput(path, f"no column {name}", record=1)
+            raise InputError(path, f"no column {name}", record=1)
     return places
 
 
@@ -53,7 +54,7 @@ def refuse_alike(path: str | Path, header: Sequence[str], names: Iterable[str]) 
     heads = [column.strip(" ") for column in header]
     twice = next((name for name in names if heads.count(name) > 1), None)
     if twice is not None:
-        raise BadInput(path, f"two columns {shown(twice)}", record=1)
+        raise InputError(path, f"two columns {display_text(twice)}", record=1)
 
 
 def rows(path: str | Path, needed: Sequence[str], wanted: Sequence[str] = ()) -> Iterator[tuple[int, list[str]]]:
@@ -83,19 +84,6 @@ def names_of(path: str | Path) -> list[str]:
     """The names of a file's columns, each once, without the spaces around it."""
     _, header = next(records(path), (1, list[str]()))
     return list(dict.fromkeys(name.strip(" ") for name in header))
-
-
-def shown(text: str) -> str:
-    """A text for people: bytes that aren't UTF-8 are read as Windows-1252, as feeds that aren't UTF-8 most often
-    are.
-    """
-    if text.isascii() or not any("\udc80" <= letter <= "\udcff" for letter in text):
-        return text
-    data = text.encode("utf-8", "surrogateescape")
-    try:
-        return data.decode("cp1252")
-    except UnicodeDecodeError:
-        return data.decode("latin-1")
 
 
 def field(text: object) -> bytes:
@@ -177,7 +165,7 @@ class Rounded:
         number = number_of(text.strip())
         if not 0 <= number < 1 << 32:
             allowed = "a number from 0 to 4294967295"
-            raise BadInput(path, "is invalid", record=record, column=column, value=text, allowed=allowed)
+            raise InputError(path, "is invalid", record=record, column=column, value=text, allowed=allowed)
         rounded = math.ceil(number) if up else math.floor(number + 0.5)
         self.count += rounded != number
         return rounded

@@ -14,9 +14,11 @@ import warnings
 from typing import Iterator, Sequence
 
 from .. import __version__
-from ..faults import BadInput, Lacking, WrongWords, one_line
-from ..files import Interrupted, is_full, outputs_locked, unwind_on_signals
-from ..provenance import command_runs
+from ..core.console import one_line
+from ..core.errors import ArgumentError, InputError, MissingDependencyError
+from ..core.files import is_full, outputs_locked
+from ..core.provenance import command_runs
+from ..core.signals import Interrupted, unwind_on_signals
 from .options import Parser
 from .streams import fault_of_output, fill_closed, give_up_output
 
@@ -54,8 +56,8 @@ def status_of(args: argparse.Namespace) -> int:
             status = args.run(args) or 0
         sys.stdout.flush()
         return status
-    except (BadInput, Lacking, WrongWords) as fault:
-        line, status = begin + one_line(fault), fault.status
+    except (InputError, MissingDependencyError, ArgumentError) as fault:
+        line, status = begin + one_line(fault), fault.exit_status
     except MemoryError:
         line, status = begin + "out of memory", NO_MEMORY
     except BrokenPipeError:
@@ -64,7 +66,10 @@ def status_of(args: argparse.Namespace) -> int:
     except OSError as fault:
         line, status = begin + one_line(fault_of_file(fault)), 1
     except (Interrupted, KeyboardInterrupt) as end:
-        line, status = begin + (one_line(end) or "interrupted"), end.status if isinstance(end, Interrupted) else 130
+        line, status = (
+            begin + (one_line(end) or "interrupted"),
+            end.exit_status if isinstance(end, Interrupted) else 130,
+        )
     except Exception as fault:
         line, status = begin + one_line(of_its_own(fault)), OF_ITS_OWN
     print(line, file=sys.stderr)

@@ -2,13 +2,13 @@ import argparse
 from dataclasses import replace
 from typing import TYPE_CHECKING, Callable
 
-from ..faults import WrongWords, needs
-from ..files import output
+from ..core.errors import ArgumentError, needs
+from ..core.files import output
 from ..measures.measure_list import COMPETITIONS, DECAYS
 from .options import Parser, column_of, decimals, opened, scenarios_of
 
 if TYPE_CHECKING:
-    from ..gtfs.fields import Floats
+    from ..core.arrays import Floats
     from ..matrices import Matrix, Share
     from ..measures.opportunities import Counts
 
@@ -62,10 +62,10 @@ def run(args: argparse.Namespace) -> None:
     refuse_together(args)
     needs("numpy")
     from ..measures.opportunities import read_counts
-    from ..points.shown import shown_of
-    from ..views.access import ACCESS, NEAREST, Form, measured, write_access
+    from ..points.shown import select_points
+    from ..views.access import ACCESS, Form, NEAREST, measured, write_access
 
-    matrix, _ = shown_of(opened(args), None, args.points)
+    matrix, _ = select_points(opened(args), None, args.points)
     scenarios = scenarios_of(matrix, [args.scenario] if args.scenario else [])
     shares = matrix.shares if args.share is None else [matrix.share(args.share)]
     counts = read_counts(args.opportunities, matrix.stops, "stop of the matrix", args.column)
@@ -83,18 +83,18 @@ def run(args: argparse.Namespace) -> None:
 
 def refuse_together(args: argparse.Namespace) -> None:
     if args.decay == "exponential" and min(args.cutoffs) < 0.01:
-        raise WrongWords("--decay exponential needs --cutoffs above 0: they are half-lives")
+        raise ArgumentError("--decay exponential needs --cutoffs above 0: they are half-lives")
     if args.nearest and min(args.nearest) <= 0:
-        raise WrongWords("--nearest needs numbers above 0")
+        raise ArgumentError("--nearest needs numbers above 0")
     others = [name for name in ("nearest", "competition", "interval") if getattr(args, name)]
     if len(others) > 1:
-        raise WrongWords(f"--{others[0]} and --{others[1]} are two measures: choose one")
+        raise ArgumentError(f"--{others[0]} and --{others[1]} are two measures: choose one")
     if bool(args.competition) != bool(args.demand) or args.demand_column and not args.demand:
-        raise WrongWords("--competition and --demand go together")
+        raise ArgumentError("--competition and --demand go together")
     if args.interval and (len(args.interval) != 2 or not all(minutes.is_integer() for minutes in args.interval)):
-        raise WrongWords("--interval is two whole numbers of minutes, such as 15,45")
+        raise ArgumentError("--interval is two whole numbers of minutes, such as 15,45")
     if args.interval and args.decay != "step":
-        raise WrongWords("--interval goes with --decay step")
+        raise ArgumentError("--interval goes with --decay step")
 
 
 def measure_of(args: argparse.Namespace, matrix: "Matrix", counts: "Counts") -> "Callable[[str, Share], Floats]":

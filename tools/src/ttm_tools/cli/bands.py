@@ -1,8 +1,8 @@
 import argparse
 
-from ..faults import WrongWords, needs
-from ..files import output
-from ..picture_files import write_picture
+from ..core.errors import ArgumentError, needs
+from ..core.files import output
+from ..views.picture_files import write_picture
 from .options import Parser, Range, decimals
 
 SUMMARY = "the number of people in bands of access, or of the time to the nearest opportunities"
@@ -33,7 +33,7 @@ def describe(parser: Parser) -> None:
 
 def run(args: argparse.Namespace) -> None:
     if args.bands is None:
-        raise WrongWords("--bands is needed, such as 1000,10000")
+        raise ArgumentError("--bands is needed, such as 1000,10000")
     needs("numpy", *(["matplotlib"] if args.picture else []))
     from ..measures.access_table import read_access
     from ..measures.opportunities import read_counts

@@ -1,7 +1,8 @@
 import argparse
 
-from ..faults import BadInput, WrongWords, needs, say
-from ..files import output
+from ..core.console import say
+from ..core.errors import ArgumentError, InputError, needs
+from ..core.files import output
 from .options import Parser, Range, opened
 
 SUMMARY = "who loses and who gains between two scenarios"
@@ -51,18 +52,18 @@ def describe(parser: Parser) -> None:
 
 def run(args: argparse.Namespace) -> None:
     if args.by == "pair" and (args.least > 1 or args.listed != "both"):
-        raise WrongWords("--least and --listed go with --by origin")
+        raise ArgumentError("--least and --listed go with --by origin")
     needs("numpy")
     from ..matrices import pair_of
     from ..measures.comparison import compare
-    from ..points.shown import shown_of
+    from ..points.shown import select_points
     from ..views.differences import OriginChoice, summary, write_origins, write_pairs
 
-    (matrix, stops), by_pair = shown_of(opened(args), args.feed, args.points), args.by == "pair"
+    (matrix, stops), by_pair = select_points(opened(args), args.feed, args.points), args.by == "pair"
     place = None if by_pair else matrix.limit(args.within)[0]
     pair = pair_of(matrix, args.base, args.scenario, args.share)
     if pair.lacking and not args.partial:
-        raise BadInput(args.matrix, f"{pair.lacking} (--partial compares the others)")
+        raise InputError(args.matrix, f"{pair.lacking} (--partial compares the others)")
     choice = OriginChoice(args.sort, args.top, args.listed, args.least)
     comparison = compare(pair, args.limit, with_pairs=by_pair)
     with output(args.out) as file:

@@ -4,7 +4,7 @@ import webbrowser
 from pathlib import Path
 from typing import Iterator
 
-from ..faults import Lacking
+from ..core.errors import MissingDependencyError
 from .options import Parser
 
 SUMMARY = "the documentation, in a browser"
@@ -29,7 +29,9 @@ def places() -> Iterator[Path]:
 def run(args: argparse.Namespace) -> None:
     index = next((place / INDEX for place in places() if (place / INDEX).is_file()), None)
     if index is None:
-        raise Lacking("the documentation isn't installed: packaging/build.sh writes it, with Sphinx and MyST")
+        raise MissingDependencyError(
+            "the documentation isn't installed: packaging/build.sh writes it, with Sphinx and MyST"
+        )
     print(index)
     if not args.path:
         webbrowser.open(index.as_uri())

@@ -1,10 +1,12 @@
 import argparse
 from typing import TYPE_CHECKING, Sequence
 
-from ..faults import BadInput, WrongWords, needs, quantity, say, some
-from ..files import output
-from ..picture_files import write_picture
+from ..core.console import say
+from ..core.errors import ArgumentError, InputError, needs
+from ..core.files import output
+from ..core.text import first_few, quantity
 from ..measures.measure_list import FAIRNESS
+from ..views.picture_files import write_picture
 from .options import Parser, Range, column_of, decimals, is_file_of_base
 
 if TYPE_CHECKING:
@@ -58,9 +60,9 @@ def describe(parser: Parser) -> None:
 def run(args: argparse.Namespace) -> None:
     needed = {"concentration": args.rank, "poverty": args.line}
     if any((args.measure == name) != (value is not None) for name, value in needed.items()):
-        raise WrongWords("--measure concentration needs --rank, and poverty --line; no other measure takes them")
+        raise ArgumentError("--measure concentration needs --rank, and poverty --line; no other measure takes them")
     if args.measure and args.picture:
-        raise WrongWords("--picture does not go with --measure")
+        raise ArgumentError("--picture does not go with --measure")
     needs("numpy", *(["matplotlib"] if args.picture else []))
     from ..matrices.beside import labels_of
     from ..measures.access_table import beside, read_access, sentences_on_lost
@@ -74,7 +76,7 @@ def run(args: argparse.Namespace) -> None:
         table = beside(table, other, labels_of(args.access, args.base), args.base_scenario)
         args.base = None
     elif args.base_scenario is not None:
-        raise WrongWords("--base-scenario goes with a file as --base")
+        raise ArgumentError("--base-scenario goes with a file as --base")
     people = read_counts(args.people, table.origins, f"origin of {args.access}", args.column)
     kinds = chosen_kinds(table, args.opportunity, args.percentile, args.cutoff)
     options = EquityOptions(args.base or table.base, args.lose, kinds)
@@ -89,17 +91,20 @@ def run(args: argparse.Namespace) -> None:
 
 def further(args: argparse.Namespace, table: "AccessTable", people: "Counts", kinds: "Sequence[AccessKind]") -> None:
     """Writes one of the further measures."""
+    from ..core.text import display_text
     from ..measures.opportunities import identifier_of
-    from ..records import rows, shown
+    from ..records import rows
     from ..views.fairness import FairnessOptions, lines_of, write_fairness
 
     rank = None
     if args.rank:
         _, rank = column_of(args.rank, table.origins, None, "a rank has one", f"origin of {args.access}")
         named = {name for _, (name,) in rows(args.rank, [identifier_of(args.rank)])}
-        lost = [shown(name) for name in table.origins if name not in named]
+        lost = [display_text(name) for name in table.origins if name not in named]
         if lost:
-            raise BadInput(args.rank, f"no ranks for {quantity(len(lost), 'origin')} of {args.access}: {some(lost)}")
+            raise InputError(
+                args.rank, f"no ranks for {quantity(len(lost), 'origin')} of {args.access}: {first_few(lost)}"
+            )
     with output(args.out) as file:
         lines = lines_of(table, people, FairnessOptions(args.measure, kinds, rank, args.line))
         write_fairness(file, lines, args.measure, args.form)

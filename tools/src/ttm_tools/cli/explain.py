@@ -1,9 +1,9 @@
 import argparse
 from typing import TYPE_CHECKING
 
-from ..faults import BadInput, WrongWords, needs
-from ..files import output
-from ..picture_files import write_picture
+from ..core.errors import ArgumentError, InputError, needs
+from ..core.files import output
+from ..views.picture_files import write_picture
 from .options import Parser, Range
 
 if TYPE_CHECKING:
@@ -53,7 +53,7 @@ def run_of(args: argparse.Namespace) -> "Run":
     from ..engine import Run
 
     if args.last < args.first:
-        raise WrongWords("--to is before --from")
+        raise ArgumentError("--to is before --from")
     files = {} if args.footpaths is None else {"footpaths": args.footpaths}
     how = {"trips": args.trips, "walk": args.walk, "back": args.back, "ahead": args.ahead}
     window = (args.first, args.last)
@@ -63,7 +63,7 @@ def run_of(args: argparse.Namespace) -> "Run":
 def run(args: argparse.Namespace) -> None:
     one = [args.origin, args.destination, args.picture]
     if any(value is not None for value in one) if args.pairs else None in one[:2]:
-        raise WrongWords("--origin and --destination are needed, or --pairs alone, without --picture")
+        raise ArgumentError("--origin and --destination are needed, or --pairs alone, without --picture")
     needs("numpy", "pandas", *(["matplotlib"] if args.picture else []))
     from ..explanation import all_found
     from ..views.departures import figure_of
@@ -84,14 +84,14 @@ def run(args: argparse.Namespace) -> None:
 
 def write_table(args: argparse.Namespace, run: "Run") -> None:
     """Writes the table of the journeys of many pairs."""
-    from ..column_list import JOURNEYS, names_of
+    from ..core.columns import JOURNEYS, names_of
     from ..explanation import all_found
     from ..records import rows, write_rows
     from ..views.itineraries import lines_of
 
     pairs = list(dict.fromkeys((one, other) for _, (one, other) in rows(args.pairs, ["origin", "destination"])))
     if not pairs:
-        raise BadInput(args.pairs, "no pairs")
+        raise InputError(args.pairs, "no pairs")
     found = all_found(run, args.date, pairs, program=args.program, matrix=args.matrix)
     with output(args.out) as file:
         write_rows(file, names_of(JOURNEYS), (line for question, of in found for line in lines_of(question, of)))

@@ -1,8 +1,9 @@
 import argparse
 from typing import TYPE_CHECKING
 
-from ..faults import WrongWords, needs, say
-from ..folders import scratch
+from ..core.console import say
+from ..core.errors import ArgumentError, needs
+from ..core.folders import scratch
 from .options import Parser, Range, decimals
 
 if TYPE_CHECKING:
@@ -59,9 +60,9 @@ def options_of(args: argparse.Namespace) -> "ExploreOptions":
 
     is_study = args.feed.endswith(".toml")
     if not is_study and args.last < args.first:
-        raise WrongWords("--to is before --from")
+        raise ArgumentError("--to is before --from")
     if args.date is None and not is_study:
-        raise WrongWords("--date is needed where no study is named")
+        raise ArgumentError("--date is needed where no study is named")
     names = [name for name in ExploreOptions.__dataclass_fields__ if name not in OF_NO_OPTION]
     known = {name: getattr(args, name) for name in names}
     options = ExploreOptions(window=(args.first, args.last), date=args.date or date.min, **known)
@@ -69,7 +70,7 @@ def options_of(args: argparse.Namespace) -> "ExploreOptions":
         return options
     found, sentences = options_of_study(args.feed, options, args.parser.given())
     if found.window[1] < found.window[0]:
-        raise WrongWords("--to is before --from")
+        raise ArgumentError("--to is before --from")
     say(*sentences)
     return found
 
@@ -81,8 +82,8 @@ def run(args: argparse.Namespace) -> None:
     from ..explore.exploration import Exploration
     from ..explore.guard import Guard
     from ..explore.making import with_generated
+    from ..explore.memory import give_back_at_once
     from ..explore.serving import bound, serve
-    from ..memory import give_back_at_once
     from ..views.page.document import leaflet_files
 
     leaflet_files(options.leaflet)

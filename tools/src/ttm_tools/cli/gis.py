@@ -1,7 +1,9 @@
 import argparse
 
-from ..faults import WrongWords, needs, quantity, say
-from ..files import output
+from ..core.console import say
+from ..core.errors import ArgumentError, needs
+from ..core.files import output
+from ..core.text import quantity
 from .options import Parser, decimals, gis_kind, opened, scenarios_of
 
 SUMMARY = "stops with access and travel times, for a geographic information system"
@@ -31,13 +33,13 @@ def describe(parser: Parser) -> None:
 def run(args: argparse.Namespace) -> None:
     kind = gis_kind(args.out)
     if bool(args.opportunities) != bool(args.nearest):
-        raise WrongWords("--opportunities and --nearest go together")
+        raise ArgumentError("--opportunities and --nearest go together")
     needs("numpy", *(["geopandas"] if kind == "gpkg" else []))
-    from ..points.shown import shown_of
     from ..measures.opportunities import read_counts
+    from ..points.shown import select_points
     from ..views.gis import features_of, with_nearest, write_geojson, write_geopackage
 
-    matrix, stops = shown_of(opened(args), args.feed, args.points)
+    matrix, stops = select_points(opened(args), args.feed, args.points)
     assert stops is not None
     scenarios = scenarios_of(matrix, args.scenario)
     shares = matrix.shares if args.share is None else [matrix.share(args.share)]

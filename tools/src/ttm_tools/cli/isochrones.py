@@ -1,8 +1,10 @@
 import argparse
 import os
 
-from ..faults import WrongWords, needs, quantity, say
-from ..files import output
+from ..core.console import say
+from ..core.errors import ArgumentError, needs
+from ..core.files import output
+from ..core.text import quantity
 from .options import Parser, decimals, gis_kind, ground_of, opened, scenarios_of
 
 SUMMARY = "the areas that can be reached from an origin within given minutes"
@@ -38,12 +40,12 @@ def run(args: argparse.Namespace) -> None:
     streets = ["osmium", "scipy"] if args.streets else []
     needs("numpy", "shapely", *(["geopandas"] if kind == "gpkg" else []), *streets)
     from ..measures.opportunities import read_counts
-    from ..points.shown import shown_of
+    from ..points.shown import select_points
     from ..views import isochrones as areas
 
     if args.base is not None and not os.path.isfile(args.base):
-        raise WrongWords(f"--base {args.base} is not a file")
-    matrix, stops = shown_of(opened(args), args.feed, args.points)
+        raise ArgumentError(f"--base {args.base} is not a file")
+    matrix, stops = select_points(opened(args), args.feed, args.points)
     assert stops is not None
     ground, walking = ground_of(args, stops.of(matrix.stops))
     counts = read_counts([args.people], matrix.stops, "column") if args.people else None

@@ -1,7 +1,7 @@
 import argparse
 
-from ..faults import needs
-from ..files import output
+from ..core.errors import needs
+from ..core.files import output
 from .options import Parser
 
 SUMMARY = "the whole matrix from the matrices of parts"

@@ -3,8 +3,8 @@ import sys
 from dataclasses import replace
 from typing import TYPE_CHECKING
 
-from ..faults import BadInput, WrongWords, needs
-from ..files import output
+from ..core.errors import ArgumentError, InputError, needs
+from ..core.files import output
 from .options import Parser, opened, scenarios_of
 
 if TYPE_CHECKING:
@@ -48,19 +48,19 @@ def describe(parser: Parser) -> None:
 
 def run(args: argparse.Namespace) -> None:
     if args.within is not None and not args.access:
-        raise WrongWords("--within goes with --access")
+        raise ArgumentError("--within goes with --access")
     if args.names == "r5py" and args.access:
-        raise WrongWords("--names r5py goes with travel times, not with --access")
+        raise ArgumentError("--names r5py goes with travel times, not with --access")
     parquet = args.out is not None and args.out.endswith(".parquet")
     if parquet and args.access:
-        raise WrongWords("--access is written as CSV")
+        raise ArgumentError("--access is written as CSV")
     if args.csvt and (parquet or args.out is None):
-        raise WrongWords("--csvt needs --out, the name of a CSV")
+        raise ArgumentError("--csvt needs --out, the name of a CSV")
     needs("numpy", *(["pandas"] if parquet else []))
-    from ..points.shown import shown_of
+    from ..points.shown import select_points
     from ..views import long
 
-    matrix, stops = shown_of(opened(args), args.feed, args.points)
+    matrix, stops = select_points(opened(args), args.feed, args.points)
     if args.safe and stops is not None:
         stops = replace(stops, names=list(map(long.safe, stops.names)))
     choice = choice_of(args, matrix)
@@ -91,7 +91,9 @@ def choice_of(args: argparse.Namespace, matrix: "Matrix") -> "TableChoice":
     scenarios = [name for name in matrix.scenarios if name in named]
     if args.names == "r5py" and len(scenarios) > 1:
         there = ", ".join(scenarios)
-        raise BadInput(args.matrix, f"r5py's columns name no scenario, and it has {there}: choose one with --scenario")
+        raise InputError(
+            args.matrix, f"r5py's columns name no scenario, and it has {there}: choose one with --scenario"
+        )
     shares = matrix.shares if args.share is None else [matrix.share(args.share)]
     known = [name for scenario in matrix.scenarios for name in matrix.origins(scenario, shares[0])]
     origins = read_list(args.origins, known, "origin") if args.origins else None

@@ -1,8 +1,8 @@
 import argparse
 import math
 
-from ..faults import WrongWords, needs
-from ..picture_files import picture_name, write_picture
+from ..core.errors import ArgumentError, needs
+from ..views.picture_files import picture_name, write_picture
 from .options import Parser, Range, column_of, decimals, ground_of, opened
 
 SUMMARY = "a map of travel times, of access, or of the difference between scenarios"
@@ -74,22 +74,22 @@ def outputs(args: argparse.Namespace) -> list[str]:
 
 def run(args: argparse.Namespace) -> None:
     if args.picture in ("times", "isochrones") and args.origin is None:
-        raise WrongWords(f"{args.picture} needs --origin")
+        raise ArgumentError(f"{args.picture} needs --origin")
     of_nearest = args.picture == "nearest" or args.nearest is not None
     if of_nearest and (
         args.picture in ("times", "access", "isochrones") or args.opportunities is None or args.origin is not None
     ):
-        raise WrongWords("--nearest goes with nearest or difference, needs --opportunities, and takes no --origin")
+        raise ArgumentError("--nearest goes with nearest or difference, needs --opportunities, and takes no --origin")
     shapes = ["shapely", *(["osmium", "scipy"] if args.streets else [])] if args.picture == "isochrones" else []
     needs("numpy", "pandas", "matplotlib", *shapes)
-    from ..points.shown import shown_of
+    from ..points.shown import select_points
     from ..views.lines import planned_of
     from ..views.maps import Areas, Sheet, figure_of, figure_of_isochrones, picture_of
     from ..views.nearest import Nearest
     from ..views.pictures import PictureOptions
 
     whole = opened(args)
-    matrix, stops = shown_of(whole, args.feed, args.points)
+    matrix, stops = select_points(whole, args.feed, args.points)
     assert stops is not None
     there = stops.of(matrix.stops)
     what = "stops" if matrix is whole else "points"

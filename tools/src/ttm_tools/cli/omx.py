@@ -1,6 +1,6 @@
 import argparse
 
-from ..faults import needs
+from ..core.errors import needs
 from .options import Parser, scenarios_of
 
 SUMMARY = "an Open Matrix file"
@@ -24,10 +24,10 @@ def run(args: argparse.Namespace) -> None:
     needs("numpy", "h5py")
     from ..matrices import has_all, open_matrix, write_open_matrix
     from ..parts import origins_in
-    from ..points.shown import shown_of
+    from ..points.shown import select_points
 
     matrix = open_matrix(args.matrix)
     scenarios_of(matrix, [])
     if args.origins:
         has_all(matrix, origins_in(args.origins), args.origins)
-    write_open_matrix(shown_of(matrix, None, args.points)[0], args.out)
+    write_open_matrix(select_points(matrix, None, args.points)[0], args.out)

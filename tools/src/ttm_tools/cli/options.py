@@ -9,13 +9,15 @@ import sys
 from dataclasses import dataclass
 from typing import TYPE_CHECKING, Any, Callable, Iterable, Sequence
 
-from ..faults import BadInput, WrongWords, say, some
-from ..picture_files import picture_name
+from ..core.console import say
+from ..core.errors import ArgumentError, InputError
+from ..core.text import first_few
+from ..views.picture_files import picture_name
 
 if TYPE_CHECKING:
     import datetime
 
-    from ..gtfs.fields import Floats
+    from ..core.arrays import Floats
     from ..gtfs.stops import Stops
     from ..matrices import Matrix
     from ..views.isochrones import AreaGround, Walking
@@ -244,7 +246,7 @@ def opened(args: argparse.Namespace) -> "Matrix":
     own, base = capped(open_matrix(args.matrix), args.max_minutes), getattr(args, "base", None)
     if base is None or not is_file_of_base(base, own.scenarios):
         if getattr(args, "base_scenario", None) is not None:
-            raise WrongWords("--base-scenario goes with a file as --base")
+            raise ArgumentError("--base-scenario goes with a file as --base")
         return own
     matrix = Beside(own, capped(open_matrix(base), args.max_minutes), args.base_scenario)
     args.base = None  # what is compared with is the base of the whole
@@ -265,7 +267,7 @@ def column_of(
 
     counts = read_counts([path], stops, kind, [column] if column else [])
     if len(counts.names) > 1:
-        raise BadInput(path, f"it has the columns {some(counts.names)}: {hint}")
+        raise InputError(path, f"it has the columns {first_few(counts.names)}: {hint}")
     return counts.names[0], counts.numbers[:, 0]
 
 
@@ -283,7 +285,7 @@ def gis_kind(path: str) -> str:
     """The kind of a file for a GIS, by the end of its name."""
     kind = path.rsplit(".", 1)[-1].lower()
     if kind not in ("geojson", "json", "gpkg"):
-        raise WrongWords("--out ends in .geojson, .json or .gpkg")
+        raise ArgumentError("--out ends in .geojson, .json or .gpkg")
     return kind
 
 

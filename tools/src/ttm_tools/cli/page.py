@@ -1,7 +1,7 @@
 import argparse
 
-from ..faults import WrongWords, needs
-from ..files import output
+from ..core.errors import ArgumentError, needs
+from ..core.files import output
 from .options import Parser, Range, decimals, opened, scenarios_of
 
 SUMMARY = "one HTML file to send, with travel times and access to explore in a browser"
@@ -62,12 +62,12 @@ def describe(parser: Parser) -> None:
 
 def run(args: argparse.Namespace) -> None:
     if (args.tiles is None) != (args.attribution is None):
-        raise WrongWords("--tiles and --attribution go together")
+        raise ArgumentError("--tiles and --attribution go together")
     args.nearest = args.nearest or []
     if args.nearest and not args.opportunities:
-        raise WrongWords("--nearest needs --opportunities")
+        raise ArgumentError("--nearest needs --opportunities")
     if args.tiles is not None and not args.tiles.startswith(("https://", "http://")):
-        raise WrongWords("--tiles begins with https:// or http://")
+        raise ArgumentError("--tiles begins with https:// or http://")
     needs("numpy", "pandas", "jinja2", *(["osmium", "scipy"] if args.streets else []))
     from ..views.page.document import leaflet_files
     from ..views.page.make import page_of, tell

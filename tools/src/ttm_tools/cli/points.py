@@ -1,7 +1,9 @@
 import argparse
 from typing import TYPE_CHECKING
 
-from ..faults import WrongWords, needs, quantity, say
+from ..core.console import say
+from ..core.errors import ArgumentError, needs
+from ..core.text import quantity
 from .options import Parser, Range, decimals
 
 if TYPE_CHECKING:
@@ -69,15 +71,15 @@ def run(args: argparse.Namespace) -> None:
     begins = [path in args.points or path in args.origins for path in files]
     ends = [path in args.points or path in args.destinations for path in files]
     if args.grid is None and (args.area or args.people):
-        raise WrongWords("--area and --people need --grid")
+        raise ArgumentError("--area and --people need --grid")
     pace = Pace(args.limit, args.speed, args.detour)
     if args.grid is not None:
         if args.origins and args.destinations:
-            raise WrongWords("--grid goes with --origins or with --destinations, not both: cells are the other end")
+            raise ArgumentError("--grid goes with --origins or with --destinations, not both: cells are the other end")
         begins.append(not args.origins)
         ends.append(not args.destinations)
     if not any(begins) or not any(ends):
-        raise WrongWords("journeys need points at which they begin, and points at which they end")
+        raise ArgumentError("journeys need points at which they begin, and points at which they end")
     new_stops_in(args.feed)  # an error of these is raised before anything is written
     called = Columns(args.id, args.lat, args.lon)
     points = [read_points(path, called) for path in files]

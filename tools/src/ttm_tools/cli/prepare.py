@@ -1,9 +1,10 @@
 import argparse
 import datetime
 
-from ..faults import WrongWords, as_line, needs, say
-from ..files import output
-from ..folders import scratch
+from ..core.console import as_line, say
+from ..core.errors import ArgumentError, needs
+from ..core.files import output
+from ..core.folders import scratch
 from ..prepare.rules import help_table
 from .options import Parser, Range, day
 
@@ -80,9 +81,9 @@ def box(text: str) -> tuple[float, float, float, float]:
 def run(args: argparse.Namespace) -> int:
     needs("numpy", "pandas")
     if args.check == (args.out is not None):
-        raise WrongWords("one of --check and --out is needed")
+        raise ArgumentError("one of --check and --out is needed")
     if args.faults and not args.check:
-        raise WrongWords("--faults goes with --check")
+        raise ArgumentError("--faults goes with --check")
     if args.check:
         return check_feeds(args)
     from ..prepare.clip import Clip
@@ -92,7 +93,7 @@ def run(args: argparse.Namespace) -> int:
     try:
         days = [args.date + datetime.timedelta(number) for number in span]
     except OverflowError:
-        raise WrongWords("--date with --back and --ahead goes beyond the calendar") from None
+        raise ArgumentError("--date with --back and --ahead goes beyond the calendar") from None
     clip = Clip(args.box, args.area, args.routes, args.agency, days)
     with scratch("feed") as room:
         day = args.date if args.repair else None
@@ -103,11 +104,11 @@ def run(args: argparse.Namespace) -> int:
 
 
 def check_feeds(args: argparse.Namespace) -> int:
-    from ..column_list import ERRORS, names_of
+    from ..core.columns import ERRORS, names_of
+    from ..gtfs.feeds import read_feed
     from ..prepare import report
     from ..prepare.check import check
     from ..prepare.losses import sentences
-    from ..gtfs.feeds import read_feed
     from ..records import write_rows
 
     rows: list[list[object]] = []

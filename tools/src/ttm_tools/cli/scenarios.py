@@ -2,7 +2,8 @@ import argparse
 import os
 import sys
 
-from ..faults import needs, say
+from ..core.console import say
+from ..core.errors import needs
 from ..plans.action_list import help_table
 from .options import Parser
 

@@ -2,9 +2,10 @@ import argparse
 import re
 from typing import TYPE_CHECKING
 
-from ..faults import BadInput, needs, say
-from ..files import output
-from ..picture_files import write_picture
+from ..core.console import say
+from ..core.errors import InputError, needs
+from ..core.files import output
+from ..views.picture_files import write_picture
 from .options import Parser
 
 if TYPE_CHECKING:
@@ -89,7 +90,7 @@ def day_of(args: argparse.Namespace) -> "Day":
     files = args.scenarios or files_in_order(args.feed)
     names = [Path(path).name.removesuffix(".csv") for path in files]
     if len(set(names)) < len(names) or BASE in names:
-        raise BadInput(", ".join(files), "two scenario files have the same name, or one is called base")
+        raise InputError(", ".join(files), "two scenario files have the same name, or one is called base")
     stops = read_stops(args.feed)
     timetable = read_timetable(stops)
     own = stops.of(timetable.stops)

@@ -1,6 +1,8 @@
 import argparse
 
-from ..faults import needs, quantity, say
+from ..core.console import say
+from ..core.errors import needs
+from ..core.text import quantity
 from .options import Parser, Range
 
 SUMMARY = "the origins of a study, cut into parts"

@@ -2,8 +2,8 @@ import argparse
 import sys
 from pathlib import Path
 
-from ..faults import WrongWords, needs
-from ..files import Interrupted
+from ..core.errors import ArgumentError, needs
+from ..core.signals import Interrupted
 from .options import Parser, Range
 
 SUMMARY = "a whole study from one file: feed, runs in parts, matrix, tables, maps, report"
@@ -45,15 +45,15 @@ def describe(parser: Parser) -> None:
 
 def refuse_others(args: argparse.Namespace) -> None:
     if sum([args.new, args.verify is not None, args.study is not None]) != 1:
-        raise WrongWords("one of STUDY, --new and --verify is needed")
+        raise ArgumentError("one of STUDY, --new and --verify is needed")
     if args.part is not None and args.study is None:
-        raise WrongWords("--part goes with the folder of a study")
+        raise ArgumentError("--part goes with the folder of a study")
     if args.seed is not None and args.verify is None:
-        raise WrongWords("--seed goes with --verify")
+        raise ArgumentError("--seed goes with --verify")
     if args.slurm and args.hosts:
-        raise WrongWords("--slurm and --hosts are two ways: choose one")
+        raise ArgumentError("--slurm and --hosts are two ways: choose one")
     if args.option and not (args.slurm or args.hosts):
-        raise WrongWords("--option goes with --slurm and --hosts")
+        raise ArgumentError("--option goes with --slurm and --hosts")
 
 
 def run(args: argparse.Namespace) -> None:
@@ -70,8 +70,8 @@ def run(args: argparse.Namespace) -> None:
 
         one_part(Path(args.study), args.part)
     elif args.verify is not None:
+        from ..core.threads import processors
         from ..study.verify import verify
-        from ..threads import processors
 
         verify(Path(args.verify), args.seed, args.workers or processors())
     else:

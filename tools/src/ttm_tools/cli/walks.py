@@ -1,8 +1,9 @@
 import argparse
 import os
 
-from ..faults import WrongWords, needs, say
-from ..files import output
+from ..core.console import say
+from ..core.errors import ArgumentError, needs
+from ..core.files import output
 from .options import Parser, decimals
 
 SUMMARY = "the footpaths of a feed, from the coordinates of its stops"
@@ -49,7 +50,7 @@ def outputs(args: argparse.Namespace) -> list[str]:
 
 def run(args: argparse.Namespace) -> None:
     if args.table and args.streets:
-        raise WrongWords("--table and --streets are two sources of walks: choose one")
+        raise ArgumentError("--table and --streets are two sources of walks: choose one")
     needs("numpy")
     from ..gtfs.stops import read_stops
     from ..plans.nearness import new_stops_in, sentences_on_nearer

@@ -6,11 +6,12 @@ from typing import Any, Callable
 
 from flask import Flask, Response, request
 
-from ..faults import BadInput, Lacking, WrongWords, one_line, say
+from ..core.console import one_line, say
+from ..core.errors import ArgumentError, InputError, MissingDependencyError
 from .changes import actions_of, walk_of
 from .document import write_document
 from .exploration import Exploration
-from .guard import HEADERS, Guard
+from .guard import Guard, HEADERS
 from .journeys import JourneyQuestion
 from .keeping import save
 from .question import question_of, tab_of, version_of, whole, window_of
@@ -55,7 +56,7 @@ def answered(answer: Callable[[Exploration], Answer], exploration: Exploration, 
         return answer(exploration)
     except Overtaken:
         return Response(status=204)
-    except (BadInput, Lacking, WrongWords) as fault:
+    except (InputError, MissingDependencyError, ArgumentError) as fault:
         return {"fault": one_line(fault)}, REFUSED
     except MemoryError:
         return {"fault": "out of memory"}, REFUSED

@@ -10,7 +10,7 @@ from dataclasses import dataclass
 from decimal import Decimal, InvalidOperation
 from typing import Any, Sequence
 
-from ..faults import WrongWords
+from ..core.errors import ArgumentError
 from .routes import Route
 
 Values = dict[str, Any]
@@ -31,13 +31,13 @@ def actions_of(body: Any) -> list[Values]:
     """The actions that the page sends, each of a kind with its values, which the plan looks at further."""
     found = body.get("actions") if isinstance(body, dict) else None
     if not isinstance(found, list) or len(found) > MOST_ACTIONS:
-        raise WrongWords(f"actions is not a list of at most {MOST_ACTIONS}")
+        raise ArgumentError(f"actions is not a list of at most {MOST_ACTIONS}")
     for action in found:
         kind = action.get("do") if isinstance(action, dict) else None
         if not isinstance(kind, str) or kind not in KINDS:
-            raise WrongWords(f"no action {str(kind)[:60]!r}; there are {', '.join(KINDS)}")
+            raise ArgumentError(f"no action {str(kind)[:60]!r}; there are {', '.join(KINDS)}")
         if set(action) != {"do", *KINDS[kind]}:
-            raise WrongWords(f"{kind} takes {', '.join(KINDS[kind])}")
+            raise ArgumentError(f"{kind} takes {', '.join(KINDS[kind])}")
     return found
 
 
@@ -48,7 +48,7 @@ def walk_of(body: Any) -> int:
 
 def number(value: Any, name: str, least: int, most: int) -> int:
     if type(value) is not int or not least <= value <= most:
-        raise WrongWords(f"{name} is {str(value)[:60]!r}; allowed: {least} to {most}")
+        raise ArgumentError(f"{name} is {str(value)[:60]!r}; allowed: {least} to {most}")
     return value
 
 
@@ -59,7 +59,7 @@ def decimal(value: Any, name: str) -> Decimal:
     except InvalidOperation:
         number = Decimal("NaN")
     if not number.is_finite() or abs(number) > MOST or number != round(number, 6):
-        raise WrongWords(f"{name} is {str(value)[:60]!r}, not a number with at most six decimals")
+        raise ArgumentError(f"{name} is {str(value)[:60]!r}, not a number with at most six decimals")
     return number
 
 
@@ -75,7 +75,7 @@ class Namer:
 
     def several(self, value: Any) -> list[str]:
         if not isinstance(value, list) or not 0 < len(value) <= MOST_STOPS:
-            raise WrongWords(f"stops is not a list of 1 to {MOST_STOPS}")
+            raise ArgumentError(f"stops is not a list of 1 to {MOST_STOPS}")
         return [self.stop(place) for place in value]
 
     def action(self, change: Values) -> Values:
@@ -99,7 +99,7 @@ class Namer:
     def new_line(self, change: Values) -> Values:
         name = change["name"]
         if not isinstance(name, str) or not 0 < len(name) <= LONGEST or not name.isprintable():
-            raise WrongWords(f"name is not a text of 1 to {LONGEST} printable characters")
+            raise ArgumentError(f"name is not a text of 1 to {LONGEST} printable characters")
         departures: Values = {"first": change["first"], "last": change["last"]}
         departures["every"] = number(change["every"], "every", 1, 86_400)
         ends = {"stops": self.several(change["stops"]), **pace(change), "both": change["both"] is True}
@@ -122,7 +122,7 @@ def in_toml(value: Any) -> str:
         return "{ " + ", ".join(f"{key} = {in_toml(item)}" for key, item in value.items()) + " }"
     if isinstance(value, list):
         return "[" + ", ".join(in_toml(item) for item in value) + "]"
-    raise WrongWords(f"{str(value)[:60]!r} is neither a text nor a number")
+    raise ArgumentError(f"{str(value)[:60]!r} is neither a text nor a number")
 
 
 def scenario_text(name: str, actions: Sequence[Values]) -> str:

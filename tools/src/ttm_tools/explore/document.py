@@ -5,9 +5,8 @@ from dataclasses import replace
 from pathlib import Path
 from typing import Any, BinaryIO
 
-from ..records import shown
-from ..views.page import document as page
-from ..views.page import sources
+from ..core.text import display_text
+from ..views.page import document as page, sources
 from ..views.page.content import Content
 from .exploration import Exploration
 from .networks import FIRST
@@ -41,7 +40,7 @@ def frame_of(exploration: Exploration) -> page.Frame:
     """What stands around the numbers."""
     options = exploration.options
     arguments = sources.RunArguments(f"--date {options.date:%Y%m%d}")
-    name = shown(options.name or os.path.basename(os.path.abspath(options.feed)))
+    name = display_text(options.name or os.path.basename(os.path.abspath(options.feed)))
     return page.Frame(
         options.title or f"Explore: {name}",
         "",

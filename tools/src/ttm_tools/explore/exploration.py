@@ -8,12 +8,11 @@ from functools import cached_property
 from pathlib import Path
 from typing import Any, Iterator
 
+from ..core.errors import ArgumentError, InputError
 from ..engine import Result
-from ..faults import BadInput, WrongWords
 from ..gtfs.feeds import refuse_planned
 from ..gtfs.stops import Stops, read_stops
 from ..measures.opportunities import Counts, read_counts
-from ..memory import give_back
 from ..plans.base import Base, read_taken_base
 from ..plans.plan_file import read_plan
 from ..points.shown import points_in, with_points
@@ -26,14 +25,15 @@ from . import planning
 from .changes import Namer, Values
 from .journeys import JourneyQuestion, Journeys
 from .lines import FeedLines
+from .memory import give_back
 from .networks import FIRST, Networks
+from .options import ExploreOptions
 from .point import Point, Walk, walks_from
 from .question import Question
 from .routes import Route, routes_of
 from .standing import Plan, Seconds, Standing
 from .timetables import timetable_of
 from .turnstile import Turnstile
-from .options import ExploreOptions
 
 
 class Exploration:
@@ -156,7 +156,7 @@ class Exploration:
     def change(self, tab: str, actions: list[Values], walk: int) -> dict[str, Any]:
         """Begins the network of a tab's changes; the one that the tab has answers until then."""
         if self.options.generated and walk > self.options.most_walk:
-            raise WrongWords(f"walk is {walk}; walks were computed up to {self.options.most_walk} seconds")
+            raise ArgumentError(f"walk is {walk}; walks were computed up to {self.options.most_walk} seconds")
         standing = self.networks.start_changed(tab, actions, walk)
         give_back()
         # what the map draws of each scenario: pieces in millionths of a degree
@@ -194,7 +194,7 @@ class Exploration:
 def ground_of(stops: Stops) -> Ground:
     """All stops at which vehicles may call, each of which is an origin and a destination."""
     if not stops.placed.any():
-        raise BadInput(stops.path, "none of the stops has coordinates, so there is nothing to show")
+        raise InputError(stops.path, "none of the stops has coordinates, so there is nothing to show")
     places = in_order(stops.of(called_at(stops)))
     return Ground(places, places.identifiers, places.identifiers, places.identifiers)
 

@@ -4,15 +4,15 @@ import math
 from dataclasses import dataclass, replace
 from typing import Any, Sequence
 
+from ..core.errors import ArgumentError
+from ..core.text import display_text
 from ..engine import Run
 from ..explanation import found_by, tell_difference, told_of
-from ..faults import WrongWords
 from ..gtfs.timetable import DAY, Runs, Timetable, read_edits, runs_of
 from ..measures.journeys import Leg
 from ..measures.search_network import Schedule
-from ..memory import give_back
-from ..records import shown
 from ..views.journeys import ExplainOptions, Found, names_of_routes
+from .memory import give_back
 from .options import ExploreOptions
 from .standing import Standing
 from .timetables import Timetables, run_of
@@ -56,7 +56,7 @@ class Journeys:
         asked = told_of(replace(run, back=options.back, ahead=options.ahead), options.date)
         explain_options = ExplainOptions(self.feed, begin, end, departures, options.back, question.share, asked)
         if question.scenario >= len(standing.scenarios):
-            raise WrongWords(f"the network has no scenario {question.scenario}")
+            raise ArgumentError(f"the network has no scenario {question.scenario}")
         scenario = standing.scenarios[question.scenario]
         path = next((path for path in plan.files if path.endswith(f"/{scenario}.csv")), None)
         edits, days = read_edits(path), (options.back, options.ahead)
@@ -114,6 +114,9 @@ class Shown:
         calls = zip(*(column[own].tolist() for column in (events.stop, events.depart, events.arrive)))
         first, last = leg.begin - ran.shift, leg.finish - ran.shift  # on the clock of the trip
         on = [stop for stop, depart, arrive in calls if first <= depart and arrive <= last]
-        fields |= {"route": self.routes.get(route, shown(route)), "trip": shown(ran.timetable.trips[ran.trip])}
+        fields |= {
+            "route": self.routes.get(route, display_text(route)),
+            "trip": display_text(ran.timetable.trips[ran.trip]),
+        }
         fields |= {"change": leg.change, "wait": leg.begin - time - leg.change}
         return {**fields, "via": [self.places[stop] for stop in on]}

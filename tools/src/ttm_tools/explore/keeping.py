@@ -5,15 +5,15 @@ import shlex
 from pathlib import Path
 from typing import Any, Callable, Sequence
 
-from ..faults import WrongWords
-from ..folders import numbered_folder
+from ..core.errors import ArgumentError
+from ..core.folders import numbered_folder
 from ..parts import write_stops
 from .changes import in_toml, number
 from .making import copy_generated, copy_with_point
-from .point import FEED, WALKS, Point, Walk
+from .options import ExploreOptions
+from .point import FEED, Point, WALKS, Walk
 from .question import origin_of, window_of
 from .standing import Plan
-from .options import ExploreOptions
 
 STUDY, PLAN, ORIGINS = "study.toml", "plan.toml", "origins.csv"
 
@@ -26,7 +26,7 @@ def save(options: ExploreOptions, plan: Plan, columns: Sequence[str], body: Any,
     stop, the study has a copy of the feed with the point as one more stop.
     """
     if not isinstance(body, dict) or not {"first", "last", "trips", "origin"} <= body.keys():
-        raise WrongWords("a study needs first, last, trips and origin")
+        raise ArgumentError("a study needs first, last, trips and origin")
     window = window_of({key: str(body[key]) for key in ("first", "last")})
     trips, point = number(body["trips"], "trips", 1, 8), point_in(body["origin"])
     origin = -1 if point else number(body["origin"], "origin", -1, len(columns) - 1)

@@ -6,18 +6,17 @@ from typing import Any, Sequence
 import numpy as np
 import numpy.typing as npt
 
-from ..gtfs.fields import Floats
+from ..core.arrays import Floats
 from ..gtfs.lines import LinePoints, pieces, shape_points, unique_rows
 from ..gtfs.projection import Projection
 from ..gtfs.stops import Stops, has_file
 from ..matrices import BASE
 from ..plans.base import Base
 from ..plans.new_records import OwnTrip
-from ..plans.shapes import NAME as SHAPES
-from ..plans.shapes import Shapes
+from ..plans.shapes import NAME as SHAPES, Shapes
 from ..plans.state import State
 from ..plans.writing import Written
-from ..views.page.lines import NONE, STRAIGHT, LineChange, Lines, OnGrid, Pieces, change_of, in_degrees, page_lines
+from ..views.page.lines import LineChange, Lines, NONE, OnGrid, Pieces, STRAIGHT, change_of, in_degrees, page_lines
 
 Course = tuple[Floats, Floats]  # latitudes and longitudes of the points of a line, one after another
 UNCHANGED = LineChange(NONE, NONE, NONE)

@@ -5,15 +5,16 @@ import shutil
 from dataclasses import replace
 from pathlib import Path
 
-from ..faults import WrongWords, quantity
+from ..core.errors import ArgumentError
+from ..core.files import copy_file, writing_to
+from ..core.folders import scratch
+from ..core.text import quantity
 from ..gtfs.stops import Stops, read_stops
-from ..files import copy_file, writing_to
-from ..folders import scratch
 from ..points import grid, study
 from ..records import write_rows
 from ..walks import NEAR, Pace, Walks, summary, walks_of
-from .point import FEED, HEADER, WALKS, Point, Walk, laid_out
 from .options import ExploreOptions
+from .point import FEED, HEADER, Point, WALKS, Walk, laid_out
 
 CELLS = "cells"
 
@@ -25,7 +26,7 @@ def with_generated(options: ExploreOptions, room: Path) -> tuple[ExploreOptions,
     if options.grid is None and options.streets is None:
         return options, []
     if options.footpaths is not None:
-        raise WrongWords("--footpaths has walks, and --streets and --grid compute them: choose one")
+        raise ArgumentError("--footpaths has walks, and --streets and --grid compute them: choose one")
     name = options.name or os.path.basename(os.path.abspath(options.feed))
     own = replace(options, most_walk=options.walk, name=name, generated=True)
     return with_walks(own, room) if options.grid is None else with_cells(own, room, options.grid)

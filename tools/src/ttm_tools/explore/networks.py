@@ -7,7 +7,7 @@ import threading
 from collections import OrderedDict
 from typing import Callable
 
-from ..faults import WrongWords
+from ..core.errors import ArgumentError
 from .changes import Values
 from .standing import Standing
 from .turnstile import MOST_TABS
@@ -32,7 +32,7 @@ class Networks:
     def start(self, number: int, tab: str = "") -> Standing:
         """The network of a number, which begins where it isn't running."""
         if number not in self.changes:
-            raise WrongWords("the server does not know the network of this page: reload the page")
+            raise ArgumentError("the server does not know the network of this page: reload the page")
         with self.noting:
             self.note(tab, number)
             found = self.running.get(number)

@@ -4,8 +4,8 @@ from dataclasses import replace
 from pathlib import Path
 from typing import Any, Collection, Iterator
 
+from ..core.errors import InputError
 from ..dates import day_of
-from ..faults import BadInput
 from ..study.settings import Study
 from ..study.study_file import read_study
 from .options import ExploreOptions
@@ -21,10 +21,10 @@ def options_of_study(path: str, options: ExploreOptions, given: Collection[str])
     study = read_study(path)
     if not study.feed.ready or study.points.are_any:
         message = "needs a prepared feed: explore the folder of a feed, such as the one in the study's folder"
-        raise BadInput(path, message, column="ready", allowed="true, and no [points]")
+        raise InputError(path, message, column="ready", allowed="true, and no [points]")
     if study.walks.table is None and not study.walks.none and WALKS.isdisjoint(given):
         message = "must be computed first: run ttm-tools walks, then set table of [walks]"
-        raise BadInput(path, message, column="walks", allowed="table, or none = true")
+        raise InputError(path, message, column="walks", allowed="table, or none = true")
     values = {name: value for name, value in values_of(study).items() if name not in given}
     if "footpaths" not in given and not WALKS.isdisjoint(given):
         values["footpaths"] = None  # these options make walks

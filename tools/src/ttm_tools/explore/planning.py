@@ -6,8 +6,8 @@ import tempfile
 from pathlib import Path
 from typing import Sequence
 
-from ..faults import BadInput
-from ..files import remove
+from ..core.errors import InputError
+from ..core.files import remove
 from ..matrices import TODAY
 from ..plans.base import Base
 from ..plans.carrying_out import carried_out
@@ -43,7 +43,7 @@ def written(base: Base, lines: FeedLines, text: str, room: Path, walk: int, acti
         try:
             path.write_text(text, encoding="utf-8")
         except UnicodeEncodeError:
-            raise BadInput("the plan", "a name in it is not UTF-8") from None
+            raise InputError("the plan", "a name in it is not UTF-8") from None
         finished = [carried_out(base, scenario) for scenario in read_plan(str(path)).scenarios]
         refuse_limits(str(path), base, [scenario.state for scenario in finished])
         found = written_of(base, finished, alone=False)

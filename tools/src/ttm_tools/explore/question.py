@@ -4,7 +4,7 @@ import re
 from dataclasses import dataclass
 from typing import Mapping
 
-from ..faults import WrongWords
+from ..core.errors import ArgumentError
 from .point import Point
 
 CLOCK = re.compile(r"([01][0-9]|2[0-3]):[0-5][0-9]")
@@ -26,28 +26,28 @@ class Question:
 def whole(args: Mapping[str, str], name: str, least: int, most: int) -> int:
     text = args.get(name, "")
     if not WHOLE.fullmatch(text) or not least <= int(text) <= most:
-        raise WrongWords(f"{name} is {text[:60]!r}; allowed: {least} to {most}")
+        raise ArgumentError(f"{name} is {text[:60]!r}; allowed: {least} to {most}")
     return int(text)
 
 
 def clock(args: Mapping[str, str], name: str) -> str:
     text = args.get(name, "")
     if not CLOCK.fullmatch(text):
-        raise WrongWords(f"{name} is {text[:60]!r}; allowed: 00:00 to 23:59")
+        raise ArgumentError(f"{name} is {text[:60]!r}; allowed: 00:00 to 23:59")
     return text
 
 
 def window_of(args: Mapping[str, str]) -> tuple[str, str]:
     first, last = clock(args, "first"), clock(args, "last")
     if last < first:
-        raise WrongWords(f"the last departure, {last}, is before the first, {first}")
+        raise ArgumentError(f"the last departure, {last}, is before the first, {first}")
     return first, last
 
 
 def degrees(args: Mapping[str, str], name: str, most: int) -> float:
     text = args.get(name, "")
     if not DEGREES.fullmatch(text) or abs(float(text)) > most:
-        raise WrongWords(f"{name} is {text[:60]!r}; allowed: -{most} to {most}")
+        raise ArgumentError(f"{name} is {text[:60]!r}; allowed: -{most} to {most}")
     return float(text)
 
 
@@ -66,7 +66,7 @@ def question_of(args: Mapping[str, str], places: int) -> Question:
 def tab_of(args: Mapping[str, str]) -> str:
     tab = args.get("tab", "")
     if not TAB.fullmatch(tab):
-        raise WrongWords("tab is not the name of a tab")
+        raise ArgumentError("tab is not the name of a tab")
     return tab
 
 

@@ -7,10 +7,10 @@ from typing import Any, Mapping
 import numpy as np
 import numpy.typing as npt
 
+from ..core.text import display_text
 from ..gtfs.service_days import services_on
 from ..plans.base import Base
 from ..plans.choice import runs_along
-from ..records import shown
 from ..views.journeys import name_of, with_identifiers
 
 MOST_WAYS = 4  # of a route that are shown, those with the most trips
@@ -41,7 +41,7 @@ class Route:
 
     def as_json(self) -> dict[str, Any]:
         ways = [{"stops": way.stops, "count": way.count} for way in self.ways]
-        own = {"id": shown(self.identifier), "name": self.name, "ways": ways}
+        own = {"id": display_text(self.identifier), "name": self.name, "ways": ways}
         return {**own, "hours": self.hours, "pairs": self.pairs}
 
 

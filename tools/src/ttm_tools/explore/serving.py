@@ -8,7 +8,7 @@ from typing import Any
 from flask import Flask
 from werkzeug.serving import WSGIRequestHandler, make_server
 
-from ..faults import BadInput
+from ..core.errors import InputError
 from .guard import HOST
 
 
@@ -34,7 +34,7 @@ def bound(port: int) -> socket.socket:
     except OSError as fault:
         listening.close()
         message = "is in use" if fault.errno == errno.EADDRINUSE else fault.strerror or str(fault)
-        raise BadInput(f"port {port}", f"{message}: name another with --port, or 0 for a free one") from None
+        raise InputError(f"port {port}", f"{message}: name another with --port, or 0 for a free one") from None
     return listening
 
 

@@ -7,16 +7,16 @@ from typing import Any, Sequence
 import numpy as np
 import numpy.typing as npt
 
+from ..core.files import remove
 from ..engine import Result, matrix
-from ..files import remove
 from ..gtfs.timetable import Timetable
 from ..matrices import BASE, TODAY
 from ..network import Network
 from ..views.page.lines import LineChange
 from .lines import UNCHANGED
+from .options import ExploreOptions
 from .point import Point, Walk, laid_out
 from .question import Question
-from .options import ExploreOptions
 
 Seconds = npt.NDArray[np.int32]
 NEVER = -1  # in place of seconds, where a stop isn't reached

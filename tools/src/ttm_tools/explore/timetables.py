@@ -8,14 +8,15 @@ from functools import cached_property
 
 import numpy as np
 
+from ..core.arrays import Mask, Whole
 from ..gtfs.call_numbers import CALLS, CallNumbers
 from ..gtfs.columns import Codes, coded, where
 from ..gtfs.feeds import Feed
-from ..gtfs.fields import Mask, Whole, number
+from ..gtfs.fields import number
 from ..gtfs.footpaths import Footpaths, closed, direct_walks
 from ..gtfs.stops import Stops
 from ..gtfs.tables import Table, joined, unnumbered
-from ..gtfs.timetable import ALLOWED, NOT_ALLOWED, Events, Runs, Timetable, headways_of, narrow_events
+from ..gtfs.timetable import ALLOWED, Events, NOT_ALLOWED, Runs, Timetable, headways_of, narrow_events
 from ..plans.base import Base
 from ..plans.new_records import new_days, timed, together
 from ..plans.writing import Written

@@ -11,12 +11,13 @@ from typing import Any, Iterable, Mapping, Sequence
 import numpy as np
 import numpy.typing as npt
 
+from ..core.arrays import Narrow, Whole
 from ..records import names_of
 from .calls import Calls
 from .columns import Codes, Texts, column_of, constant, empty, positions_of, times_of, values_of
-from .fields import Narrow, Whole, number
+from .fields import number
 from .growing import Growing
-from .reading import ODD, Columns, known_codes, ways_to_read
+from .reading import Columns, ODD, known_codes, ways_to_read
 from .tables import Table, unnumbered
 
 CALLS = "stop_times.txt"

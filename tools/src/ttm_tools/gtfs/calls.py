@@ -6,9 +6,10 @@ from typing import Sequence
 
 import numpy as np
 
+from ..core.arrays import Mask, Whole
 from . import fields
 from .columns import begins_run, empty, positions_of, times_of, values_of
-from .fields import Mask, Whole, number
+from .fields import number
 from .tables import Table
 
 

@@ -9,9 +9,10 @@ from typing import Any, Callable, Iterable, Protocol, Sequence
 import numpy as np
 import numpy.typing as npt
 
-from ..faults import BadInput
+from ..core.arrays import Floats, Mask, Whole
+from ..core.errors import InputError
 from ..records import number_of
-from .fields import EMPTY, Floats, Mask, Whole, clock, time
+from .fields import EMPTY, clock, time
 
 Codes = npt.NDArray[Any]  # whole numbers of whatever width
 
@@ -138,7 +139,7 @@ def numbers_of(column: Column, path: object, name: str) -> Floats:
     bad = np.flatnonzero(np.isnan(found[column.codes]))
     if len(bad):
         value = column.categories[column.codes[bad[0]]]
-        raise BadInput(path, "is not a number", record=int(bad[0]) + 2, column=name, value=value)
+        raise InputError(path, "is not a number", record=int(bad[0]) + 2, column=name, value=value)
     return np.asarray(found[column.codes], dtype=np.float64)
 
 

@@ -7,14 +7,15 @@ from typing import Callable, Iterable, Iterator, Mapping, MutableMapping, Sequen
 
 import numpy as np
 
-from ..faults import BadInput
-from ..files import copy_file
+from ..core.arrays import Mask, Whole
+from ..core.errors import InputError
+from ..core.files import copy_file
 from ..opening.paths import inside
 from ..opening.zips import Unread, members_of, refuse_size, unpack_member
 from ..records import names_of
 from .call_numbers import CALLS
 from .columns import Texts, distinct, empty, one_of, values_of, where
-from .fields import EMPTY, FILES, Mask, Whole, number
+from .fields import EMPTY, FILES, number
 from .reading import columns_of, is_long
 from .stops import has_file, in_folder
 from .tables import Table, no_table, read_table, write_table
@@ -47,7 +48,7 @@ def refuse_planned(path: str | Path) -> None:
     """Refuse the folder of a plan's feed, which has the trips of all scenarios: they never run together."""
     if (Path(path) / SCENARIOS).is_file():
         what = "has the trips of all scenarios of a plan"
-        raise BadInput(
+        raise InputError(
             path, f"{what}: take the plan's own feed, or that of one scenario, by ttm-tools scenarios --only"
         )
 
@@ -81,7 +82,7 @@ def read_feed(path: str | Path, room: Path, near: Near = lambda _: None) -> Feed
     if given.is_dir():
         return read_folder(given, (), near)
     if not given.exists():
-        raise BadInput(given, "no such file or folder")
+        raise InputError(given, "no such file or folder")
     sizes = members_of(given)
     chosen = files_of(given, list(sizes))
     refuse_size(given, [sizes[member] for member in chosen.values()], room)
@@ -123,10 +124,12 @@ def files_of(path: Path, members: Sequence[str]) -> dict[str, str]:
     if not best:
         zipped = [file for file in members if file.endswith(".zip")]
         hint = f", but {zipped[0]}: unzip it first" if zipped else ""
-        raise BadInput(path, f"no GTFS in it{hint}")
+        raise InputError(path, f"no GTFS in it{hint}")
     if len(best) > 1:
         several = " and ".join(folder or "." for folder in best)
-        raise BadInput(path, f"several feeds in it, {several}: give them one by one, without the others in the folder")
+        raise InputError(
+            path, f"several feeds in it, {several}: give them one by one, without the others in the folder"
+        )
     found = folders[best[0]]
     return {name: file for name, file in found.items() if name in FILES or name.endswith((".txt", ".geojson"))}
 

@@ -8,13 +8,6 @@ import functools
 import re
 from dataclasses import dataclass
 
-import numpy as np
-import numpy.typing as npt
-
-Whole = npt.NDArray[np.int64]
-Narrow = npt.NDArray[np.int32]  # whole numbers where there are millions of them
-Floats = npt.NDArray[np.float64]
-Mask = npt.NDArray[np.bool_]
 NONE, EMPTY = -1, -2
 LARGEST = (1 << 32) - 1
 MOST_STOPS, MOST_TRIPS, MOST_STOP_TIMES, MOST_FOOTPATHS = 65_535, 1_000_000, 8_000_000, 4_000_000

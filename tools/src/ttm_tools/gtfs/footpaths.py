@@ -5,9 +5,10 @@ from typing import Mapping, Sequence
 
 import numpy as np
 
+from ..core.arrays import Mask, Whole
 from .columns import Column, begins_run, texts_of, values_of
 from .feeds import used_transfers
-from .fields import Mask, Whole, number
+from .fields import number
 from .reading import columns
 from .tables import Table
 from .timetable import Timetable

@@ -5,12 +5,13 @@ from dataclasses import dataclass
 import numpy as np
 import numpy.typing as npt
 
-from ..faults import BadInput
-from ..records import rows, shown
+from ..core.arrays import Floats
+from ..core.errors import InputError
+from ..core.text import display_text
+from ..records import rows
 from .columns import Codes, begins_run, numbers_of, positions_of
-from .fields import Floats
-from .reading import columns
 from .projection import Projection
+from .reading import columns
 from .stops import Stops, has_file, in_folder
 
 GRID = 0.01  # kilometres on which the ends of pieces of lines are laid
@@ -113,6 +114,6 @@ def removed_trips(trips: Trips, edits: str) -> set[str]:
         if action in ("remove_route", "remove_trip"):
             found = (by_route if action == "remove_route" else by_trip).get(name)
             if found is None:
-                raise BadInput(edits, f"{shown(name)} isn't in trips.txt", record=number)
+                raise InputError(edits, f"{display_text(name)} isn't in trips.txt", record=number)
             gone.update(found)
     return gone

@@ -6,8 +6,8 @@ from typing import Any
 
 import numpy as np
 
-from ..faults import needs
-from .fields import Floats
+from ..core.arrays import Floats
+from ..core.errors import needs
 
 ELLIPSOID = "WGS84"
 

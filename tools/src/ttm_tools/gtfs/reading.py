@@ -12,10 +12,10 @@ from typing import Any, Callable, Iterable, Iterator, Mapping, Sequence
 import numpy as np
 import numpy.typing as npt
 
-from .. import progress
+from ..core import progress
+from ..core.arrays import Mask, Whole
 from ..records import places_of, records, rows
 from .columns import Column, Texts, column_of
-from .fields import Mask, Whole
 from .plain import BLOCK, Piece, plain_pieces, together
 
 ROWS_AT_ONCE = 1_000_000
@@ -43,7 +43,7 @@ def columns_of(path: str | Path, needed: Sequence[str], keep: Keep) -> tuple[Col
     try:
         if is_long(path):
             count, name = os.path.getsize(path) // BYTES_AT_ONCE, os.path.basename(path)
-            some = progress.shown(chunks(path, needed, ROWS_AT_ONCE), count, name, "M records")
+            some = progress.track(chunks(path, needed, ROWS_AT_ONCE), count, name, "M records")
             return joined_pieces(some, needed, keep)
     except ODD:
         pass
@@ -55,7 +55,7 @@ def plain_columns(path: str | Path, needed: Sequence[str], keep: Keep) -> tuple[
     count, name = os.path.getsize(path) // BLOCK, os.path.basename(path)
     found: dict[str, list[Piece]] = {name: [] for name in needed}
     numbers, first = [np.zeros(0, np.int64)], 2
-    for piece in progress.shown(plain_pieces(path, needed), count, name, f"{BLOCK >> 20} MB"):
+    for piece in progress.track(plain_pieces(path, needed), count, name, f"{BLOCK >> 20} MB"):
         kept, lines = keep(piece), len(next(iter(piece.values())).codes) if piece else 0
         rows = np.arange(lines) if kept is None else np.flatnonzero(kept)
         numbers.append(first + rows)

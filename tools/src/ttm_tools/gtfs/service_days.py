@@ -6,9 +6,10 @@ from typing import Sequence
 
 import numpy as np
 
+from ..core.arrays import Mask, Whole
 from .columns import distinct, one_of, positions_of, values_of
 from .feeds import Feed, names_in
-from .fields import WEEKDAYS, Mask, Whole, date, number, time
+from .fields import WEEKDAYS, date, number, time
 
 ORIGIN = datetime.date(1, 1, 1).toordinal()
 MOST_DAYS = 40_000  # of a calendar's rows; a longer one is endless, and looked at between these days

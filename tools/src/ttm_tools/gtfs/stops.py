@@ -9,10 +9,11 @@ from typing import Mapping, Sequence
 import numpy as np
 import numpy.typing as npt
 
-from ..faults import BadInput
-from ..records import number_of, rows, shown
+from ..core.arrays import Floats
+from ..core.errors import InputError
+from ..core.text import display_text
+from ..records import number_of, rows
 from . import fields
-from .fields import Floats
 
 Area = Sequence[Sequence[Floats]]  # polygons, each an outer ring and its holes: rows of longitude and latitude
 EARTH = 6_371_008.8  # mean radius in metres
@@ -42,7 +43,9 @@ class Stops:
         """These stops alone, in this order, which are all there."""
         lost = [name for name in identifiers if name not in self.places]
         if lost:
-            raise BadInput(self.path, f"no stop {shown(lost[0])}, which the matrix has: is it from another feed?")
+            raise InputError(
+                self.path, f"no stop {display_text(lost[0])}, which the matrix has: is it from another feed?"
+            )
         chosen = np.array([self.places[name] for name in identifiers], dtype=np.intp)
         names, stations = ([texts[place] for place in chosen] for texts in (self.names, self.stations))
         places = (self.latitudes[chosen], self.longitudes[chosen])
@@ -74,13 +77,13 @@ class Stops:
 
     def name_of(self, identifier: str) -> str:
         """A stop's name with its identifier."""
-        name, plain = self.names[self.places[identifier]], shown(identifier)
+        name, plain = self.names[self.places[identifier]], display_text(identifier)
         return name if name == plain else f"{name} ({plain})"
 
 
 def in_folder(folder: str, name: str) -> str:
     if not os.path.isdir(folder):
-        raise BadInput(folder, "not the folder of a feed (unzip it first)")
+        raise InputError(folder, "not the folder of a feed (unzip it first)")
     return os.path.join(folder, name)
 
 
@@ -109,9 +112,9 @@ def read_stops(folder: str) -> Stops:
     wanted = ("stop_name", "stop_lat", "stop_lon", "location_type", "parent_station")
     for number, (stop, name, latitude, longitude, kind, station) in rows(path, ["stop_id"], wanted):
         if stop in identifiers:
-            raise BadInput(path, f"{shown(stop)} occurs twice", record=number)
+            raise InputError(path, f"{display_text(stop)} occurs twice", record=number)
         identifiers[stop] = None
-        names.append(shown(name.strip() or stop))
+        names.append(display_text(name.strip() or stop))
         places.append(place_of(latitude, longitude))
         kinds.append(kind_of(kind))
         stations.append(station)
@@ -124,6 +127,6 @@ def read_list(path: str, known: Sequence[str], kind: str) -> list[str]:
     among, named = set(known), []
     for number, (stop,) in rows(path, ["stop_id"]):
         if stop not in among:
-            raise BadInput(path, f"the matrix has no {kind} {shown(stop)}", record=number)
+            raise InputError(path, f"the matrix has no {kind} {display_text(stop)}", record=number)
         named.append(stop)
     return named

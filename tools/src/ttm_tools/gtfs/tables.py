@@ -11,9 +11,10 @@ from typing import BinaryIO, Iterable, Mapping, Sequence
 import numpy as np
 import numpy.typing as npt
 
+from ..core.arrays import Mask, Whole
 from ..records import field as quoted, fields_as_texts, joined as lines_of, names_of
 from .columns import Column, behind, coded, column_of, constant, texts_at, texts_of
-from .fields import Layout, Mask, Whole
+from .fields import Layout
 from .reading import columns
 
 ROWS_AT_ONCE = 1 << 17

@@ -11,12 +11,13 @@ from typing import Callable, Sequence
 
 import numpy as np
 
+from ..core.arrays import Mask, Whole
 from ..records import rows
 from .call_numbers import CallNumbers
 from .calls import begins_of, calls_of
 from .columns import Codes, one_of, positions_of, times_of, values_of, where
 from .feeds import Feed, read_files
-from .fields import Mask, Whole, number
+from .fields import number
 from .service_days import services_on
 from .stops import Stops
 from .tables import Table

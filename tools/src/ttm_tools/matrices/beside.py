@@ -7,8 +7,8 @@ from pathlib import Path
 
 import numpy as np
 
-from ..faults import BadInput
-from ..records import shown
+from ..core.errors import InputError
+from ..core.text import display_text
 from .lines import Seconds
 from .matrix import LEFT_OUT, Matrix, Places, Share, Sums, sentences_on_lacking
 from .origin import told_of
@@ -58,7 +58,7 @@ class Beside(Matrix):
         self.scenarios, self.named_base = list(self.sources), second
         self.heading, self.files = self.heading_of(), (other.path,)
         if not stops or not origins:
-            raise BadInput(other.path, f"has no {'stop' if not stops else 'origin'} in common with {own.path}")
+            raise InputError(other.path, f"has no {'stop' if not stops else 'origin'} in common with {own.path}")
 
     def common(self, chosen: str, shares: dict[Share, Share]) -> list[str]:
         """The origins that all scenarios and shares of both have, in the order of the first."""
@@ -109,8 +109,8 @@ class Beside(Matrix):
         texts, others = [], self.sources[self.base].shares
         for label, of in list(self.sources.items())[1::-1]:
             differs = [f"percentile {of.shares[share]}" for share in self.shares if others[share] != share]
-            texts_of_scenario = [f"scenario {shown(of.scenario)}", *told_of(of.matrix.path), *differs]
-            texts.append(f"{shown(label)} is {of.matrix.path} ({', '.join(texts_of_scenario)})")
+            texts_of_scenario = [f"scenario {display_text(of.scenario)}", *told_of(of.matrix.path), *differs]
+            texts.append(f"{display_text(label)} is {of.matrix.path} ({', '.join(texts_of_scenario)})")
         return "; ".join(texts)
 
 
@@ -131,4 +131,4 @@ def shares_of(own: Matrix, other: Matrix) -> dict[Share, Share]:
     if len(own.shares) == 1 and len(other.shares) == 1:
         return {own.shares[0]: other.shares[0]}
     percentiles = ", ".join(map(str, own.shares))
-    raise BadInput(other.path, f"no percentile in common with {own.path}, which has {percentiles}")
+    raise InputError(other.path, f"no percentile in common with {own.path}, which has {percentiles}")

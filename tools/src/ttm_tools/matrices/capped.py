@@ -4,7 +4,7 @@ from dataclasses import replace
 
 import numpy as np
 
-from ..faults import BadInput
+from ..core.errors import InputError
 from .lines import Seconds
 from .matrix import Matrix, Places, Share, Sums
 
@@ -36,7 +36,7 @@ class Capped(Matrix):
     def limit(self, seconds: int | None) -> tuple[int, int | None]:
         if not self.layout.limits or seconds is not None and seconds > self.end:
             message = "access of the matrix counts pairs that take longer than the greatest travel time"
-            raise BadInput(self.path, f"{message}, {self.end:g} seconds: use ttm-tools access")
+            raise InputError(self.path, f"{message}, {self.end:g} seconds: use ttm-tools access")
         return super().limit(seconds)
 
 

@@ -7,8 +7,8 @@ from typing import Any
 
 import numpy as np
 
-from ..faults import BadInput
-from ..threads import in_order, processors
+from ..core.errors import InputError
+from ..core.threads import map_in_order, processors
 from .lines import Seconds
 
 LEVEL = 1  # of the compression: higher ones take up to twice as long for some percent less
@@ -47,7 +47,7 @@ def rows_of(data: Any, begin: int, end: int) -> Seconds:
         return values
     rows = data.chunks[0]
     first = begin // rows * rows
-    chunks = list(in_order(lambda place: chunk_at(data, place), range(first, end, rows), processors()))
+    chunks = list(map_in_order(lambda place: chunk_at(data, place), range(first, end, rows), processors()))
     values = np.concatenate(chunks)[begin - first : end - first]
     return values
 
@@ -60,5 +60,5 @@ def chunk_at(data: Any, place: int) -> Seconds:
         values: Seconds = unpacked(chunk, rows, columns) if skipped == 0 else data[place : place + rows]
     except (zlib.error, ValueError) as fault:
         message = f"{data.name}: the chunk that begins with row {place + 1} can't be read: {fault}"
-        raise BadInput(data.file.filename, message) from None
+        raise InputError(data.file.filename, message) from None
     return values

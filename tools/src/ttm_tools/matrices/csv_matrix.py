@@ -8,10 +8,11 @@ from typing import BinaryIO
 
 import numpy as np
 
-from .. import progress
-from ..faults import BadInput, quantity
+from ..core import progress
+from ..core.errors import InputError
+from ..core.text import display_text, quantity
 from ..opening.paths import as_one_line, regular
-from ..records import refuse_alike, shown
+from ..records import refuse_alike
 from .layout import MatrixLayout, layout_of
 from .lines import (
     MOST,
@@ -64,27 +65,27 @@ class CsvMatrix(Matrix):
             self.layout = self.read_layout(file)
             self.read_lines(file)
         if not self.index:
-            raise BadInput(path, "no rows")
+            raise InputError(path, "no rows")
 
     def read_layout(self, file: BinaryIO) -> MatrixLayout:
         record = read_record(file)
         refuse_wide(self.path, record)
         found = layout_of(fields_of(record.removeprefix(b"\xef\xbb\xbf")))
         if found is None:
-            raise BadInput(self.path, NO_MATRIX, record=1)
+            raise InputError(self.path, NO_MATRIX, record=1)
         refuse_alike(self.path, found.stops, found.stops)
         if not record.endswith(b"\n"):
-            raise BadInput(self.path, "truncated: the last line has no end")
+            raise InputError(self.path, "truncated: the last line has no end")
         return found
 
     def read_lines(self, file: BinaryIO) -> None:
         """Notes each line of the file, whose header was read."""
         begin, number = file.tell(), 1
         rows = os.fstat(file.fileno()).st_size // (5 * self.layout.width)
-        for record in progress.shown(records_of(file), rows, "reading", "rows"):
+        for record in progress.track(records_of(file), rows, "reading", "rows"):
             line = content(record)
             if len(line) == len(record):
-                raise BadInput(self.path, "truncated: the last line has no end")
+                raise InputError(self.path, "truncated: the last line has no end")
             if line:
                 number += 1
                 self.read_line(line, number, begin)
@@ -98,18 +99,20 @@ class CsvMatrix(Matrix):
         heads, first = head_of(line, layout.first_cell)
         count = len(heads) + count_of_fields(line, first)
         if count != layout.width:
-            raise BadInput(self.path, f"{quantity(count, 'field')}, and the header has {layout.width}", record=number)
+            raise InputError(self.path, f"{quantity(count, 'field')}, and the header has {layout.width}", record=number)
         numbers = [self.number(number, name, text) for name, text in zip(layout.heads[2:], heads[2:])]
         share = numbers.pop(0) if layout.names_share else None
         index = self.index.setdefault((heads[0], share), Index())
         if heads[1] in index.places:
-            raise BadInput(self.path, f"{shown(heads[1])} occurs twice in {shown(heads[0])}", record=number)
+            raise InputError(
+                self.path, f"{display_text(heads[1])} occurs twice in {display_text(heads[0])}", record=number
+            )
         index.places[heads[1]] = len(index.lines)
         index.lines.append(MatrixLine(number, numbers, begin + first, begin + len(line)))
 
     def number(self, record: int, column: str, text: str) -> int:
         if not (text.isascii() and text.isdigit() and len(text) <= 18):
-            raise BadInput(
+            raise InputError(
                 self.path, "is not a number", record=record, column=column, value=text, allowed="whole numbers"
             )
         return int(text)
@@ -140,7 +143,7 @@ class CsvMatrix(Matrix):
 
     def tell_bad(self, cells: bytes, record: int) -> None:
         place, text = first_bad(cells)
-        column = shown(self.stops[place]) if place < len(self.stops) else None
-        raise BadInput(
+        column = display_text(self.stops[place]) if place < len(self.stops) else None
+        raise InputError(
             self.path, "is not a travel time", record=record, column=column, value=text, allowed=TRAVEL_TIMES
         )

@@ -6,7 +6,7 @@ from typing import BinaryIO, Iterator
 import numpy as np
 import numpy.typing as npt
 
-from ..faults import BadInput
+from ..core.errors import InputError
 from ..opening.tables import parsed
 
 Seconds = npt.NDArray[np.float32]  # NaN where a stop isn't reached; whole seconds up to MOST are exact
@@ -33,7 +33,7 @@ def read_record(file: BinaryIO) -> bytes:
 def refuse_wide(path: str, header: bytes) -> None:
     """Refuses a header with more columns than a matrix has, before it is cut into fields."""
     if len(header) >= MOST_RECORD or header.count(b",") >= MOST_COLUMNS:
-        raise BadInput(path, f"more than {MOST_COLUMNS:,} columns: not a matrix", record=1)
+        raise InputError(path, f"more than {MOST_COLUMNS:,} columns: not a matrix", record=1)
 
 
 def records_of(file: BinaryIO) -> Iterator[bytes]:

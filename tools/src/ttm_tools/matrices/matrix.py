@@ -8,9 +8,9 @@ from typing import Collection, Iterator, Sequence
 import numpy as np
 import numpy.typing as npt
 
-from ..faults import BadInput, quantity, some
+from ..core.errors import InputError
+from ..core.text import display_text, first_few, quantity
 from ..opening.kinds import near
-from ..records import shown
 from .layout import MatrixLayout
 from .lines import Seconds
 
@@ -108,8 +108,8 @@ class Matrix(ABC):
         """The travel times of one origin, which the scenario has."""
         names = self.origins(scenario, share)
         if origin not in names:
-            what = f"the scenario {shown(scenario)} has no origin {shown(origin)}"
-            raise BadInput(self.path, f"{what}{near(shown(origin), map(shown, names))}")
+            what = f"the scenario {display_text(scenario)} has no origin {display_text(origin)}"
+            raise InputError(self.path, f"{what}{near(display_text(origin), map(display_text, names))}")
         place = names.index(origin)
         row: Seconds = self.rows(scenario, share, place, place + 1)[0]
         return row
@@ -118,11 +118,11 @@ class Matrix(ABC):
         """The chosen percentile, which needs to be named only if there are several."""
         percentiles = ", ".join(map(str, self.shares))
         if percent is not None and not self.layout.names_share:
-            raise BadInput(self.path, "it has no percentiles: leave out --share")
+            raise InputError(self.path, "it has no percentiles: leave out --share")
         if percent is not None and percent not in self.shares:
-            raise BadInput(self.path, f"no rows for the percentile {percent}; it has {percentiles}")
+            raise InputError(self.path, f"no rows for the percentile {percent}; it has {percentiles}")
         if percent is None and self.layout.names_share and len(self.shares) > 1:
-            raise BadInput(self.path, f"it has rows for the percentiles {percentiles}: choose one with --share")
+            raise InputError(self.path, f"it has rows for the percentiles {percentiles}: choose one with --share")
         return self.shares[0] if percent is None else percent
 
     def limit(self, seconds: int | None) -> tuple[int, int | None]:
@@ -134,16 +134,18 @@ class Matrix(ABC):
             return 0, seconds
         seconds_stated = ", ".join(map(str, limits))
         if seconds is None and len(limits) > 1:
-            raise BadInput(self.path, f"it has access within {seconds_stated} seconds: choose one with --within")
+            raise InputError(self.path, f"it has access within {seconds_stated} seconds: choose one with --within")
         if seconds is not None and seconds not in limits:
-            raise BadInput(self.path, f"no access within {seconds} seconds, but within {seconds_stated}")
+            raise InputError(self.path, f"no access within {seconds} seconds, but within {seconds_stated}")
         place = 0 if seconds is None else limits.index(seconds)
         return place, limits[place]
 
     def scenario(self, name: str) -> str:
         """A scenario by its name."""
         if name not in self.scenarios:
-            raise BadInput(self.path, f"no scenario {shown(name)}; it has {', '.join(map(shown, self.scenarios))}")
+            raise InputError(
+                self.path, f"no scenario {display_text(name)}; it has {', '.join(map(display_text, self.scenarios))}"
+            )
         return name
 
     @property
@@ -164,11 +166,13 @@ class Matrix(ABC):
             return self.scenario(wanted)
         others = [name for name in (self.scenarios if base == BASE else self.compared) if name != base]
         if len(others) > 1:
-            names = f"{shown(others[0])} and {shown(others[1])}"
-            raise BadInput(self.path, f"it has the scenarios {names} besides {shown(base)}: choose one with --scenario")
+            names = f"{display_text(others[0])} and {display_text(others[1])}"
+            raise InputError(
+                self.path, f"it has the scenarios {names} besides {display_text(base)}: choose one with --scenario"
+            )
         if not others:
-            there = ", ".join(map(shown, self.scenarios))
-            raise BadInput(self.path, f"no scenario other than {shown(base)}; it has {there}")
+            there = ", ".join(map(display_text, self.scenarios))
+            raise InputError(self.path, f"no scenario other than {display_text(base)}; it has {there}")
         return others[0]
 
 
@@ -221,18 +225,22 @@ def has_all(matrix: Matrix, origins: Sequence[str], file: str) -> None:
             found = matrix.origins(scenario, share)
             if found != list(origins):
                 there = set(found)
-                lost = [shown(origin) for origin in origins if origin not in there]
-                what = f"scenario {shown(scenario)}" if share is None else f"scenario {shown(scenario)}, share {share}"
+                lost = [display_text(origin) for origin in origins if origin not in there]
+                what = (
+                    f"scenario {display_text(scenario)}"
+                    if share is None
+                    else f"scenario {display_text(scenario)}, share {share}"
+                )
                 of = f"{len(lost):,} of {quantity(len(origins), 'origin')} of {file}"
-                message = f"lacks {of}: {some(lost)}" if lost else None
-                raise BadInput(matrix.path, f"{what}: {message or f'other origins than {file}'}")
+                message = f"lacks {of}: {first_few(lost)}" if lost else None
+                raise InputError(matrix.path, f"{what}: {message or f'other origins than {file}'}")
 
 
 def lacking(one: tuple[str, Sequence[str]], other: tuple[str, Sequence[str]]) -> str | None:
     """Which origins one scenario has and the other hasn't, as a line says it."""
     (name, origins), (another, others) = one, other
     kept = {*origins} & {*others}
-    return "; ".join(sentences_on_lacking((shown(name), origins), (shown(another), others), kept)) or None
+    return "; ".join(sentences_on_lacking((display_text(name), origins), (display_text(another), others), kept)) or None
 
 
 def sentences_on_lacking(
@@ -245,8 +253,8 @@ def sentences_on_lacking(
     """Which names of one aren't among those that are kept of both, and which of the other."""
     sentences = []
     for (name, names), (another, _) in ((one, other), (other, one)):
-        lost = [shown(item) for item in names if item not in kept]
+        lost = [display_text(item) for item in names if item not in kept]
         if lost:
             count = f"{len(lost):,} of {len(names):,} {what} of {name}"
-            sentences.append(f"{count} aren't in {another}{more}: {some(lost)}")
+            sentences.append(f"{count} aren't in {another}{more}: {first_few(lost)}")
     return sentences

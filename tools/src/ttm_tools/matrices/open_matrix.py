@@ -13,12 +13,12 @@ from typing import Any, Sequence
 import numpy as np
 import numpy.typing as npt
 
-from .. import progress
-from ..faults import BadInput, needs
-from ..files import written_aside
+from ..core import progress
+from ..core.errors import InputError, needs
+from ..core.files import atomic_path
+from ..core.threads import map_in_order, processors
 from ..opening.open_matrices import SHARES, limits_of, looked_at, refuse_shapes, refuse_twice
 from ..opening.paths import as_one_line, regular
-from ..threads import in_order, processors
 from .chunks import LEVEL, packed, rows_of
 from .layout import MatrixLayout
 from .lines import Seconds
@@ -58,7 +58,7 @@ def write_open_matrix(matrix: Matrix, path: str, threads: int | None = None) -> 
 
     if not matrix.stops:
         message = "has no columns, as after a run whose --destinations has only a header: there is nothing to write"
-        raise BadInput(matrix.path, message)
+        raise InputError(matrix.path, message)
     layouts = [(scenario, share) for scenario in matrix.compared for share in matrix.shares]
     first = matrix.origins(*layouts[0])
     for scenario, share in layouts:
@@ -66,10 +66,10 @@ def write_open_matrix(matrix: Matrix, path: str, threads: int | None = None) -> 
         if names != first:
             what = f"{scenario}, percentile {share}" if share is not None else scenario
             lost = lacking((layouts[0][0], first), (what, names)) or f"{what} has them in another order"
-            raise BadInput(matrix.path, f"an Open Matrix file has one list of origins: {lost}")
+            raise InputError(matrix.path, f"an Open Matrix file has one list of origins: {lost}")
     refuse_twice(first, "origin", matrix.path)
     refuse_twice(matrix.stops, "destination", matrix.path)
-    with written_aside(path) as aside, h5py.File(aside, "w") as file:
+    with atomic_path(path) as aside, h5py.File(aside, "w") as file:
         file.attrs["OMX_VERSION"] = np.bytes_(b"0.2")
         file.attrs["SHAPE"] = np.array([len(first), len(matrix.stops)], np.int32)
         if matrix.layout.names_share:
@@ -127,8 +127,8 @@ def fill_data(data: Any, matrix: Matrix, key: tuple[str, Share], threads: int) -
     def chunk_from(begin: int) -> bytes:
         return packed(padded(matrix, key, range(begin, min(begin + rows, count)), rows))
 
-    chunks = in_order(chunk_from, begins, threads)
-    for begin, chunk in zip(begins, progress.shown(chunks, len(begins), f"{key[0]} {key[1] or ''}", "blocks")):
+    chunks = map_in_order(chunk_from, begins, threads)
+    for begin, chunk in zip(begins, progress.track(chunks, len(begins), f"{key[0]} {key[1] or ''}", "blocks")):
         data.id.write_direct_chunk((begin, 0), chunk)
 
 
@@ -161,18 +161,18 @@ class OpenMatrix(Matrix):
     def take(self, name: str, scenario: Any, share: Any) -> None:
         """Takes a matrix of the file by its scenario and share."""
         if not isinstance(scenario, (bytes, str)):
-            raise BadInput(self.path, f"matrix {name} names no scenario")
+            raise InputError(self.path, f"matrix {name} names no scenario")
         key = decoded([scenario])[0], None if share is None else int(share)
         if not key[0] or share is not None and int(share) not in SHARES:
-            raise BadInput(self.path, f"matrix {name} names no scenario, or a percentile that isn't 1 to 100")
+            raise InputError(self.path, f"matrix {name} names no scenario, or a percentile that isn't 1 to 100")
         if key in self.names:
-            raise BadInput(self.path, f"matrix {name} has the scenario and percentile of {self.names[key]}")
+            raise InputError(self.path, f"matrix {name} has the scenario and percentile of {self.names[key]}")
         self.names[key] = name
 
     def read_layout(self) -> None:
         """Takes the layout, and the order of scenarios, from what was read."""
         if not self.names:
-            raise BadInput(self.path, "no matrices")
+            raise InputError(self.path, "no matrices")
         lookup = self.file["lookup"]
         self.origin_names, stops = decoded(lookup["origin"][:]), decoded(lookup["destination"][:])
         refuse_twice(self.origin_names, "origin", self.path)
@@ -182,7 +182,7 @@ class OpenMatrix(Matrix):
         self.scenarios = list(dict.fromkeys(scenario for scenario, _ in self.names))
         self.shares = sorted({share for _, share in self.names}, key=lambda share: share or 0)
         if len(self.names) < len(self.scenarios) * len(self.shares):
-            raise BadInput(self.path, "not all scenarios have the same percentiles")
+            raise InputError(self.path, "not all scenarios have the same percentiles")
         for key in self.names:
             self.access(*key)
 
@@ -194,7 +194,7 @@ class OpenMatrix(Matrix):
         with as_one_line(self.path, f"access of {name} can't be read"):
             counts: Sums = self.file["access"][name][:].astype(np.int64)
         if (counts < 0).any():
-            raise BadInput(self.path, f"access of {name} has {counts.min()}, which is not a sum")
+            raise InputError(self.path, f"access of {name} has {counts.min()}, which is not a sum")
         return counts
 
     def rows(self, scenario: str, share: Share, begin: int, end: int) -> Seconds:

@@ -2,7 +2,7 @@
 
 from pathlib import Path
 
-from ..faults import BadInput
+from ..core.errors import InputError
 from ..opening.texts import read_json
 
 NOTES = "study.json"
@@ -18,7 +18,7 @@ def told_of(path: str) -> list[str]:
         notes = read_json(folder / NOTES, "study.json")
         run = notes["run"] if folder == matrix.parent else notes["windows"][f"{matrix.parent.name}/{matrix.name}"]
         date, (first, last) = str(run["date"]), run["window"]
-    except (BadInput, KeyError, TypeError, ValueError):
+    except (InputError, KeyError, TypeError, ValueError):
         return []
     day = f"{date[:4]}-{date[4:6]}-{date[6:]}" if len(date) == 8 and date.isdigit() else date
     return [day, f"{first} to {last}"]

@@ -13,9 +13,9 @@ from typing import Callable, Sequence
 import numpy as np
 import numpy.typing as npt
 
-from .. import progress
-from ..faults import WrongWords
-from ..gtfs.fields import Floats
+from ..core import progress
+from ..core.arrays import Floats
+from ..core.errors import ArgumentError
 from ..matrices import Matrix, Seconds, Share
 from .measure_list import DECAYS
 
@@ -48,9 +48,9 @@ class Decay:
     def __post_init__(self) -> None:
         takes_value = bool(DECAYS[self.kind].value)
         if takes_value and not (self.value or 0) > 0:
-            raise WrongWords(f"--decay {self.kind} needs --decay-value, minutes above 0")
+            raise ArgumentError(f"--decay {self.kind} needs --decay-value, minutes above 0")
         if not takes_value and self.value is not None:
-            raise WrongWords(f"--decay {self.kind} takes no --decay-value")
+            raise ArgumentError(f"--decay {self.kind} takes no --decay-value")
 
     def weights(self, seconds: Seconds, cutoff: float) -> Floats:
         """The weight of each travel time, 0 to 1; 0 where there is none. The cutoff is in minutes."""
@@ -135,7 +135,7 @@ def by_blocks(
     """What is measured of each block of rows, one after the other."""
     numbers = np.zeros((len(matrix.origins(scenario, share)), *shape))
     count, begin = -(-len(numbers) // matrix.rows_at_once()), 0
-    for block in progress.shown(matrix.blocks(scenario, share), count, f"{scenario} {share or ''}", "blocks"):
+    for block in progress.track(matrix.blocks(scenario, share), count, f"{scenario} {share or ''}", "blocks"):
         numbers[begin : begin + len(block.origins)] = measure(block.seconds)
         begin += len(block.origins)
     return numbers

@@ -8,12 +8,13 @@ from typing import Iterator, Sequence
 
 import numpy as np
 
-from ..column_list import ACCESS, NEAREST, names_of
-from ..faults import BadInput, quantity, some
-from ..gtfs.fields import Floats
+from ..core.arrays import Floats
+from ..core.columns import ACCESS, NEAREST, names_of
+from ..core.errors import InputError
+from ..core.text import display_text, first_few, quantity
 from ..matrices import BASE, TODAY
 from ..matrices.matrix import LEFT_OUT, sentences_on_lacking
-from ..records import number_of, records, rows, shown
+from ..records import number_of, records, rows
 from .opportunities import Counts
 
 COLUMNS, OF_TIMES = names_of(ACCESS), names_of(NEAREST)
@@ -29,12 +30,12 @@ class AccessKind:
 
     @property
     def label(self) -> str:
-        return f"{shown(self.opportunity)} within {self.cutoff} minutes{self.share}"
+        return f"{display_text(self.opportunity)} within {self.cutoff} minutes{self.share}"
 
     @property
     def label_of_nearest(self) -> str:
         count = "" if self.cutoff == "1" else f"{self.cutoff} "
-        return f"time to the {count}nearest {shown(self.opportunity)}{self.share}"
+        return f"time to the {count}nearest {display_text(self.opportunity)}{self.share}"
 
     @property
     def share(self) -> str:
@@ -64,8 +65,10 @@ class AccessTable:
     def scenario(self, name: str) -> int:
         """The place of a scenario."""
         if name not in self.scenarios:
-            there = ", ".join(map(shown, self.scenarios))
-            raise BadInput(self.path, f"no scenario {shown(name)}; it has {there}: choose the base with --base")
+            there = ", ".join(map(display_text, self.scenarios))
+            raise InputError(
+                self.path, f"no scenario {display_text(name)}; it has {there}: choose the base with --base"
+            )
         return self.scenarios.index(name)
 
 
@@ -78,11 +81,13 @@ def read_access(path: str) -> AccessTable:
         places = (scenarios.setdefault(scenario, len(scenarios)), kinds.setdefault(kind, len(kinds)))
         key = (*places, origins.setdefault(origin, len(origins)))
         if key in found:
-            raise BadInput(path, f"{shown(origin)} occurs twice for {kind.label}, {shown(scenario)}", record=number)
+            raise InputError(
+                path, f"{display_text(origin)} occurs twice for {kind.label}, {display_text(scenario)}", record=number
+            )
         found[key] = value
     numbers = np.full((len(scenarios), len(kinds), len(origins)), np.nan)
     if not found:
-        raise BadInput(path, "no lines")
+        raise InputError(path, "no lines")
     numbers[tuple(np.array(list(found)).T)] = list(found.values())
     table = AccessTable(path, list(scenarios), list(kinds), list(origins), numbers, of_times)
     tell_gaps(table)
@@ -95,12 +100,12 @@ def beside(own: AccessTable, other: AccessTable, labels: tuple[str, str], scenar
     the bases of both are called.
     """
     if own.of_times != other.of_times:
-        raise BadInput(other.path, f"one table has access and the other times to the nearest, as {own.path}")
+        raise InputError(other.path, f"one table has access and the other times to the nearest, as {own.path}")
     kinds = [kind for kind in own.kinds if kind in other.kinds]
     origins = [name for name in own.origins if name in set(other.origins)]
     if not kinds or not origins:
         what = "origin" if kinds else "opportunity, percentile and cutoff"
-        raise BadInput(other.path, f"has no {what} in common with {own.path}")
+        raise InputError(other.path, f"has no {what} in common with {own.path}")
     renamed = [labels[0] if name == own.base else name for name in own.scenarios]
     parts = [
         table.numbers[
@@ -129,7 +134,7 @@ def by_group(
         for group in people.names:
             weights = people.named(group)
             if not weights.any():
-                raise BadInput(table.path, f"nobody of the group {shown(group)} lives at its origins")
+                raise InputError(table.path, f"nobody of the group {display_text(group)} lives at its origins")
             yield kind, group, numbers, weights
 
 
@@ -145,7 +150,7 @@ def lines_of(path: str, named: Sequence[str]) -> Iterator[tuple[int, str, Access
         value = math.inf if named is OF_TIMES and not text.strip() else number_of(text.strip())
         if not value >= 0:
             allowed = "a number from 0 on"
-            raise BadInput(path, "is invalid", record=number, column=named[-1], value=text, allowed=allowed)
+            raise InputError(path, "is invalid", record=number, column=named[-1], value=text, allowed=allowed)
         yield number, scenario or "base", AccessKind(opportunity, percentile, cutoff), origin, value
 
 
@@ -153,7 +158,7 @@ def tell_gaps(table: AccessTable) -> None:
     """Refuses the first scenario and kind that lacks origins."""
     gaps = np.isnan(table.numbers)
     for scenario, kind in np.argwhere(gaps.any(axis=2))[:1].tolist():
-        lost = [shown(table.origins[place]) for place in np.flatnonzero(gaps[scenario, kind]).tolist()]
-        what = f"{table.label_of(table.kinds[kind])}, {shown(table.scenarios[scenario])}"
+        lost = [display_text(table.origins[place]) for place in np.flatnonzero(gaps[scenario, kind]).tolist()]
+        what = f"{table.label_of(table.kinds[kind])}, {display_text(table.scenarios[scenario])}"
         of = f"{len(lost):,} of {quantity(len(table.origins), 'origin')}"
-        raise BadInput(table.path, f"{what} lacks {of}: {some(lost)}")
+        raise InputError(table.path, f"{what} lacks {of}: {first_few(lost)}")

@@ -4,7 +4,7 @@ from typing import Sequence
 
 import numpy as np
 
-from ..gtfs.fields import Floats
+from ..core.arrays import Floats
 
 MINUTE = 60.0
 

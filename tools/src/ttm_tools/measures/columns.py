@@ -5,7 +5,7 @@ source. Headers, numbers and the tables of docs/reference/measures.md come from 
 from dataclasses import field, fields
 from typing import Any, Callable, TypeVar
 
-from ..column_list import TableColumn, explained
+from ..core.columns import TableColumn, explained
 
 Row = TypeVar("Row")
 

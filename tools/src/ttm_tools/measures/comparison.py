@@ -11,8 +11,8 @@ from typing import Any
 import numpy as np
 import numpy.typing as npt
 
-from .. import progress
-from ..gtfs.fields import Floats
+from ..core import progress
+from ..core.arrays import Floats
 from ..matrices import Pair, Seconds, Sums
 
 KINDS = ["cut off", "slower", "new", "faster"]  # in the order of a table
@@ -92,7 +92,7 @@ def compare(pair: Pair, limit: float, with_pairs: bool) -> Comparison:
     counts = [np.zeros((0, len(KINDS)), np.int64)]
     none = np.zeros((0, 0), np.float32)
     found = [[column] for column in columns_of(0, none, none, np.zeros((0, 0), np.int8))]
-    for begin, before, after in progress.shown(pair.blocks(), pair.count_of_blocks(), "comparing", "blocks"):
+    for begin, before, after in progress.track(pair.blocks(), pair.count_of_blocks(), "comparing", "blocks"):
         kinds = kinds_of(before, after, limit)
         counts.append(np.stack([np.count_nonzero(kinds == kind, axis=1) for kind in range(len(KINDS))], axis=1))
         for column, piece in zip(found, columns_of(begin, before, after, kinds) if with_pairs else ()):

@@ -10,7 +10,7 @@ from typing import Sequence
 
 import numpy as np
 
-from ..gtfs.fields import Floats
+from ..core.arrays import Floats
 from ..matrices import Matrix, Seconds, Share
 from ..matrices.matrix import Places
 from .access import Weighting, by_blocks

@@ -8,7 +8,7 @@ from dataclasses import dataclass
 
 import numpy as np
 
-from ..gtfs.fields import Floats
+from ..core.arrays import Floats
 from .columns import column, row_of
 
 TENTHS = 10

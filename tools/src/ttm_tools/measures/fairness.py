@@ -7,7 +7,7 @@ from dataclasses import dataclass
 
 import numpy as np
 
-from ..gtfs.fields import Floats
+from ..core.arrays import Floats
 
 
 @dataclass(frozen=True)

@@ -11,7 +11,7 @@ from functools import cached_property
 
 import numpy as np
 
-from ..gtfs.fields import Narrow
+from ..core.arrays import Narrow
 from .search_network import NEVER, Schedule, SearchNetwork
 
 AT_ONCE = 30  # departures that share a part of the network

@@ -8,7 +8,7 @@ import importlib
 from dataclasses import dataclass
 from typing import Any, Callable, Iterable
 
-from ..column_list import table
+from ..core.columns import table
 
 
 @dataclass(frozen=True)

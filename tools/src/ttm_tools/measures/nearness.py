@@ -4,7 +4,7 @@ from dataclasses import dataclass
 
 import numpy as np
 
-from ..gtfs.fields import Floats, Mask
+from ..core.arrays import Floats, Mask
 from .columns import column, row_of
 from .equity import NEARLY, within
 

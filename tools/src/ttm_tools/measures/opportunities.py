@@ -6,9 +6,10 @@ from typing import Sequence
 
 import numpy as np
 
-from ..faults import BadInput, some
-from ..gtfs.fields import Floats
-from ..records import names_of, number_of, places_of, records, refuse_alike, rows, shown
+from ..core.arrays import Floats
+from ..core.errors import InputError
+from ..core.text import display_text, first_few
+from ..records import names_of, number_of, places_of, records, refuse_alike, rows
 
 IDENTIFIERS = ("stop_id", "id")  # the column that names a stop or a point: the first of these that is there
 # columns that say where and what it is
@@ -40,12 +41,12 @@ def read_counts(paths: Sequence[str], stops: Sequence[str], kind: str, wanted: S
         found = [name for name in columns_of(path) if not wanted or called(name, path) in wanted]
         for name in found:
             if called(name, path) in names:
-                raise BadInput(path, f"a column {shown(called(name, path))} is in another file too")
+                raise InputError(path, f"a column {display_text(called(name, path))} is in another file too")
             names.append(called(name, path))
         columns.append(numbers_of(path, found, places, kind))
-    lost = [shown(name) for name in wanted if name not in names]
+    lost = [display_text(name) for name in wanted if name not in names]
     if lost:
-        raise BadInput(", ".join(paths), f"no column {lost[0]}; there are {some([*map(shown, there)])}")
+        raise InputError(", ".join(paths), f"no column {lost[0]}; there are {first_few([*map(display_text, there)])}")
     return Counts(names, np.concatenate([np.zeros((len(stops), 0)), *columns], axis=1))
 
 
@@ -60,7 +61,7 @@ def columns_of(path: str) -> list[str]:
     refuse_alike(path, header, names)
     columns = [name for name in names if name not in IDENTIFIERS]
     if not columns:
-        raise BadInput(path, "no column of numbers", record=1)
+        raise InputError(path, "no column of numbers", record=1)
     return columns
 
 
@@ -69,7 +70,7 @@ def identifier_of(path: str) -> str:
     names = names_of(path)
     found = next((name for name in IDENTIFIERS if name in names), None)
     if found is None:
-        raise BadInput(path, f"no column {' or '.join(IDENTIFIERS)}", record=1)
+        raise InputError(path, f"no column {' or '.join(IDENTIFIERS)}", record=1)
     return found
 
 
@@ -78,14 +79,14 @@ def numbers_of(path: str, names: Sequence[str], places: dict[str, int], kind: st
     numbers, seen = np.zeros((len(places), len(names))), set[str]()
     for number, (stop, *fields) in rows(path, [identifier_of(path), *names]):
         if stop not in places:
-            raise BadInput(path, f"no {kind} is called {shown(stop)}", record=number)
+            raise InputError(path, f"no {kind} is called {display_text(stop)}", record=number)
         if stop in seen:
-            raise BadInput(path, f"{shown(stop)} occurs twice", record=number)
+            raise InputError(path, f"{display_text(stop)} occurs twice", record=number)
         seen.add(stop)
         for column, text in enumerate(fields):
             value = number_of(text.strip())
             if not value >= 0:
                 allowed = "a number from 0 on"
-                raise BadInput(path, "is invalid", record=number, column=names[column], value=text, allowed=allowed)
+                raise InputError(path, "is invalid", record=number, column=names[column], value=text, allowed=allowed)
             numbers[places[stop], column] = value
     return numbers

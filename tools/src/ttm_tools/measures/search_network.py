@@ -10,8 +10,8 @@ from typing import Iterator, Sequence
 import numpy as np
 import numpy.typing as npt
 
+from ..core.arrays import Mask, Narrow, Whole
 from ..gtfs.columns import Codes
-from ..gtfs.fields import Mask, Narrow, Whole
 from ..gtfs.footpaths import Footpaths
 from ..gtfs.timetable import Events, Runs
 

@@ -13,7 +13,7 @@ from typing import Any, Sequence
 
 import numpy as np
 
-from ..gtfs.fields import Floats, Mask, Whole
+from ..core.arrays import Floats, Mask, Whole
 from ..gtfs.projection import metres_between
 from ..gtfs.timetable import Edits, Timetable, runs_of
 from .columns import column, row_of

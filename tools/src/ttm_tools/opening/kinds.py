@@ -9,7 +9,7 @@ from dataclasses import dataclass
 from decimal import Decimal
 from typing import Any, Callable, Generic, Iterable, TypeVar
 
-from ..faults import quantity
+from ..core.text import quantity
 
 Value = TypeVar("Value")
 CLOCK = re.compile(r"([0-9]{1,3}):([0-5][0-9])(?::([0-5][0-9]))?")

@@ -5,7 +5,7 @@ from typing import Any
 import numpy as np
 import numpy.typing as npt
 
-from ..faults import BadInput
+from ..core.errors import InputError
 
 MOST_PLACES = 65_535  # origins, or stops, that `ttm` takes
 LONGEST_NAME = 10_000  # bytes of an identifier
@@ -17,25 +17,25 @@ def refuse_shapes(file: Any, path: str) -> None:
     """Refuses a file whose lists, matrices or sums are of other kinds or shapes than an Open Matrix file has."""
     for group in ("data", "lookup", "access"):
         if group not in file:
-            raise BadInput(path, f"no group {group}: is it an Open Matrix file that ttm-tools omx wrote?")
+            raise InputError(path, f"no group {group}: is it an Open Matrix file that ttm-tools omx wrote?")
         own = file.get(group, getclass=True, getlink=False)
         refuse_link(file, group, path)
         if not hasattr(own, "keys"):
-            raise BadInput(path, f"{group} is not a group")
+            raise InputError(path, f"{group} is not a group")
     counts = [length_of(file["lookup"], name, path) for name in ("origin", "destination")]
     limits = limits_of(file, path)
     more = next((name for name in file["access"] if name not in file["data"]), None)
     if more is not None:
-        raise BadInput(path, f"access of {more} belongs to no matrix")
+        raise InputError(path, f"access of {more} belongs to no matrix")
     for name in file["data"]:
         data = own_data(file["data"], name, path)
         if data.shape != tuple(counts) or data.dtype.kind != "f":
-            raise BadInput(path, f"matrix {name} isn't of {counts[0]:,} by {counts[1]:,} numbers, as the lookups are")
+            raise InputError(path, f"matrix {name} isn't of {counts[0]:,} by {counts[1]:,} numbers, as the lookups are")
         if name not in file["access"] or data.attrs.get("scenario") is None:
-            raise BadInput(path, f"matrix {name} names no scenario, or has no access: ttm-tools omx didn't write it")
+            raise InputError(path, f"matrix {name} names no scenario, or has no access: ttm-tools omx didn't write it")
         sums = own_data(file["access"], name, path)
         if sums.shape != (counts[0], len(limits)) or sums.dtype.kind not in "iu":
-            raise BadInput(path, f"access of {name} isn't of {counts[0]:,} by {len(limits)} whole numbers")
+            raise InputError(path, f"access of {name} isn't of {counts[0]:,} by {len(limits)} whole numbers")
 
 
 def limits_of(file: Any, path: str) -> tuple[int | None, ...]:
@@ -45,9 +45,9 @@ def limits_of(file: Any, path: str) -> tuple[int | None, ...]:
         return (None,)
     values = np.asarray(limits)
     if values.ndim != 1 or values.dtype.kind not in "iu" or not 1 <= len(values) <= 8 or (np.diff(values) <= 0).any():
-        raise BadInput(path, "limits aren't 1 to 8 whole numbers, ascending")
+        raise InputError(path, "limits aren't 1 to 8 whole numbers, ascending")
     if not all(int(value) in LIMITS for value in values):
-        raise BadInput(path, "limits aren't seconds")
+        raise InputError(path, "limits aren't seconds")
     return tuple(map(int, values))
 
 
@@ -56,7 +56,7 @@ def refuse_link(group: Any, name: str, path: str) -> None:
     import h5py
 
     if not isinstance(group.get(name, getlink=True), h5py.HardLink):
-        raise BadInput(path, f"{name} is a link out of the file")
+        raise InputError(path, f"{name} is a link out of the file")
 
 
 def own_data(group: Any, name: str, path: str) -> Any:
@@ -64,21 +64,21 @@ def own_data(group: Any, name: str, path: str) -> Any:
     refuse_link(group, name, path)
     found = group[name]
     if not hasattr(found, "shape") or found.shape is None:
-        raise BadInput(path, f"{found.name} is not a matrix")
+        raise InputError(path, f"{found.name} is not a matrix")
     if found.external or found.is_virtual:
-        raise BadInput(path, f"{found.name} is a link out of the file")
+        raise InputError(path, f"{found.name} is a link out of the file")
     return found
 
 
 def length_of(lookups: Any, name: str, path: str) -> int:
     """How many identifiers a list has, each of which fits in memory."""
     if name not in lookups:
-        raise BadInput(path, f"no lookup {name}: is it an Open Matrix file that ttm-tools omx wrote?")
+        raise InputError(path, f"no lookup {name}: is it an Open Matrix file that ttm-tools omx wrote?")
     found = own_data(lookups, name, path)
     if found.ndim != 1 or found.dtype.kind not in "SO" or found.dtype.itemsize > LONGEST_NAME:
-        raise BadInput(path, f"lookup {name} is not a list of identifiers")
+        raise InputError(path, f"lookup {name} is not a list of identifiers")
     if len(found) > MOST_PLACES:
-        raise BadInput(path, f"lookup {name} has {len(found):,} identifiers, and ttm takes {MOST_PLACES:,}")
+        raise InputError(path, f"lookup {name} has {len(found):,} identifiers, and ttm takes {MOST_PLACES:,}")
     return len(found)
 
 
@@ -87,7 +87,7 @@ def refuse_twice(names: list[str], what: str, path: str) -> None:
     seen = set[str]()
     for place, name in enumerate(names, 1):
         if not name or name in seen:
-            raise BadInput(path, f"{what} {place} is {'repeated' if name else 'empty'}", value=name or None)
+            raise InputError(path, f"{what} {place} is {'repeated' if name else 'empty'}", value=name or None)
         seen.add(name)
 
 
@@ -98,5 +98,5 @@ def looked_at(cells: npt.NDArray[np.float32], path: str, name: str) -> npt.NDArr
     if bad.any():
         row, column = np.argwhere(bad)[0]
         message = f"matrix {name} has {cells[row, column]!s}, which is not a travel time"
-        raise BadInput(path, message, allowed=f"whole seconds up to {MOST_SECONDS:,}, or NaN")
+        raise InputError(path, message, allowed=f"whole seconds up to {MOST_SECONDS:,}, or NaN")
     return cells

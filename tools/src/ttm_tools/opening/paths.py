@@ -6,9 +6,9 @@ import stat
 from pathlib import Path
 from typing import Iterator
 
-from ..faults import BadInput, Lacking, WrongWords
-from ..files import is_full
-from ..provenance import note_input
+from ..core.errors import ArgumentError, InputError, MissingDependencyError
+from ..core.files import is_full
+from ..core.provenance import note_input
 
 KINDS = (
     (stat.S_ISFIFO, "a pipe"),
@@ -25,12 +25,12 @@ def regular(path: str | Path) -> os.stat_result:
     try:
         found = os.stat(path)
     except OSError as fault:
-        raise BadInput(path, fault.strerror) from None
+        raise InputError(path, fault.strerror) from None
     except ValueError:
-        raise BadInput(repr(path), "is not a path") from None
+        raise InputError(repr(path), "is not a path") from None
     for is_kind, name in KINDS:
         if is_kind(found.st_mode):
-            raise BadInput(path, f"is not a file but {name}")
+            raise InputError(path, f"is not a file but {name}")
     note_input(found)
     return found
 
@@ -39,14 +39,14 @@ def sized(path: str | Path, most: int, what: str) -> int:
     """The bytes of a file that is read as a whole."""
     size = regular(path).st_size
     if size > most:
-        raise BadInput(path, f"has {size:,} bytes; {what} has at most {most:,}")
+        raise InputError(path, f"has {size:,} bytes; {what} has at most {most:,}")
     return size
 
 
 def inside(folder: Path, file: Path) -> Path:
     """A file of a folder whose bytes are copied: no link leads out of the folder."""
     if not file.resolve().is_relative_to(folder.resolve()):
-        raise BadInput(file, "is a link that leads out of the folder")
+        raise InputError(file, "is a link that leads out of the folder")
     return file
 
 
@@ -55,10 +55,10 @@ def as_one_line(path: str | Path, what: str) -> Iterator[None]:
     """Turns what a library raises of a file into a line that says what couldn't be done, unless a disk is full."""
     try:
         yield
-    except (BadInput, Lacking, WrongWords, MemoryError):
+    except (InputError, MissingDependencyError, ArgumentError, MemoryError):
         raise
     except Exception as fault:
         if isinstance(fault, OSError) and is_full(fault):
             raise
         message = str(fault) or type(fault).__name__
-        raise BadInput(path, f"{what}: {message[:MOST_REPORTED]}") from fault
+        raise InputError(path, f"{what}: {message[:MOST_REPORTED]}") from fault

@@ -7,7 +7,7 @@ from functools import lru_cache
 from pathlib import Path
 from typing import Iterable, Iterator
 
-from ..faults import BadInput
+from ..core.errors import InputError
 from .paths import regular
 
 MOST_LINE = 1 << 20  # bytes
@@ -45,11 +45,11 @@ def look(path: str, inode: int, size: int, changed: int, named: str) -> None:
     length = 0  # of the line that goes on
     with open(path, "rb") as file:
         if file.read(2) in UTF_16:
-            raise BadInput(named, "is UTF-16, and tables are UTF-8: save it as UTF-8")
+            raise InputError(named, "is UTF-16, and tables are UTF-8: save it as UTF-8")
         file.seek(0)
         while block := file.read(MOST_LINE):
             first = min((place for place in (block.find(b"\n"), block.find(b"\r")) if place >= 0), default=-1)
             if length + (first if first >= 0 else len(block)) > MOST_LINE:
-                raise BadInput(named, f"a line of more than {MOST_LINE:,} bytes")
+                raise InputError(named, f"a line of more than {MOST_LINE:,} bytes")
             last = max(block.rfind(b"\n"), block.rfind(b"\r"))
             length = length + len(block) if last < 0 else len(block) - last - 1

@@ -6,8 +6,8 @@ import re
 from dataclasses import dataclass, field
 from typing import Any, Iterable, Iterator, Sequence
 
-from ..faults import BadInput
-from .kinds import NAME, TEXT, TEXTS, Kind, Value, WrongItem, as_written, near
+from ..core.errors import InputError
+from .kinds import Kind, NAME, TEXT, TEXTS, Value, WrongItem, as_written, near
 from .texts import read_toml
 
 TOKENS = re.compile(
@@ -42,16 +42,16 @@ class Entry:
 
     def fault(
         self, what: str, key: str | None = None, value: str | None = None, allowed: str | None = None
-    ) -> BadInput:
+    ) -> InputError:
         """What is wrong with a value, or with the whole table."""
         line = self.lines.line if key is None else self.lines.keys.get(key, self.lines.line)
-        return BadInput(f"{self.path}: line {line}", what, column=key, value=value, allowed=allowed)
+        return InputError(f"{self.path}: line {line}", what, column=key, value=value, allowed=allowed)
 
-    def fault_of_item(self, key: str, wrong: WrongItem) -> BadInput:
+    def fault_of_item(self, key: str, wrong: WrongItem) -> InputError:
         items, lines = self.values[key], self.lines.items.get(key, [])
         line = lines[wrong.number] if wrong.number < len(lines) else self.lines.keys.get(key, self.lines.line)
         what, value = f"{wrong.what} (item {wrong.number + 1} of {len(items)})", as_written(items[wrong.number])
-        return BadInput(f"{self.path}: line {line}", what, column=key, value=value, allowed=wrong.allowed)
+        return InputError(f"{self.path}: line {line}", what, column=key, value=value, allowed=wrong.allowed)
 
     def only(self, keys: Sequence[str]) -> None:
         """Refuses a key that isn't one of these."""
@@ -83,6 +83,8 @@ class Entry:
             return kind.convert(self.inner(key) if kind.of_tables else value)
         except WrongItem as fault:
             raise self.fault_of_item(key, fault) from None
+        except InputError:  # of a table in the list, with its own line
+            raise
         except ValueError:
             what = f"{kind.wrong}{near(str(value), kind.names)}"
             shown, allowed = as_written(value) if kind.is_shown else None, None if kind.names else kind.allowed

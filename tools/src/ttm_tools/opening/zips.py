@@ -8,8 +8,8 @@ from collections.abc import Mapping
 from pathlib import Path
 from typing import Iterable
 
-from ..faults import BadInput
-from ..files import writing_to
+from ..core.errors import InputError
+from ..core.files import writing_to
 from .paths import as_one_line, regular
 
 MOST_UNPACKED = 8_000_000_000  # bytes
@@ -24,7 +24,7 @@ def members_of(path: Path) -> dict[str, int]:
     members: dict[str, int] = {}
     for name, size in found:
         if name in members:
-            raise BadInput(path, f"{name} is in it twice")
+            raise InputError(path, f"{name} is in it twice")
         members[name] = size
     return members
 
@@ -35,10 +35,10 @@ def refuse_size(path: Path, sizes: Iterable[int], room: Path) -> None:
     while not there.exists():
         there = there.parent
     if total > MOST_UNPACKED:
-        raise BadInput(path, f"unpacked it has {total:,} bytes, and a feed at most {MOST_UNPACKED:,}")
+        raise InputError(path, f"unpacked it has {total:,} bytes, and a feed at most {MOST_UNPACKED:,}")
     free = shutil.disk_usage(there).free
     if total > free:
-        raise BadInput(path, f"unpacked it has {total:,} bytes, and {there} has {free:,} free")
+        raise InputError(path, f"unpacked it has {total:,} bytes, and {there} has {free:,} free")
 
 
 def unpack_member(path: Path, member: str, target: Path) -> Path:

@@ -12,20 +12,21 @@ from typing import Container, Sequence
 
 import numpy as np
 
-from ..faults import BadInput
+from ..core.arrays import Narrow, Whole
+from ..core.errors import InputError
+from ..core.text import display_text
 from ..gtfs.call_numbers import CALLS, CallNumbers, CallReader, narrow
 from ..gtfs.calls import begins_of, calls_of
 from ..gtfs.columns import Codes, positions_of, values_of
 from ..gtfs.feeds import Feed, is_stop, read_feed, read_folder, refuse_planned
-from ..gtfs.fields import MOST_STOPS, Narrow, Whole, date, number, time
-from ..gtfs.service_days import MOST_DAYS, Days, days_of, ordinals
+from ..gtfs.fields import MOST_STOPS, date, number, time
+from ..gtfs.service_days import Days, MOST_DAYS, days_of, ordinals
 from ..gtfs.stops import Stops, place_of
+from ..opening.kinds import decimal
+from ..opening.toml_file import Entry
 from ..prepare.check import check
 from ..prepare.likely import unclosed
 from ..prepare.report import refuse
-from ..records import shown
-from ..opening.kinds import decimal
-from ..opening.toml_file import Entry
 
 BLOCK = 1 << 20  # calls that are counted at once
 NO_ROW = -1  # in place of a record: a call that no record of the feed states
@@ -129,7 +130,7 @@ class Base:
         """The routes by the names that people use."""
         table = self.feed.tables["routes.txt"]
         pairs = [zip(table.texts(name), table.texts("route_id")) for name in ("route_long_name", "route_short_name")]
-        return {shown(name): route for some in pairs for name, route in some if name}
+        return {display_text(name): route for some in pairs for name, route in some if name}
 
     @cached_property
     def days(self) -> Days:
@@ -154,7 +155,7 @@ def read_base(folder: str, new_stops: Sequence[Entry]) -> Base:
     """Reads the folder of a feed; one that `ttm` refuses is reported by its first fault."""
     path = Path(folder)
     if not path.is_dir():
-        raise BadInput(folder, "not the folder of a feed (unzip it first)")
+        raise InputError(folder, "not the folder of a feed (unzip it first)")
     refuse_planned(path)
     feed = read_feed(path, path)
     refuse(folder, check(feed), "ttm-tools prepare reports and repairs errors", unclosed(feed))
@@ -201,7 +202,7 @@ def read_places(feed: Feed, new_stops: Sequence[Entry]) -> Stops:
     rows = np.flatnonzero(is_stop(table))
     columns = {name: table.texts(name) for name in ("stop_id", "stop_name", "stop_lat", "stop_lon")}
     stops = [columns["stop_id"][row] for row in rows]
-    names = [shown(columns["stop_name"][row].strip()) for row in rows]
+    names = [display_text(columns["stop_name"][row].strip()) for row in rows]
     where = [place_of(columns["stop_lat"][row], columns["stop_lon"][row]) for row in rows]
     taken = set(columns["stop_id"])
     for entry in new_stops:

@@ -2,7 +2,7 @@
 
 from typing import Sequence
 
-from ..records import shown
+from ..core.text import display_text
 from ..opening.kinds import near, whole
 from ..opening.toml_file import Entry
 from .state import State, Trip
@@ -91,4 +91,4 @@ def stops_named(state: State, entry: Entry, key: str) -> list[int]:
 
 
 def stop_shown(state: State, stop: int) -> str:
-    return shown(state.base.places.identifiers[stop])
+    return display_text(state.base.places.identifiers[stop])

@@ -5,9 +5,10 @@ from typing import Sequence
 
 import numpy as np
 
-from ..gtfs.fields import WEEKDAYS, Mask
-from .base import Base, free
+from ..core.arrays import Mask
+from ..gtfs.fields import WEEKDAYS
 from ..opening.toml_file import Entry
+from .base import Base, free
 
 EVERY = {"daily": WEEKDAYS, "weekdays": WEEKDAYS[:5], "weekend": WEEKDAYS[5:]}
 

@@ -5,8 +5,9 @@ from typing import Iterator, Sequence
 
 import numpy as np
 
-from ..faults import BadInput
-from ..gtfs.fields import MOST_STOP_TIMES, MOST_TRIPS, Whole
+from ..core.arrays import Whole
+from ..core.errors import InputError
+from ..gtfs.fields import MOST_STOP_TIMES, MOST_TRIPS
 from ..gtfs.service_days import runs_of_trips
 from ..prepare.make import MOST_RUNS
 from .base import Base
@@ -24,7 +25,7 @@ def refuse_limits(path: str, base: Base, states: Sequence[State]) -> None:
     for count, most, what in ((trips, MOST_TRIPS, "trips"), (events, MOST_STOP_TIMES, "stop times")):
         if count > most:
             too_many = f"the feed of all scenarios would have {count:,} {what}, and ttm takes {most:,}"
-            raise BadInput(path, f"{too_many}: {FEWER}")
+            raise InputError(path, f"{too_many}: {FEWER}")
 
 
 def by_day(base: Base, states: Sequence[State]) -> Whole:

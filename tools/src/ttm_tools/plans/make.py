@@ -3,14 +3,14 @@
 import shlex
 from pathlib import Path
 
-from ..escaping import as_text
-from ..faults import BadInput
-from ..files import is_free, many_written_aside
+from ..core.errors import InputError
+from ..core.files import atomic_folder, require_empty
+from ..core.text import as_text
+from ..opening.kinds import near
+from ..opening.paths import as_one_line
 from .base import read_base
 from .carrying_out import Finished, carried_out
 from .limits import refuse_limits, sentences_on_days
-from ..opening.kinds import near
-from ..opening.paths import as_one_line
 from .plan_file import PlanFile, read_plan
 from .report import sentences, unused, write_lists
 from .scenario_files import TODAY, write_scenarios
@@ -23,16 +23,16 @@ def make(feed: str, path: str, out: str, only: str | None = None, called: str = 
     """Writes the folder of all scenarios of a plan, or of one. Gives what is reported, and the arguments of a run with
     all, which name the folder as it is called.
     """
-    is_free(Path(out))
+    require_empty(Path(out))
     plan = read_plan(path)
     if only is not None and only not in [scenario.name for scenario in plan.scenarios]:
-        raise BadInput(path, f"no scenario {only}{near(only, [scenario.name for scenario in plan.scenarios])}")
+        raise InputError(path, f"no scenario {only}{near(only, [scenario.name for scenario in plan.scenarios])}")
     base = read_base(feed, plan.stops)
     finished = [carried_out(base, scenario) for scenario in plan.scenarios if only in (None, scenario.name)]
     refuse_limits(path, base, [scenario.state for scenario in finished])
     written = written_of(base, finished, alone=only is not None)
     lines = [*sentences(finished), *([] if only else unused(written)), *sentences_on_days(base, written.states)]
-    with many_written_aside(out) as folder:
+    with atomic_folder(out) as folder:
         write_all(written, folder)
         write_lists(written, folder)
         arguments = write_arguments(written, folder, called or out) if only is None else None

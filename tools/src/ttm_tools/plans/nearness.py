@@ -3,10 +3,10 @@
 import os
 from typing import Iterator
 
-from ..faults import quantity
+from ..core.text import display_text, quantity
 from ..gtfs.nearest import reached_from
 from ..gtfs.stops import read_stops
-from ..records import rows, shown
+from ..records import rows
 
 NEW_STOPS = "new_stops.csv"
 Leaving = dict[int, list[tuple[int, int]]]  # of each stop the stops that one walks to, and the seconds
@@ -27,7 +27,7 @@ def sentences_on_nearer(folder: str, footpaths: str, walk: int = 0) -> Iterator[
     found = nearer(walks, new, walk)
     if found:
         a, b, seconds, before = found[0]
-        ends = f"{shown(stops.identifiers[a])} and {shown(stops.identifiers[b])}"
+        ends = f"{display_text(stops.identifiers[a])} and {display_text(stops.identifiers[b])}"
         without = "out of reach" if before is None else before
         times = f"{seconds} seconds apart by way of them, and {without} without them"
         pairs = f"{quantity(len(found), 'pair')} of old stops nearer to each other, so today differs from the feed"

@@ -10,8 +10,9 @@ from typing import Sequence
 
 import numpy as np
 
+from ..core.arrays import Whole
 from ..gtfs.columns import Column, clocks, coded, column_of
-from ..gtfs.fields import Whole, clock
+from ..gtfs.fields import clock
 from ..gtfs.tables import Table, table_of
 from ..opening.kinds import whole
 from .base import Base, free

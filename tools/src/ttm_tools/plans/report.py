@@ -3,7 +3,7 @@
 from pathlib import Path
 from typing import Iterator, Sequence
 
-from ..faults import some
+from ..core.text import first_few
 from ..records import write_rows
 from .carrying_out import Done, Finished
 from .writing import Written, used_stops
@@ -73,7 +73,7 @@ def sentence_of(done: Done) -> str:
         f"{noun} {done.before[name]:,}" + (f" to {done.after[name]:,}" if done.after[name] != done.before[name] else "")
         for name, noun in COUNTS.items()
     ]
-    begin = f"{done.scenario}: {done.number} {done.what} {some(done.about)}"
+    begin = f"{done.scenario}: {done.number} {done.what} {first_few(done.about)}"
     return f"{begin}: trips {', '.join(kinds)}; {', '.join(counts)}"
 
 

@@ -5,7 +5,7 @@ from typing import Iterator
 
 import numpy as np
 
-from ..faults import BadInput
+from ..core.errors import InputError
 from ..records import write_rows
 from .carrying_out import Finished
 from .new_records import own_routes
@@ -43,10 +43,10 @@ def own_records(state: State) -> Iterator[Record]:
         yield ("shift_trip", base.trips[place], str(int(state.shift[place])))
 
 
-def too_long(mine: Finished | None, count: int) -> BadInput:
+def too_long(mine: Finished | None, count: int) -> InputError:
     """The fault of a scenario whose file is longer than `ttm` takes."""
     if mine is None:
-        return BadInput(f"{TODAY}.csv", f"would have {count:,} records, and ttm takes {MOST_RECORDS:,}")
+        return InputError(f"{TODAY}.csv", f"would have {count:,} records, and ttm takes {MOST_RECORDS:,}")
     what = f"takes a scenario file of {count:,} records, and ttm {MOST_RECORDS:,}: change fewer trips, or whole routes"
     return mine.planned.entry.fault(what, "name", mine.name)
 

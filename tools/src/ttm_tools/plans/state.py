@@ -4,10 +4,11 @@ from dataclasses import dataclass, field, replace
 
 import numpy as np
 
-from ..gtfs.fields import Mask, Whole, clock
-from .base import Base, Headway, free
+from ..core.arrays import Mask, Whole
+from ..gtfs.fields import clock
 from ..opening.kinds import LAST_TIME
 from ..opening.toml_file import Entry
+from .base import Base, Headway, free
 
 LAST_LABEL = 2_000_000  # seconds from which on `ttm` takes no times of a day
 

@@ -10,9 +10,10 @@ from typing import Sequence
 
 import numpy as np
 
-from ..faults import BadInput
+from ..core.arrays import Mask
+from ..core.errors import InputError
 from ..gtfs.columns import one_of
-from ..gtfs.fields import MOST_BYTES, Mask
+from ..gtfs.fields import MOST_BYTES
 from ..gtfs.tables import Table, joined, no_table, read_table, write_lines, write_table
 from ..records import names_of as columns_of, records
 from . import new_records as new
@@ -100,7 +101,9 @@ def write_tables(base: Base, tables: dict[str, Table], gone: set[str] | None, fo
         if len(more) or name in base.feed.tables:
             put_together(old, more, folder / name)
         if (folder / name).exists() and (folder / name).stat().st_size > MOST_BYTES:
-            raise BadInput(name, f"would have more bytes than ttm takes; allowed: {MOST_BYTES:,}: use fewer scenarios")
+            raise InputError(
+                name, f"would have more bytes than ttm takes; allowed: {MOST_BYTES:,}: use fewer scenarios"
+            )
 
 
 def without_trips(table: Table, gone: set[str]) -> Table:

@@ -6,13 +6,13 @@ from typing import Any, BinaryIO, Mapping
 
 import numpy as np
 
-from ..faults import BadInput
-from ..gtfs.fields import Floats
+from ..core.arrays import Floats
+from ..core.errors import InputError
+from ..core.text import display_text
 from ..gtfs.projection import Projection
 from ..gtfs.stops import Area, Stops
 from ..opening.paths import as_one_line
 from ..opening.texts import read_json
-from ..records import shown
 
 AREAS_FILE = "areas.geojson"  # next to a feed's points
 DECIMALS = 7  # of degrees, about a hundredth of a metre
@@ -75,7 +75,7 @@ def areas_beside(points: str) -> dict[str, Area]:
             areas[str(feature["properties"]["id"])] = [[ring_of(ring) for ring in polygon] for polygon in parts]
     for identifier, area in areas.items():
         if not all(is_ring(ring) for polygon in area for ring in polygon):
-            raise BadInput(path, f"the area of {shown(identifier)} has an invalid ring")
+            raise InputError(path, f"the area of {display_text(identifier)} has an invalid ring")
     return areas
 
 

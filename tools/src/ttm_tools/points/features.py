@@ -6,11 +6,12 @@ from typing import Any, Iterator, Sequence
 
 import numpy as np
 
-from ..faults import BadInput, needs, quantity, some
-from ..gtfs.fields import Floats
+from ..core.arrays import Floats
+from ..core.errors import InputError, needs
+from ..core.text import display_text, first_few, quantity, short_number
 from ..opening.paths import as_one_line, sized
 from ..opening.texts import MOST_JSON, read_json
-from ..records import number_of, shown
+from ..records import number_of
 
 AREAS = {".gpkg": b"SQLite format 3", ".geojson": b"{", ".json": b"{"}  # what geopandas reads, and how it begins
 BYTE_ORDER = b"\xef\xbb\xbf"
@@ -29,14 +30,14 @@ def read_features(path: str) -> Any:
 
     Raises
     ------
-    BadInput
+    InputError
         The file is of another kind, can't be read, or names no coordinate reference system.
     """
     if Path(path).suffix.lower() not in AREAS:
-        raise BadInput(path, f"areas are read from {', '.join(AREAS)}")
+        raise InputError(path, f"areas are read from {', '.join(AREAS)}")
     frame = read_frame(path)
     if frame.crs is None:
-        raise BadInput(path, "it names no coordinate reference system")
+        raise InputError(path, "it names no coordinate reference system")
     return frame.to_crs(4326).assign(**{RECORD: range(1, len(frame) + 1)})
 
 
@@ -45,21 +46,21 @@ def checked(path: str, frame: Any, columns: Sequence[str] | None = None) -> tupl
 
     Raises
     ------
-    BadInput
+    InputError
         A record has no shape and a number above 0 in one of the columns, or no columns are given; or a polygon has no
         area.
     """
     missing = (frame.geometry.isna() | frame.geometry.is_empty).to_numpy()
     for place in np.flatnonzero(missing).tolist():
         stated = ((text_of(frame[name].iat[place]), name) for name in columns or ())
-        found = [f"{text} {shown(str(name))}" for text, name in stated if number_of(text or "0") != 0]
+        found = [f"{text} {display_text(str(name))}" for text, name in stated if number_of(text or "0") != 0]
         if found or columns is None:
-            raise BadInput(path, f"no shape{f', and {found[0]}' if found else ''}", record=place + 1)
+            raise InputError(path, f"no shape{f', and {found[0]}' if found else ''}", record=place + 1)
     frame = frame[~missing]
     pairs = list(zip(frame[RECORD].tolist(), frame.geometry))
     shapes = [valid(path, record, shape) for record, shape in pairs]
     repaired = [f"record {record} ({reason(old)})" for (record, old), new in zip(pairs, shapes) if new is not old]
-    sentence = f"{path}: {quantity(len(repaired), 'invalid shape')} repaired: {some(repaired)}"
+    sentence = f"{path}: {quantity(len(repaired), 'invalid shape')} repaired: {first_few(repaired)}"
     return frame.set_geometry(shapes, crs=4326), [sentence] * bool(repaired)
 
 
@@ -82,7 +83,7 @@ def valid(path: str, record: int, shape: Any) -> Any:
         pieces = [piece for part in parts for piece in getattr(part, "geoms", [part]) if piece.geom_type in POLYGONS]
         shape = unary_union(pieces)
     if not shape.area:
-        raise BadInput(path, "a polygon without area", record=record)
+        raise InputError(path, "a polygon without area", record=record)
     return shape
 
 
@@ -94,7 +95,7 @@ def numeric_columns(path: str, frame: Any, others: Sequence[str]) -> tuple[list[
 
     Raises
     ------
-    BadInput
+    InputError
         A text of a column of numbers is no number.
     """
     columns, sentences = list[str](), list[str]()
@@ -114,11 +115,11 @@ def numeric_columns(path: str, frame: Any, others: Sequence[str]) -> tuple[list[
             if wrong and (name in mixed or share >= MOSTLY):
                 place, text = wrong[0]
                 allowed = f"{NUMBER[2]}, or nothing"
-                raise BadInput(path, "is invalid", record=place + 1, column=name, value=text, allowed=allowed)
+                raise InputError(path, "is invalid", record=place + 1, column=name, value=text, allowed=allowed)
             if name in mixed:
                 columns.append(name)
             elif share >= MOSTLY:
-                sentences.append(f"{path}: the column {shown(name)} is text, so its numbers are not summed")
+                sentences.append(f"{path}: the column {display_text(name)} is text, so its numbers are not summed")
     return columns, sentences
 
 
@@ -140,7 +141,7 @@ def numbers_of(path: str, frame: Any, names: Sequence[str]) -> Floats:
 
     Raises
     ------
-    BadInput
+    InputError
         A number is negative or infinite.
     """
     numbers: Floats = np.zeros((len(frame), len(names)))
@@ -152,7 +153,7 @@ def numbers_of(path: str, frame: Any, names: Sequence[str]) -> Floats:
         row, column = bad[0].tolist()
         record, name = int(frame[RECORD].iat[row]), names[column]
         value = text_of(frame[name].iat[row])
-        raise BadInput(path, "is invalid", record=record, column=name, value=value, allowed=NUMBER[2])
+        raise InputError(path, "is invalid", record=record, column=name, value=value, allowed=NUMBER[2])
     return numbers
 
 
@@ -167,7 +168,7 @@ def read_frame(path: str) -> Any:
         with open(path, "rb") as file:
             begins_right = file.read(len(BYTE_ORDER) + 64).removeprefix(BYTE_ORDER).lstrip().startswith(kind)
         if not begins_right:  # no other kind of file is opened, since some lead to further ones
-            raise BadInput(path, "not read: it isn't what its name says")
+            raise InputError(path, "not read: it isn't what its name says")
         return geopandas.read_file(path, rows=MOST_POINTS + 1)
 
 
@@ -178,12 +179,5 @@ def text_of(value: Any) -> str:
     if isinstance(value, (bool, np.bool_)):
         return str(int(value))
     if isinstance(value, (float, np.floating)):
-        return plain(float(value))
+        return short_number(float(value))
     return str(value)
-
-
-def plain(number: float) -> str:
-    """A number without needless decimals; nothing for NaN."""
-    if math.isnan(number):
-        return ""
-    return str(int(number)) if math.isfinite(number) and number == int(number) else repr(number)

@@ -11,12 +11,12 @@ from typing import Any, Sequence
 import numpy as np
 import numpy.typing as npt
 
-from ..faults import BadInput, needs
-from ..gtfs.fields import Floats
+from ..core.arrays import Floats
+from ..core.errors import InputError, needs
+from ..core.text import display_text, short_number
 from ..gtfs.projection import Projection
 from ..gtfs.stops import Stops
-from ..records import shown
-from .features import AREAS, POLYGONS, RECORD, checked, numeric_columns, numbers_of, plain, read_features
+from .features import AREAS, POLYGONS, RECORD, checked, numbers_of, numeric_columns, read_features
 from .table import Points, read_points
 
 MOST_CELLS = 65_535  # stops and points that `ttm` takes
@@ -71,7 +71,7 @@ def grid_near(stops: Stops, side: float, metres: float) -> Grid:
     """The cells whose middle is within a distance in metres of a stop at which vehicles call."""
     called = stops.placed & (stops.kinds == 0)
     if not called.any():
-        raise BadInput(stops.path, "no stop has stop_lat and stop_lon, so there is no place for a grid")
+        raise InputError(stops.path, "no stop has stop_lat and stop_lon, so there is no place for a grid")
     projection = Projection(stops.latitudes[called], stops.longitudes[called])
     east, north = projection.kilometres(stops.longitudes[called], stops.latitudes[called])
     side, reach = side / 1000, metres / 1000
@@ -98,7 +98,7 @@ def grid_over(path: str, side: float) -> Grid:
     frame, notes = checked(path, read_features(path))
     shapes = [shape for shape in frame.geometry if shape.geom_type in POLYGONS]
     if not shapes:
-        raise BadInput(path, "no polygon")
+        raise InputError(path, "no polygon")
     bounds = np.array([shape.bounds for shape in shapes])
     projection = Projection(bounds[:, [1, 3]].ravel(), bounds[:, [0, 2]].ravel())
     area = unary_union([transform(projection.kilometres, shape) for shape in shapes])
@@ -129,18 +129,18 @@ def whole(grid: Grid) -> Grid:
     """The same grid, if it has some cells and not too many."""
     refuse_cells(len(grid.squares))
     if not len(grid.squares):
-        raise BadInput(PATH, f"no cell of {1000 * grid.side:g} metres is within a walk of a stop: use smaller cells")
+        raise InputError(PATH, f"no cell of {1000 * grid.side:g} metres is within a walk of a stop: use smaller cells")
     return grid
 
 
 def refuse_tried(count: float) -> None:
     if count > MOST_TRIED:
-        raise BadInput(PATH, f"{count:,.0f} cells are too many: use larger cells, or a smaller area")
+        raise InputError(PATH, f"{count:,.0f} cells are too many: use larger cells, or a smaller area")
 
 
 def refuse_cells(count: int) -> None:
     if count > MOST_CELLS:
-        raise BadInput(PATH, f"more than {MOST_CELLS:,} cells, which is more than ttm takes: use larger cells")
+        raise InputError(PATH, f"more than {MOST_CELLS:,} cells, which is more than ttm takes: use larger cells")
 
 
 def filled(grid: Grid, paths: Sequence[str]) -> FilledCells:
@@ -156,7 +156,7 @@ def filled(grid: Grid, paths: Sequence[str]) -> FilledCells:
             names, numbers, totals = from_points(grid, path)
         twice = next((name for name in names if name in columns), None)
         if twice is not None:
-            raise BadInput(path, f"a column {shown(twice)} is in another file too")
+            raise InputError(path, f"a column {display_text(twice)} is in another file too")
         columns += names
         found.append(numbers)
         lost = totals - numbers.sum(axis=0)
@@ -169,7 +169,8 @@ def filled(grid: Grid, paths: Sequence[str]) -> FilledCells:
 def sentences_on_outside(path: str, names: Sequence[str], lost: Floats, totals: Floats) -> list[str]:
     """How much of each column lies in no cell."""
     return [
-        f"{path}: {plain(round(outside, 3))} of {plain(round(total, 3))} {shown(name)} are {OUTSIDE}"
+        f"{path}: {short_number(round(outside, 3))} of {short_number(round(total, 3))} {display_text(name)} "
+        f"are {OUTSIDE}"
         for name, outside, total in zip(names, lost.tolist(), totals.tolist())
         if outside
     ]
@@ -232,4 +233,4 @@ def shares_of(grid: Grid, places: dict[tuple[int, int], int], shape: Any) -> lis
 
 def refuse_none(path: str, names: Sequence[str]) -> None:
     if not names:
-        raise BadInput(path, "no column of numbers")
+        raise InputError(path, "no column of numbers")

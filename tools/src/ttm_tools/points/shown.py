@@ -5,7 +5,7 @@ from dataclasses import replace
 
 import numpy as np
 
-from ..faults import BadInput
+from ..core.errors import InputError
 from ..gtfs.stops import Stops, read_stops
 from ..matrices import Matrix
 from ..matrices.chosen import Chosen
@@ -20,7 +20,7 @@ def points_in(feed: str | None) -> str | None:
     return path if os.path.isfile(path) else None
 
 
-def shown_of(matrix: Matrix, feed: str | None, points: str | None) -> tuple[Matrix, Stops | None]:
+def select_points(matrix: Matrix, feed: str | None, points: str | None) -> tuple[Matrix, Stops | None]:
     """What is shown, and names and places for it: of points where a file of them is named, or lies in the feed's
     folder. Without a feed nothing but points has a place.
     """
@@ -32,7 +32,7 @@ def shown_of(matrix: Matrix, feed: str | None, points: str | None) -> tuple[Matr
         found = replace(found, areas=areas_beside(path))
     chosen = Chosen(matrix, found.identifiers)
     if points is not None and not chosen.is_any:
-        raise BadInput(matrix.path, f"it has no point of {points}")
+        raise InputError(matrix.path, f"it has no point of {points}")
     return chosen, with_points(stops, found) if stops is not None else found.as_stops()
 
 

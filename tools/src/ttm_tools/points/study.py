@@ -13,17 +13,17 @@ from typing import Callable, Iterable, Iterator, Sequence
 import numpy as np
 import numpy.typing as npt
 
-from ..faults import BadInput, quantity, some
-from ..files import copy_file, is_free, many_written_aside
+from ..core.errors import InputError
+from ..core.filenames import file_names
+from ..core.files import atomic_folder, copy_file, require_empty
+from ..core.text import display_text, first_few, quantity, short_number
 from ..gtfs.stops import Stops, read_stops
-from ..naming import file_names
 from ..opening.paths import inside
 from ..parts import write_stops
-from ..records import Rounded, places_of, records, shown, write_rows
+from ..records import Rounded, places_of, records, write_rows
 from ..walks import Walks, summary as walks_summary
 from ..walks.counting import TooManyWalks
 from .areas import AREAS_FILE, write_areas
-from .features import plain
 from .table import Points
 
 MOST_STOPS, MOST_PAIRS = 65_535, 4_000_000  # that `ttm` takes
@@ -36,7 +36,7 @@ WalkFinder = Callable[[Stops, int | None], Walks]  # of the first stops with all
 Flags = npt.NDArray[np.bool_]
 
 
-class TooManyPlaces(BadInput):
+class TooManyPlaces(InputError):
     """More stops and points than `ttm` takes."""
 
 
@@ -69,7 +69,7 @@ class PointStudy:
 
 def make(options: PointsOptions, walker: WalkFinder) -> list[str]:
     """Writes the folder, and says what was done, a sentence a line."""
-    is_free(Path(options.out))
+    require_empty(Path(options.out))
     stops = read_stops(options.feed)
     prefixes = prefixes_of(options.files, stops)
     study = study_of(options.files, prefixes)
@@ -89,7 +89,7 @@ def make(options: PointsOptions, walker: WalkFinder) -> list[str]:
         what = f"{len(walks.seconds):,} walks are more than the {MOST_PAIRS:,} that ttm takes"
         raise TooManyWalks(study.points.path, f"{what}: use a shorter --limit, or fewer points; {helps}")
     rounded = Rounded()
-    with many_written_aside(options.out) as folder:
+    with atomic_folder(options.out) as folder:
         write_feed(folder / FEED, options.feed, study.points)
         write_files(folder, options, study, walks, rounded)
     count = f"{quantity(len(study.points.identifiers), 'point')}, {quantity(len(walks.seconds), 'footpath')}"
@@ -153,10 +153,12 @@ def sentences_on(options: PointsOptions, prefixes: Sequence[str], study: PointSt
     """The files whose identifiers have a prefix, and the points from which no stop is in reach."""
     for points, prefix in zip(options.files, prefixes):
         if prefix:
-            yield f"{points.path}: identifiers begin with {shown(prefix)} in the feed, since one of them already exists"
-    lost = [shown(study.points.identifiers[place]) for place in np.flatnonzero(~near).tolist()]
+            prefixed = f"identifiers begin with {display_text(prefix)} in the feed"
+            yield f"{points.path}: {prefixed}, since one of them already exists"
+    lost = [display_text(study.points.identifiers[place]) for place in np.flatnonzero(~near).tolist()]
     if lost:
-        yield f"{quantity(len(lost), 'point')} {UNREACHED}{', left out' if options.leaves_out else ''}: {some(lost)}"
+        left_out = ", left out" if options.leaves_out else ""
+        yield f"{quantity(len(lost), 'point')} {UNREACHED}{left_out}: {first_few(lost)}"
 
 
 def write_feed(folder: Path, feed: str, points: Points) -> None:
@@ -208,7 +210,7 @@ def lines_of(points: Points) -> Iterator[tuple[str, str, str, str]]:
 def point_lines(points: Points) -> Iterator[list[str]]:
     sides = points.as_stops().sides()[:, : 2 if has_heights(points) else 1]
     for line, own, more in zip(lines_of(points), sides.tolist(), points.numbers.tolist()):
-        yield [*line, *map(plain, own), *map(plain, more)]
+        yield [*line, *map(short_number, own), *map(short_number, more)]
 
 
 def has_heights(points: Points) -> bool:
@@ -249,7 +251,7 @@ def sentences_on_rounded(points: Points) -> Iterator[str]:
     for column, numbers in zip(points.columns, points.numbers.T):
         before, after = float(numbers.sum()), float(np.floor(numbers + 0.5).sum())
         if abs(after - before) > 1e-6:
-            change = f"{plain(after)} {shown(column)} instead of {plain(round(before, 6))}"
+            change = f"{short_number(after)} {display_text(column)} instead of {short_number(round(before, 6))}"
             yield f"rounded, ttm counts {change}: use ttm-tools access, which counts decimals"
 
 

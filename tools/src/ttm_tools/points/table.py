@@ -9,10 +9,11 @@ from typing import Iterable, Mapping, Sequence
 import numpy as np
 import numpy.typing as npt
 
-from ..faults import BadInput
-from ..gtfs.fields import Floats
+from ..core.arrays import Floats
+from ..core.errors import InputError
+from ..core.text import display_text
 from ..gtfs.stops import Area, Stops
-from ..records import number_of, places_of, records, refuse_alike, rows, shown
+from ..records import number_of, places_of, records, refuse_alike, rows
 from .areas import KINDS, area_of
 from .features import AREAS, MOST_POINTS, NUMBER, Range, numeric_columns, read_frame, text_of, valid
 
@@ -72,16 +73,16 @@ class Taken:
 
     def identifier(self, text: str, record: int) -> str:
         if not text:
-            raise BadInput(self.path, "is empty", record=record, column="id")
+            raise InputError(self.path, "is empty", record=record, column="id")
         if text in self.seen:
-            raise BadInput(self.path, f"{shown(text)} occurs twice", record=record)
+            raise InputError(self.path, f"{display_text(text)} occurs twice", record=record)
         self.seen.add(text)
         return text
 
     def place(self, latitude: str, longitude: str, record: int) -> tuple[float, float]:
         degrees = self.number(latitude, record, "lat", LATITUDE), self.number(longitude, record, "lon", LONGITUDE)
         if not any(degrees):
-            raise BadInput(self.path, "lat and lon are 0 and 0, which is not a place", record=record)
+            raise InputError(self.path, "lat and lon are 0 and 0, which is not a place", record=record)
         return degrees
 
     def side(self, text: str, record: int, column: str) -> float:
@@ -90,13 +91,13 @@ class Taken:
     def number(self, text: str, record: int, column: str, allowed: Range = NUMBER) -> float:
         number, (least, most, said) = number_of(text.strip()), allowed
         if not least <= number <= most:
-            raise BadInput(self.path, "is invalid", record=record, column=column, value=text, allowed=said)
+            raise InputError(self.path, "is invalid", record=record, column=column, value=text, allowed=said)
         return number
 
     def take(self, identifier: str, name: str, place: Iterable[float], numbers: Iterable[float]) -> None:
         """Takes a point with its latitude, longitude, width and height."""
         if len(self.identifiers) >= MOST_POINTS:
-            raise BadInput(self.path, f"more than {MOST_POINTS:,} points: use parts of the region")
+            raise InputError(self.path, f"more than {MOST_POINTS:,} points: use parts of the region")
         self.identifiers.append(identifier)
         self.names.append(identifier if name == identifier else name)
         self.places.extend(place)
@@ -112,7 +113,7 @@ def read_points(path: str, called: Columns = Columns()) -> Points:
     """The points of a table, or of a GeoPackage or a GeoJSON file."""
     found = read_areas(path, called) if Path(path).suffix.lower() in AREAS else read_table(path, called)
     if not found.identifiers:
-        raise BadInput(path, "no points")
+        raise InputError(path, "no points")
     return found
 
 
@@ -121,7 +122,7 @@ def number_columns(path: str, columns: Sequence[str]) -> list[str]:
     found = set[str]()
     for count, (_, fields) in enumerate(rows(path, columns)):
         if count >= MOST_POINTS:
-            raise BadInput(path, f"more than {MOST_POINTS:,} points: use parts of the region")
+            raise InputError(path, f"more than {MOST_POINTS:,} points: use parts of the region")
         for name, text in zip(columns, fields):
             if name not in found and not math.isnan(number_of(text.strip())):
                 found.add(name)
@@ -142,9 +143,9 @@ def read_table(path: str, called: Columns) -> Points:
         sides = [taken.side(text, record, column) for text, column in zip(fields, WANTED[1:])]
         place = (*taken.place(latitude, longitude, record), *sides)
         numbers = (taken.number(numbers_stated[column], record, column) for column in columns)
-        taken.take(identifier, shown(name.strip() or own), place, numbers)
+        taken.take(identifier, display_text(name.strip() or own), place, numbers)
         for column, texts in labels.items():
-            texts.append(shown(numbers_stated[column]))
+            texts.append(display_text(numbers_stated[column]))
     return replace(taken.points(), labels=labels)
 
 
@@ -153,15 +154,15 @@ def read_areas(path: str, called: Columns) -> Points:
     frame = read_frame(path)
     twice = next((name for name in frame.columns if list(frame.columns).count(name) > 1), None)
     if twice is not None:
-        raise BadInput(path, f"two columns {shown(str(twice))}")
+        raise InputError(path, f"two columns {display_text(str(twice))}")
     if called.identifier not in frame.columns:
-        raise BadInput(path, f"no column {called.identifier}")
+        raise InputError(path, f"no column {called.identifier}")
     frame = frame.rename(columns={called.identifier: "id"})
     if frame.crs is None:
-        raise BadInput(path, "it names no coordinate reference system")
+        raise InputError(path, "it names no coordinate reference system")
     empty = np.flatnonzero((frame.geometry.isna() | frame.geometry.is_empty).to_numpy())
     if len(empty):
-        raise BadInput(path, "no area", record=int(empty[0]) + 1)
+        raise InputError(path, "no area", record=int(empty[0]) + 1)
     frame = frame.set_geometry([valid(path, place + 1, shape) for place, shape in enumerate(frame.geometry)])
     inside = frame.geometry.representative_point().to_crs(4326)
     others = [name for name in frame.columns if frame[name].dtype.kind in "iufbO" and name not in (*NEEDED, *WANTED)]

@@ -8,11 +8,12 @@ from typing import Callable, Iterable, Iterator, Sequence
 
 import numpy as np
 
+from ..core.arrays import Mask, Whole
 from ..gtfs import fields
 from ..gtfs.calls import calls_of
 from ..gtfs.columns import empty, one_of, positions_of, repeated, repeated_pairs, values_of
-from ..gtfs.feeds import OPTIONAL, Feed, is_stop, names_in, stops_of, used_transfers
-from ..gtfs.fields import FILES, WEEKDAYS, Mask, Whole, date, number, time
+from ..gtfs.feeds import Feed, OPTIONAL, is_stop, names_in, stops_of, used_transfers
+from ..gtfs.fields import FILES, WEEKDAYS, date, number, time
 from ..gtfs.tables import Table, no_table
 from .likely import renamed_columns
 

@@ -12,17 +12,18 @@ from typing import Any, Iterator, Sequence
 
 import numpy as np
 
-from ..faults import BadInput, needs
-from ..opening.paths import as_one_line
-from ..opening.texts import read_json
-from ..gtfs import fields
+from ..core.arrays import Floats, Mask, Whole
+from ..core.errors import InputError, needs
+from ..core.text import display_text
 from ..gtfs.calls import Calls, calls_of
 from ..gtfs.columns import begins_run, distinct, one_of, positions_of, values_of
 from ..gtfs.feeds import Feed, names_in, parents_of
-from ..gtfs.fields import FILES, Mask, clock, number, time
+from ..gtfs.fields import FILES, clock, number, time
 from ..gtfs.service_days import on_days
 from ..gtfs.tables import Table
-from ..records import rows, shown
+from ..opening.paths import as_one_line
+from ..opening.texts import read_json
+from ..records import rows
 from .likely import places_of
 from .references import leave_out_references, there
 
@@ -57,7 +58,7 @@ def clip(feed: Feed, options: Clip) -> list[str]:
     if options.is_region:
         kept = of_region(feed.tables["stops.txt"], options)
         if not kept.any():
-            raise BadInput(options.area or "--box", "no stop of the feed lies in it")
+            raise InputError(options.area or "--box", "no stop of the feed lies in it")
         keep_calls(feed, kept)
         feed.tables["stops.txt"].keep(kept)
     keep_trips(feed)
@@ -81,7 +82,7 @@ def of_routes(feed: Feed, options: Clip) -> Mask:
     for name, wanted, known in (("route", options.routes, kept), ("agency", options.agencies, agencies)):
         lost = [name for name in wanted if name not in set(known)]
         if lost:
-            raise BadInput("routes.txt", f"no {name} {shown(lost[0])}")
+            raise InputError("routes.txt", f"no {name} {display_text(lost[0])}")
     among, of = set(options.routes or kept), set(options.agencies or agencies)
     chosen = [route for route, agency in zip(kept, agencies) if route in among and agency in of]
     return one_of(trips["route_id"], chosen)
@@ -115,21 +116,21 @@ def of_region(stops: Table, options: Clip) -> Mask:
     return with_parts(kept, kinds, parents)
 
 
-def named_by(children: Mask, parents: fields.Whole) -> Mask:
+def named_by(children: Mask, parents: Whole) -> Mask:
     """Which locations some others name as their parents."""
     named = np.zeros(len(parents) + 1, dtype=np.bool_)
     named[parents[children]] = True
     return named[:-1]
 
 
-def with_parts(kept: Mask, kinds: fields.Whole, parents: fields.Whole) -> Mask:
+def with_parts(kept: Mask, kinds: Whole, parents: Whole) -> Mask:
     """Some locations with what belongs to them: an entrance of a station, a boarding area of a platform."""
     for _ in range(2):
         kept = np.asarray(kept | (kinds > 1) & (parents >= 0) & kept[parents], dtype=np.bool_)
     return kept
 
 
-def within(latitudes: fields.Floats, longitudes: fields.Floats, options: Clip) -> fields.Whole:
+def within(latitudes: Floats, longitudes: Floats, options: Clip) -> Whole:
     """Which places lie in the box and the area, their edges too."""
     found = np.flatnonzero(~np.isnan(latitudes))
     if options.box is not None:
@@ -142,7 +143,7 @@ def within(latitudes: fields.Floats, longitudes: fields.Floats, options: Clip) -
     return found
 
 
-def in_area(x: fields.Floats, y: fields.Floats, path: str) -> Mask:
+def in_area(x: Floats, y: Floats, path: str) -> Mask:
     """Which places lie in the polygons of a GeoJSON file."""
     needs("shapely")
     from shapely.geometry import Point, shape
@@ -154,9 +155,9 @@ def in_area(x: fields.Floats, y: fields.Floats, path: str) -> Mask:
             polygon = shape(geometry)
             west, south, east, north = polygon.bounds
         except Exception as fault:  # whatever shapely says of an invalid polygon
-            raise BadInput(path, f"an invalid polygon: {fault}") from None
+            raise InputError(path, f"an invalid polygon: {fault}") from None
         if not (-180 <= west and east <= 180 and -90 <= south and north <= 90):
-            raise BadInput(path, "coordinates that are not degrees", allowed="longitude and latitude, WGS 84")
+            raise InputError(path, "coordinates that are not degrees", allowed="longitude and latitude, WGS 84")
         near = np.flatnonzero((x >= west) & (x <= east) & (y >= south) & (y <= north))
         ready = prep(polygon)
         inside[near] |= np.array([ready.intersects(Point(x[place], y[place])) for place in near], dtype=np.bool_)
@@ -168,7 +169,7 @@ def polygons_of(path: str) -> list[dict[str, Any]]:
     with as_one_line(path, "is not GeoJSON"):
         polygons = list(geometries(read))
     if not polygons:
-        raise BadInput(path, "no polygon in it", allowed="a GeoJSON Polygon or MultiPolygon, or features of these")
+        raise InputError(path, "no polygon in it", allowed="a GeoJSON Polygon or MultiPolygon, or features of these")
     return polygons
 
 
@@ -228,7 +229,7 @@ def shift_headways(feed: Feed, calls: Calls, stays: Mask, order: Sequence[str]) 
         late = changed[times >= 168 * 3600]
         if len(late):
             record = int(table.records[late[0]])
-            raise BadInput("frequencies.txt", "is past 167:59:59 once calls go", record=record, column=name)
+            raise InputError("frequencies.txt", "is past 167:59:59 once calls go", record=record, column=name)
         table.put(name, changed, [clock(int(time)) for time in times])
 
 

@@ -7,13 +7,13 @@ from typing import Callable, Sequence
 
 import numpy as np
 
+from ..core.text import display_text
 from ..gtfs import fields
 from ..gtfs.columns import used, values_of
 from ..gtfs.feeds import Feed, stops_of
-from ..gtfs.fields import FILES, WEEKDAYS, Layout, clock, date, number, time
+from ..gtfs.fields import FILES, Layout, WEEKDAYS, clock, date, number, time
 from ..gtfs.identifiers import KINDS, kind_of
 from ..gtfs.tables import Table
-from ..records import shown
 from .likely import COMMA, PLACES, renamed_columns
 from .repair import Repair
 from .report import Repaired
@@ -99,7 +99,7 @@ def mend_texts(repair: Repair, table: Table) -> None:
     """Rule `text`: what isn't UTF-8, but for identifiers, which are bytes, is read as Windows-1252."""
     for name in table.columns:
         if not name.endswith("_id") and name != "parent_station":
-            right = {text: shown(text) for text in table[name].categories if shown(text) != text}
+            right = {text: display_text(text) for text in table[name].categories if display_text(text) != text}
             repair.put_for(table, name, "text", right)
 
 

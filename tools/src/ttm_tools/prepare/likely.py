@@ -7,17 +7,16 @@ from typing import Iterator
 
 import numpy as np
 
-from ..faults import quantity
-from ..gtfs import fields
+from ..core.arrays import Floats
+from ..core.text import display_text, quantity
 from ..gtfs.calls import Calls, calls_of
 from ..gtfs.columns import distinct, one_of, positions_of
 from ..gtfs.feeds import Feed, is_stop, stops_of, used_transfers
 from ..gtfs.fields import FILES
-from ..gtfs.service_days import days_of, runs_by_day
 from ..gtfs.projection import metres_between, middle_of
+from ..gtfs.service_days import days_of, runs_by_day
 from ..gtfs.stops import EARTH, place_of
 from ..gtfs.tables import Table
-from ..records import shown
 
 COMMA = re.compile(r"[+-]?[0-9]+,[0-9]+")
 FASTEST = 300  # km/h
@@ -89,7 +88,7 @@ def plain(name: str) -> str:
     return "".join(letter for letter in name.lower() if letter.isalnum())
 
 
-def places_of(table: Table) -> tuple[fields.Floats, fields.Floats]:
+def places_of(table: Table) -> tuple[Floats, Floats]:
     """Latitudes and longitudes of all locations, NaN where one has no place."""
     places = np.array(list(map(place_of, table.texts("stop_lat"), table.texts("stop_lon"))), np.float64).reshape(-1, 2)
     return places[:, 0], places[:, 1]
@@ -98,7 +97,7 @@ def places_of(table: Table) -> tuple[fields.Floats, fields.Floats]:
 def unplaced(table: Table) -> Iterator[str]:
     lost = np.flatnonzero(np.isnan(places_of(table)[0]) & is_stop(table))
     if len(lost):
-        first = shown(table.text("stop_id", int(lost[0])))
+        first = display_text(table.text("stop_id", int(lost[0])))
         yield f"stops.txt: {quantity(len(lost), 'stop')} without coordinates, or at 0 and 0, such as {first}"
 
 
@@ -108,7 +107,8 @@ def with_commas(table: Table) -> Iterator[str]:
     wrong = [text for column in columns for text in column.categories if COMMA.fullmatch(text.strip())]
     if wrong:
         count = int((one_of(columns[0], wrong) | one_of(columns[1], wrong)).sum())
-        yield f"stops.txt: {quantity(count, 'stop')} with a decimal comma in a coordinate, such as {shown(wrong[0])}"
+        stops, example = quantity(count, "stop"), display_text(wrong[0])
+        yield f"stops.txt: {stops} with a decimal comma in a coordinate, such as {example}"
 
 
 def far_off(table: Table) -> Iterator[str]:
@@ -124,7 +124,7 @@ def far_off(table: Table) -> Iterator[str]:
     far = np.flatnonzero(distances > limit)
     if len(far):
         most = far[np.argmax(distances[far])]
-        which = f"the farthest, {shown(table.text('stop_id', int(placed[most])))}, {distances[most]:,.0f} km"
+        which = f"the farthest, {display_text(table.text('stop_id', int(placed[most])))}, {distances[most]:,.0f} km"
         yield f"stops.txt: {quantity(len(far), 'stop')} over {limit:,.0f} km from the middle of all stops; {which}"
 
 
@@ -134,7 +134,8 @@ def formulas(table: Table) -> Iterator[str]:
     wrong = [text for text in column.categories if text[:1] in tuple("=+-@")]
     count = int(one_of(column, wrong).sum())
     if count:
-        yield f"stops.txt: {quantity(count, 'name')} that a spreadsheet reads as a formula, such as {shown(wrong[0])}"
+        names, example = quantity(count, "name"), display_text(wrong[0])
+        yield f"stops.txt: {names} that a spreadsheet reads as a formula, such as {example}"
 
 
 def of_days(feed: Feed) -> Iterator[str]:

@@ -7,7 +7,8 @@ from typing import Iterator, Mapping, Sequence
 
 import numpy as np
 
-from ..faults import BadInput, quantity
+from ..core.errors import InputError
+from ..core.text import quantity
 from ..gtfs.feeds import Feed
 from ..gtfs.fields import FILES
 from ..gtfs.service_days import days_of, on_days, runs_by_day, runs_of_trips
@@ -88,11 +89,11 @@ def refuse_losses(path: str, before: Mapping[str, int], changes: Sequence[Repair
     """Ends a repair that takes a lot of a feed, or leaves nothing that runs."""
     sentences = [*losses(before, changes, feed), *filter(None, [no_runs(feed)])]
     if sentences:
-        raise BadInput(path, f"{'; '.join(sentences)} ({hints.loss})")
+        raise InputError(path, f"{'; '.join(sentences)} ({hints.loss})")
 
 
 def refuse_day(path: str, feed: Feed, day: datetime.date | None, hints: Hints) -> None:
     """Ends where no trip runs on the day of the departures."""
     sentence = no_runs(feed, day) if day is not None else None
     if sentence:
-        raise BadInput(path, f"{sentence} ({hints.day})")
+        raise InputError(path, f"{sentence} ({hints.day})")

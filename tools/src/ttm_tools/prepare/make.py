@@ -8,9 +8,10 @@ from typing import Iterator, Sequence
 
 import numpy as np
 
-from ..column_list import REPAIRS, names_of
-from ..faults import BadInput, quantity
-from ..files import is_free, many_written_aside
+from ..core.columns import REPAIRS, names_of
+from ..core.errors import InputError
+from ..core.files import atomic_folder, require_empty
+from ..core.text import quantity
 from ..gtfs import fields
 from ..gtfs.columns import positions_of
 from ..gtfs.feeds import Feed, names_in, read_feed, refuse_planned, write_feed
@@ -48,7 +49,7 @@ class PrepareOptions:
 
 def make(options: PrepareOptions, room: Path) -> list[str]:
     """Writes the folder, and says what was done, a sentence a line."""
-    is_free(Path(options.out))
+    require_empty(Path(options.out))
     changes, lines, feeds = list[Repaired](), list[str](), list[Feed]()
     for number, path in enumerate(options.paths):
         if not options.takes_planned:
@@ -73,11 +74,11 @@ def make(options: PrepareOptions, room: Path) -> list[str]:
         lines += clip(feed, options.clip)
         empty = None if options.allows_loss or options.day is None else no_runs(feed, options.day)
         if empty:  # no trip of what was clipped runs on the day of the departures
-            raise BadInput(options.out, f"no service is left: {empty} ({options.hints.empty})")
+            raise InputError(options.out, f"no service is left: {empty} ({options.hints.empty})")
     if without_runs and not options.allows_loss:
-        raise BadInput(which, f"{without_runs} ({options.hints.loss})")
+        raise InputError(which, f"{without_runs} ({options.hints.loss})")
     refuse_limits(feed)
-    with many_written_aside(options.out) as folder:
+    with atomic_folder(options.out) as folder:
         write_feed(feed, folder)
         with open(folder / PREPARED, "wb") as file:
             write_rows(file, names_of(REPAIRS), [change.row() for change in changes])
@@ -92,7 +93,7 @@ def refuse_limits(feed: Feed) -> None:
     for fault in check(feed):
         name = fault.table.name
         less = "use --box, --area, --routes or --agency" + (", or --date" if name in OF_DAYS else "")
-        raise BadInput(name, f"{len(feed.tables[name]):,} records; ttm takes {fault.allowed}; {less}")
+        raise InputError(name, f"{len(feed.tables[name]):,} records; ttm takes {fault.allowed}; {less}")
 
 
 def mended_lines(changes: Sequence[Repaired]) -> list[str]:

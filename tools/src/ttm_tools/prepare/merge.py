@@ -5,12 +5,12 @@ from typing import Sequence
 
 import numpy as np
 
-from ..faults import BadInput, quantity
+from ..core.errors import InputError
+from ..core.text import display_text, quantity
 from ..gtfs.feeds import Feed
 from ..gtfs.fields import FILES, date
 from ..gtfs.identifiers import KINDS, identifiers, rename
 from ..gtfs.tables import Table, joined, read_table, table_of
-from ..records import shown
 
 ALSO = (  # in addition to what `ttm` reads, files that are merged; all others are left out, and reported
     *("agency.txt", "shapes.txt", "fare_attributes.txt", "fare_rules.txt", "pathways.txt", "levels.txt"),
@@ -55,8 +55,8 @@ def refuse_clocks(feeds: Sequence[Feed], same_clock: bool) -> None:
     for feed in feeds:
         zones |= {text.strip(): feed.name for text in feed.get("agency.txt").texts("agency_timezone") if text.strip()}
     if len(zones) > 1 and not same_clock:
-        zones_stated = ", ".join(f"{shown(zone)} ({name})" for zone, name in zones.items())
-        raise BadInput("agency.txt", f"the feeds have several time zones, {zones_stated}: {HELP}")
+        zones_stated = ", ".join(f"{display_text(zone)} ({name})" for zone, name in zones.items())
+        raise InputError("agency.txt", f"the feeds have several time zones, {zones_stated}: {HELP}")
 
 
 def name_agency(feed: Feed) -> list[str]:
@@ -71,7 +71,7 @@ def name_agency(feed: Feed) -> list[str]:
             empty = np.array([row for row, text in enumerate(feed.tables[file].texts("agency_id")) if not text.strip()])
             feed.tables[file].put("agency_id", empty.astype(np.intp), [name] * len(empty))
             count += len(empty)
-    return [f"{feed.name}: agency {shown(name)} added to {quantity(count, 'record')}"] if count else []
+    return [f"{feed.name}: agency {display_text(name)} added to {quantity(count, 'record')}"] if count else []
 
 
 def free_name(name: str, merged: Feed) -> str:

@@ -4,10 +4,11 @@ from typing import Iterator, Mapping
 
 import numpy as np
 
-from ..faults import BadInput, quantity
+from ..core.arrays import Mask
+from ..core.errors import InputError
+from ..core.text import quantity
 from ..gtfs.columns import one_of, used
 from ..gtfs.feeds import Feed
-from ..gtfs.fields import Mask
 from ..gtfs.identifiers import NAMING, TRANSLATED, ZONES, kind_of
 from ..gtfs.tables import Table, read_table
 from ..records import names_of
@@ -40,7 +41,7 @@ def leave_out_references(feed: Feed, before: There) -> list[str]:
         try:
             if table is None and name.endswith(".txt") and set(names_of(feed.others[name])) & set(NAMES):
                 table = read_table(name, feed.others[name])
-        except BadInput as fault:
+        except InputError as fault:
             lines.append(f"{name}: copied as it is, since it can't be read ({fault})")
         if table is not None and name not in {file for file, _ in GIVEN.values()} | {"stop_times.txt"}:
             counts[name] = left_out(feed, table, named_still(table, gone, feed))

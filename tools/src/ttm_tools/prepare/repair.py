@@ -7,9 +7,10 @@ from typing import Sequence
 import numpy as np
 import numpy.typing as npt
 
+from ..core.arrays import Mask
 from ..gtfs.columns import one_of, texts_at
 from ..gtfs.feeds import Feed
-from ..gtfs.fields import FILES, Mask
+from ..gtfs.fields import FILES
 from ..gtfs.identifiers import NAMING
 from ..gtfs.tables import Table, read_table
 from ..records import names_of

@@ -5,8 +5,9 @@ from typing import Iterable, Iterator, Sequence
 
 import numpy as np
 
-from ..faults import BadInput, one_line, quantity
-from ..records import shown
+from ..core.console import one_line
+from ..core.errors import InputError
+from ..core.text import display_text, quantity
 from .check import Fault
 
 FEW = 8  # records that are named
@@ -29,7 +30,7 @@ class Repaired:
 
 def escaped(text: str) -> str:
     """A text in UTF-8: bytes that aren't are read as Windows-1252, and what no file can hold is shown by its number."""
-    return shown(text).encode("utf-8", "backslashreplace").decode("utf-8")
+    return display_text(text).encode("utf-8", "backslashreplace").decode("utf-8")
 
 
 def fault_lines(faults: Sequence[Fault]) -> Iterator[str]:
@@ -37,7 +38,7 @@ def fault_lines(faults: Sequence[Fault]) -> Iterator[str]:
     for fault in faults:
         yield fault.line()
         value = fault.value()
-        found = f'column {fault.column} is "{one_line(shown(value))}"; ' if value is not None else ""
+        found = f'column {fault.column} is "{one_line(display_text(value))}"; ' if value is not None else ""
         records = ", ".join(map(str, fault.records[:FEW].tolist())) + (", .." if len(fault) > FEW else "")
         often = f"; {len(fault):,} times: records {records}" if len(fault) > 1 else ""
         yield f"  {found}{fault.allowed}{often}"
@@ -48,9 +49,9 @@ def refuse(path: str, faults: Sequence[Fault], hint: str, causes: Iterable[str] 
     if faults:
         cause = next(iter(causes), None)
         if cause is not None:
-            raise BadInput(path, cause)
+            raise InputError(path, cause)
         count, first = sum(map(len, faults)), next(fault_lines(faults)).removeprefix("ttm: ")
-        raise BadInput(path, f"{quantity(count, 'error')}{', the first' if count > 1 else ''}: {first} ({hint})")
+        raise InputError(path, f"{quantity(count, 'error')}{', the first' if count > 1 else ''}: {first} ({hint})")
 
 
 def fault_rows(faults: Sequence[Fault]) -> Iterator[list[object]]:

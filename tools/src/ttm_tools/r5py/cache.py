@@ -11,8 +11,8 @@ from pathlib import Path
 from typing import Callable, Iterable
 
 from .. import __version__
-from ..files import aside_name, remove, remove_leavings, sum_of
-from ..locks import lock_file, locked
+from ..core.files import aside_name, remove, remove_leavings, sha256_of_file
+from ..core.locks import lock_file, locked
 from ..opening.paths import regular
 
 FORM = "1"  # changes where what is kept has another form
@@ -39,9 +39,9 @@ def sum_of_source(path: str) -> str:
     """The checksum of a file, or of a folder's files and their names."""
     if not os.path.isdir(path):
         regular(path)
-        return sum_of(path)
+        return sha256_of_file(path)
     files: Iterable[Path] = sorted(file for file in Path(path).rglob("*") if file.is_file())
-    return key_of(*[text for file in files for text in (file.relative_to(path), sum_of(file))])
+    return key_of(*[text for file in files for text in (file.relative_to(path), sha256_of_file(file))])
 
 
 def kept(kind: str, key: str, make: Callable[[Path], None]) -> Path:

@@ -11,11 +11,11 @@ from typing import Iterator, Sequence
 import numpy as np
 import numpy.typing as npt
 
-from ..faults import quantity, some
-from ..files import remove
+from ..core.files import remove
+from ..core.text import display_text, first_few, quantity
+from ..core.threads import processors
 from ..points import study
-from ..records import rows, shown, write_rows
-from ..threads import processors
+from ..records import rows, write_rows
 from ..walks import points_of
 from ..walks.counting import TooManyWalks
 from ..walks.streets import street_walks
@@ -23,7 +23,7 @@ from ..walks.ways import Ways
 from .cache import kept, key_of
 from .long_walks import ALIGHTS, LongWalks, reached_directly
 from .network import Prepared, TransportNetwork
-from .places import GRID, FramePlaces
+from .places import FramePlaces, GRID
 from .refusals import NotAvailable
 from .split import LONGEST
 from .task import NEAR, RegionalTask
@@ -183,9 +183,9 @@ def warn_of_unreached(places: FramePlaces, unreached: Sequence[int]) -> None:
     """Warns of the places of a frame without a stop in reach, by their positions among those that lie anywhere."""
     if not unreached or places.name == GRID:
         return
-    names = [shown(str(places.identifiers[place])) for place in places.placed[list(unreached)].tolist()]
+    names = [display_text(str(places.identifiers[place])) for place in places.placed[list(unreached)].tolist()]
     count = quantity(len(names), "place")
-    warnings.warn(f"{places.name}: {count} {study.UNREACHED}: {some(names)}", stacklevel=6)
+    warnings.warn(f"{places.name}: {count} {study.UNREACHED}: {first_few(names)}", stacklevel=6)
 
 
 @contextlib.contextmanager

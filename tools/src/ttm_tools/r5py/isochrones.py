@@ -9,13 +9,13 @@ import numpy.typing as npt
 import pandas
 from shapely.geometry import Point
 
-from ..gtfs.fields import Floats
+from ..core.arrays import Floats
 from ..walks.osm import Streets
-from .frames import ComputedGeoFrame
 from .doors import seconds_between
+from .frames import ComputedGeoFrame
 from .matrix import ends_of
 from .network import network_from
-from .places import DEGREES, GRID, FramePlaces, moved
+from .places import DEGREES, FramePlaces, GRID, moved
 from .refusals import NotAvailable
 from .task import RegionalTask
 

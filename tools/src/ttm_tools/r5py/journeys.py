@@ -9,14 +9,14 @@ from typing import Iterator
 
 import numpy as np
 
-from ..faults import BadInput
+from ..core.errors import InputError
+from ..gtfs.footpaths import Footpaths, joined, read_walks
 from ..gtfs.stops import read_stops
+from ..gtfs.timetable import DAY, Edits, Runs, Timetable, read_timetable, runs_of
 from ..measures import journeys as search
 from ..measures.journeys import Leg
 from ..measures.search_network import Schedule
 from ..network import Network
-from ..gtfs.footpaths import Footpaths, joined, read_walks
-from ..gtfs.timetable import DAY, Edits, Runs, Timetable, read_timetable, runs_of
 from .doors import Doors
 from .network import FEED
 from .task import RegionalTask
@@ -82,7 +82,7 @@ class JourneySearch:
             begins, ends = self.doors.ends
             expected = np.fmin(expected, self.doors.direct[begins.index(origin), ends.index(destination)])
         if np.isnan(expected) or int(expected) != taken:
-            raise BadInput("the travel times differ", f"at {at}: ttm has {expected} seconds, and this search {taken}")
+            raise InputError("the travel times differ", f"at {at}: ttm has {expected} seconds, and this search {taken}")
 
 
 def with_direct(walks: Footpaths, doors: Doors, places: dict[str, int]) -> Footpaths:

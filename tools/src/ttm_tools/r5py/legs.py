@@ -6,7 +6,7 @@ from typing import Any, Iterator, Sequence
 import numpy as np
 from shapely.geometry import LineString
 
-from ..gtfs.fields import Floats
+from ..core.arrays import Floats
 from ..measures.journeys import Leg
 from ..records import rows
 from ..walks import distances, points_of

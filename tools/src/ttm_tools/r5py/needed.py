@@ -12,7 +12,7 @@ from typing import Iterator
 import numpy as np
 import numpy.typing as npt
 
-from ..gtfs.fields import Mask, Whole
+from ..core.arrays import Mask, Whole
 from ..gtfs.timetable import Events
 from ..walks.counting import Places
 from ..walks.table import NONE, Seconds, WalkTable

@@ -10,19 +10,19 @@ from typing import Any, Iterable
 
 import numpy as np
 
+from ..core.errors import needs
+from ..core.folders import scratch
 from ..engine import Pathlike
-from ..faults import needs
-from ..folders import scratch
 from ..network import Network
 from ..prepare.clip import Clip
 from ..prepare.make import PREPARED, PrepareOptions, make
 from ..records import rows
 from ..walks.osm import Streets, read_streets
 from .cache import kept, key_of, sum_of_source
-from .modes import VEHICLES, ElevationCostFunction, TransportMode, mode_of
+from .modes import ElevationCostFunction, TransportMode, VEHICLES, mode_of
 from .places import DEGREES
 from .refusals import NotAvailable
-from .task import NEAR, DepartureTimes
+from .task import DepartureTimes, NEAR
 
 MOST_NETWORKS = 4  # that are kept at once: of different points, dates or longest walks
 TOLD = "told.txt"

@@ -6,8 +6,8 @@ from typing import Any
 import numpy as np
 import numpy.typing as npt
 
-from ..faults import BadInput
-from ..gtfs.fields import Floats
+from ..core.arrays import Floats
+from ..core.errors import InputError
 from ..points.table import Points
 
 DEGREES = "EPSG:4326"
@@ -54,13 +54,13 @@ def places_of(name: str, frame: Any) -> FramePlaces:
     import geopandas
 
     if not isinstance(frame, geopandas.GeoDataFrame):
-        raise BadInput(name, f"is not a GeoDataFrame but {type(frame).__name__}")
+        raise InputError(name, f"is not a GeoDataFrame but {type(frame).__name__}")
     if "id" not in frame.columns:
-        raise BadInput(name, "has no column id")
+        raise InputError(name, "has no column id")
     if not frame["id"].is_unique or frame["id"].isna().any():
-        raise BadInput(name, "is missing or occurs twice", column="id")
+        raise InputError(name, "is missing or occurs twice", column="id")
     if frame.crs is None:
-        raise BadInput(name, "names no coordinate reference system; set it with .set_crs(..)")
+        raise InputError(name, "names no coordinate reference system; set it with .set_crs(..)")
     shapes = frame.geometry
     there = ~(shapes.isna() | shapes.is_empty).to_numpy()
     inside = [shape if shape.geom_type == "Point" else shape.representative_point() for shape in shapes[there]]
@@ -68,5 +68,5 @@ def places_of(name: str, frame: Any) -> FramePlaces:
     if inside:
         where[:, there] = moved(frame.crs, DEGREES, *np.array([(point.x, point.y) for point in inside]).T)
     if (np.abs(where[1, there]) > 90).any() or (np.abs(where[0, there]) > 180).any():
-        raise BadInput(name, "a place lies off the globe: is its projection the right one?")
+        raise InputError(name, "a place lies off the globe: is its projection the right one?")
     return FramePlaces(name, frame["id"].tolist(), where[0], where[1])

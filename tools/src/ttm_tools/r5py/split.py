@@ -11,10 +11,11 @@ from typing import Sequence
 
 import numpy as np
 
-from ..files import copy_file
+from ..core.arrays import Mask, Whole
+from ..core.files import copy_file
 from ..gtfs.columns import Column, clocks, column_of, numbered
-from ..gtfs.fields import MOST_FOOTPATHS, MOST_STOP_TIMES, MOST_STOPS, Mask, Whole
-from ..gtfs.footpaths import NO_CHANGE, Footpaths
+from ..gtfs.fields import MOST_FOOTPATHS, MOST_STOPS, MOST_STOP_TIMES
+from ..gtfs.footpaths import Footpaths, NO_CHANGE
 from ..gtfs.tables import Table, write_table
 from ..gtfs.timetable import Timetable
 from ..points.study import stops_with

@@ -9,8 +9,8 @@ from pathlib import Path
 from typing import Callable, Sequence
 
 from ..conversation import Answer
+from ..core.files import aside_name
 from ..engine import EngineFault, Run, program_at
-from ..files import aside_name
 from ..process_pool import PLACEHOLDER_WINDOW, ProcessPool, ask_command
 from .cutting import Part, Shape
 from .running import Failed, Pool, failed_of, missing_of

@@ -4,18 +4,19 @@ import datetime
 from pathlib import Path
 from typing import Collection, Sequence
 
-from ..faults import BadInput
+from ..core.errors import InputError
+from ..core.text import display_text
+from ..gtfs.feeds import read_feed
 from ..measures.opportunities import called, columns_of, numbers_of
 from ..parts import origins_in, origins_of_feed
 from ..points import read_points
 from ..prepare import likely
 from ..prepare.check import check
 from ..prepare.losses import Hints, refuse_day
-from ..gtfs.feeds import read_feed
-from ..records import rows, shown
+from ..records import rows
 from .counted import refuse_unknown, unknown_in
-from .stages import room
 from .settings import Study
+from .stages import room
 
 HINTS = Hints(
     errors="ttm-tools prepare --check lists all; repair = true of [feed] repairs what its rules cover",
@@ -91,8 +92,10 @@ def check_columns(study: Study, own: Sequence[str]) -> None:
     groups = columns_of(study.at(settings.people)) if settings.people else []
     for name in settings.groups:
         if name not in groups:
-            message = f"[opportunities] names a group {shown(name)}; there are {', '.join(map(shown, groups))}"
-            raise BadInput(study.path, message)
+            message = (
+                f"[opportunities] names a group {display_text(name)}; there are {', '.join(map(display_text, groups))}"
+            )
+            raise InputError(study.path, message)
 
 
 def check_names(path: str, known: Collection[str], kind: str) -> None:
@@ -109,7 +112,7 @@ def check_origins(path: str, stops: Collection[str]) -> None:
     """Refuses the first origin that is no stop."""
     for number, (name,) in rows(path, ["stop_id"]):
         if name not in stops:
-            raise BadInput(path, f"{shown(name)} is not a stop of the feed", record=number)
+            raise InputError(path, f"{display_text(name)} is not a stop of the feed", record=number)
 
 
 def check_shown(study: Study, origins: Collection[str], *keys: str) -> None:
@@ -117,4 +120,4 @@ def check_shown(study: Study, origins: Collection[str], *keys: str) -> None:
     for key in keys:
         lost = next((place for place in getattr(study.results, key) if place not in origins), None)
         if lost is not None:
-            raise BadInput(study.path, f"{key} of [results]: {lost} is not an origin of the study")
+            raise InputError(study.path, f"{key} of [results]: {lost} is not an origin of the study")

@@ -9,14 +9,14 @@ from typing import Collection, Sequence
 
 import numpy as np
 
-from ..faults import BadInput, quantity, some
-from ..files import sum_of
-from ..gtfs.fields import Floats
+from ..core.arrays import Floats
+from ..core.errors import InputError
+from ..core.files import sha256_of_file
+from ..core.text import display_text, first_few, quantity, short_number
 from ..measures.opportunities import Counts, OWN_NAME, called, columns_of, identifier_of, read_counts
 from ..parts import origins_in
 from ..points import read_points
-from ..points.features import plain
-from ..records import Rounded, names_of, rows as table_rows, shown, write_rows
+from ..records import Rounded, names_of, rows as table_rows, write_rows
 from .settings import Study
 from .sources import Sources
 from .stages import Record, Stage
@@ -33,7 +33,7 @@ def columns_or_none(path: str) -> list[str]:
     """The columns of numbers of a file of points; there may be none."""
     try:
         return [called(name, path) for name in columns_of(path)]
-    except BadInput:
+    except InputError:
         return []
 
 
@@ -68,8 +68,8 @@ def refuse_unknown(study: Study, found: Sequence[str]) -> None:
     """Refuses a column of [opportunities] that isn't found."""
     lost = next((name for name in study.opportunities.named if name not in found), None)
     if lost is not None:
-        there = ", ".join(map(shown, found)) or "no columns of numbers"
-        raise BadInput(study.path, f"[opportunities] names a column {shown(lost)}; there are {there}")
+        there = ", ".join(map(display_text, found)) or "no columns of numbers"
+        raise InputError(study.path, f"[opportunities] names a column {display_text(lost)}; there are {there}")
 
 
 def all_points(study: Study) -> list[str]:
@@ -84,7 +84,9 @@ def sentences_on_lost(whole: Counts, chosen: Counts, what: str) -> list[str]:
     """How much of what is counted is at places that don't count."""
     lost = (whole.numbers.sum(axis=0) - chosen.numbers.sum(axis=0)).tolist()
     numbers = [
-        f"{plain(round(number, 6))} {shown(name)}" for name, number in zip(whole.names, lost) if round(number, 6) > 0
+        f"{short_number(round(number, 6))} {display_text(name)}"
+        for name, number in zip(whole.names, lost)
+        if round(number, 6) > 0
     ]
     return [f"{what}: {', '.join(numbers)}"] if numbers else []
 
@@ -95,7 +97,7 @@ def counts_stage(
     """What there is at each place at which journeys end, in one table; a table may say something of other places."""
     kind = OF_POINTS if study.points.all else "stop of the feed"
     given = list(map(study.at, study.opportunities.files))
-    own = {os.path.relpath(path, study.folder): sum_of(path) for path in tables if path not in given}
+    own = {os.path.relpath(path, study.folder): sha256_of_file(path) for path in tables if path not in given}
 
     def make() -> list[str]:
         every = list(dict.fromkeys([*known, *all_points(study)]))
@@ -103,7 +105,7 @@ def counts_stage(
         counts = at(every, stops, whole)
         write_counts(study.folder / COUNTED, stops, counts)
         lost = sentences_on_lost(whole, counts, f"{NOT_COUNTED} places where no journey ends")
-        return [f"{COUNTED}: {', '.join(map(shown, counts.names))} at {quantity(len(stops), 'place')}", *lost]
+        return [f"{COUNTED}: {', '.join(map(display_text, counts.names))} at {quantity(len(stops), 'place')}", *lost]
 
     facts = {"stops": stops_sum, "columns": columns, "ends": stops, "own": own}
     return Sources(study.at, study.opportunities.files).stage("counted", facts, [COUNTED], make)
@@ -134,16 +136,16 @@ def people_stage(study: Study, origins: Record, path: str) -> Stage:
         lost = sentences_on_lost(found, counts, f"{NOT_COUNTED} points that are left out")
         if unknown:
             places = f"{quantity(len(unknown), 'place')} that {'is' if len(unknown) == 1 else 'are'} no origin"
-            which = f"{places} of the study ({some([*map(shown, unknown)])})"
+            which = f"{places} of the study ({first_few([*map(display_text, unknown)])})"
             lost += sentences_on_lost(whole, found, f"{Path(path).name}: {NOT_COUNTED} {which}")
-        return [f"{PEOPLE}: {', '.join(map(shown, counts.names))} at {quantity(len(names), 'origin')}", *lost]
+        return [f"{PEOPLE}: {', '.join(map(display_text, counts.names))} at {quantity(len(names), 'origin')}", *lost]
 
     facts = {"origins": origins.outputs, "groups": groups}
     return Sources(study.at, [study.opportunities.people]).stage("people", facts, [PEOPLE], make)
 
 
 def write_counts(path: Path, stops: Sequence[str], counts: Counts) -> None:
-    lines = ([stop, *map(plain, numbers)] for stop, numbers in zip(stops, counts.numbers.tolist()))
+    lines = ([stop, *map(short_number, numbers)] for stop, numbers in zip(stops, counts.numbers.tolist()))
     with open(path, "wb") as file:
         write_rows(file, ["stop_id", *counts.names], lines)
 
@@ -190,8 +192,12 @@ def opportunities_stage(study: Path, counted: Record, column: str) -> Stage:
         total = sum(counts.values()) / scale
         scaled = f", times {scale:,} for ttm; access is divided by that" if scale > 1 else ""
         lost = float(numbers.sum()) - total
-        whole = f"; rounded, {plain(round(total, 6))} of {plain(round(total + lost, 6))}" if abs(lost) > 1e-6 else ""
-        return [f"{OPPORTUNITIES}: {shown(column)} at {quantity(len(rows), 'place')}{scaled}{whole}"]
+        whole = (
+            f"; rounded, {short_number(round(total, 6))} of {short_number(round(total + lost, 6))}"
+            if abs(lost) > 1e-6
+            else ""
+        )
+        return [f"{OPPORTUNITIES}: {display_text(column)} at {quantity(len(rows), 'place')}{scaled}{whole}"]
 
     facts = {"column": column, "counted": counted.outputs}
     return Stage("opportunities", facts, [OPPORTUNITIES], make)

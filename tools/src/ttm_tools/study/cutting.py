@@ -8,13 +8,13 @@ from dataclasses import asdict, dataclass, replace
 from pathlib import Path
 from typing import Collection, Sequence
 
-from ..files import is_running, output, remove, sum_of, this_machine
+from ..core.files import is_running, output, remove, sha256_of_file, this_machine
 from ..parts import parts_of, write_stops
 from .counted import ORIGINS
 from .inputs import Inputs
+from .settings import PartSettings
 from .stages import as_text, facts_in, key_of, room, settle, write_settled
 from .ttm import Report, report_of, with_origins
-from .settings import PartSettings
 
 PARTS = "parts"
 CUT = "stages/cut.json"
@@ -90,7 +90,7 @@ class Part:
 
     def finish(self) -> None:
         """Notes that the matrix is whole."""
-        facts = {"key": self.key, "bytes": self.matrix.stat().st_size, "sum": sum_of(self.matrix)}
+        facts = {"key": self.key, "bytes": self.matrix.stat().st_size, "sum": sha256_of_file(self.matrix)}
         write_settled(self.folder / "key", as_text(facts))
         settle(self.folder)
 
@@ -104,7 +104,7 @@ class Part:
 
     def is_whole(self) -> bool:
         """Whether it is done, and its bytes have the sum that was noted."""
-        return self.is_done() and facts_in(self.folder / "key").get("sum") == sum_of(self.matrix)
+        return self.is_done() and facts_in(self.folder / "key").get("sum") == sha256_of_file(self.matrix)
 
 
 def study_key(inputs: Inputs, version: Sequence[str]) -> str:

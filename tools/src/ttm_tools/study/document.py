@@ -8,7 +8,7 @@ from pathlib import Path
 from typing import Iterable, Sequence
 from urllib.parse import quote
 
-from ..escaping import markdown as plain, printed
+from ..core.text import markdown as plain, printed
 
 STYLE = """\
 body { font: 16px/1.5 sans-serif; margin: 0; color: #222; }

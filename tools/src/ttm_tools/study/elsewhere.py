@@ -8,10 +8,11 @@ import time
 from dataclasses import dataclass
 from typing import Callable, Iterator, Sequence
 
+from ..core.console import one_line, say
+from ..core.files import remove
+from ..core.signals import Interrupted
+from ..core.threads import processors
 from ..engine import Run
-from ..faults import one_line, say
-from ..files import Interrupted, remove
-from ..threads import processors
 from .cutting import PARTS, Part
 from .hosts import Hosts
 from .running import Failed, ends_gently, shown

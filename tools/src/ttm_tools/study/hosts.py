@@ -7,7 +7,8 @@ import signal
 import subprocess
 from typing import Any, Sequence
 
-from ..faults import needs_program, say
+from ..core.console import say
+from ..core.errors import needs_program
 from .cutting import PARTS, Part
 from .task import SCRIPT
 

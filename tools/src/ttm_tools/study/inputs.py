@@ -6,13 +6,14 @@ import shlex
 from dataclasses import asdict, dataclass, replace
 from pathlib import Path
 
+from ..core.errors import InputError
+from ..core.files import atomic_folder, copy_file
+from ..core.text import quantity
 from ..engine import Run
-from ..faults import BadInput, quantity
-from ..files import copy_file, many_written_aside
 from ..gtfs.feeds import refuse_planned
 from ..matrices import BASE, TODAY
-from ..parts import origins_in, origins_of_feed, write_stops
 from ..opening.paths import inside
+from ..parts import origins_in, origins_of_feed, write_stops
 from ..plans import make as plans
 from ..points import study as points
 from ..prepare.clip import Clip
@@ -29,10 +30,10 @@ from .counted import (
     scale_in,
 )
 from .run import dates_of, days_of, name_of, run_of, shown_names
+from .settings import Study
 from .sources import Sources
 from .stages import Folder, Record, Stage, room
 from .walking import FOOTPATHS, POINTS, grid_stage, points_stage, walks_stage, with_grid
-from .settings import Study
 
 FEED, PLANNED, SCENARIOS = "inputs/feed", "inputs/planned", "inputs/scenarios"
 DESTINATIONS = f"{POINTS}/destinations.csv"
@@ -237,9 +238,9 @@ def feed_stage(maker: Maker) -> Stage:
 def taken(path: str, study: Path) -> list[str]:
     """Copies a feed that is ready into a study's folder."""
     if not Path(path).is_dir():
-        raise BadInput(path, "is not a folder: a feed with ready = true must be one")
+        raise InputError(path, "is not a folder: a feed with ready = true must be one")
     files = sorted(path for path in Path(path).iterdir() if path.suffix in (".txt", ".csv") and path.is_file())
-    with many_written_aside(study / FEED) as folder:
+    with atomic_folder(study / FEED) as folder:
         for file in files:
             copy_file(inside(Path(path), file), folder / file.name)
     return [f"{FEED}: {quantity(len(files), 'file')}, unchanged"]
@@ -265,7 +266,7 @@ def origins_stage(maker: Maker) -> Stage:
         known = origins_of_feed(feed)
         origins = origins_in(given) if given else known
         if not origins:
-            raise BadInput(given or f"{feed}/stops.txt", "no origins")
+            raise InputError(given or f"{feed}/stops.txt", "no origins")
         if given:
             check_origins(given, set(known))
         with open(maker.at(ORIGINS), "wb") as file:
@@ -284,10 +285,10 @@ def scenarios_stage(maker: Maker) -> Stage:
     names = [path.name for path in paths]
     twice = next((name for place, name in enumerate(names) if name in names[:place]), None)
     if twice is not None:
-        raise BadInput(study.path, f"two scenario files are called {twice}")
+        raise InputError(study.path, f"two scenario files are called {twice}")
 
     def make() -> list[str]:
-        with many_written_aside(maker.at(SCENARIOS)) as folder:
+        with atomic_folder(maker.at(SCENARIOS)) as folder:
             for path in paths:
                 copy_file(path, folder / path.name)
         return [f"{SCENARIOS}: {', '.join(names)}"]

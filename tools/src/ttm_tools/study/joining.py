@@ -7,13 +7,14 @@ from typing import Mapping, Sequence
 
 import numpy as np
 
-from ..faults import BadInput, quantity
-from ..files import output, remove
+from ..core.errors import InputError
+from ..core.files import output, remove
+from ..core.text import quantity
+from ..core.threads import map_in_order
 from ..matrices import Matrix, Seconds, Share, Sums, write_open_matrix
 from ..matrices.chosen import Chosen
 from ..matrices.csv_matrix import CsvMatrix
 from ..parts import PartMatrix, write_whole
-from ..threads import in_order
 from .cutting import Part
 
 MATRIX, CSV = "matrix.omx", "matrix.csv"
@@ -48,10 +49,10 @@ class Joined(Matrix):
         self.begins = [0]
         for part, matrix in zip(parts, self.parts):
             if (matrix.layout, matrix.scenarios, matrix.shares) != (self.layout, first.scenarios, self.shares):
-                raise BadInput(matrix.path, f"has other columns, scenarios or percentiles than {self.path}")
+                raise InputError(matrix.path, f"has other columns, scenarios or percentiles than {self.path}")
             for scenario, share in itertools.product(self.scenarios, self.shares):
                 if matrix.origins(self.called[scenario], share) != list(part.origins):
-                    raise BadInput(matrix.path, "has other origins than its part")
+                    raise InputError(matrix.path, "has other origins than its part")
                 self.names.setdefault((scenario, share), []).extend(part.origins)
             self.begins.append(self.begins[-1] + len(part.origins))
 
@@ -75,10 +76,10 @@ class Joined(Matrix):
 
 def refuse_changed(parts: Sequence[Part], threads: int) -> None:
     """Refuses the first part whose bytes aren't those that were made, and has it be computed again."""
-    for part, is_whole in zip(parts, in_order(Part.is_whole, parts, threads)):
+    for part, is_whole in zip(parts, map_in_order(Part.is_whole, parts, threads)):
         if not is_whole:
             remove(part.folder / "key")
-            raise BadInput(part.matrix, "changed since it was written; the same command computes it again")
+            raise InputError(part.matrix, "changed since it was written; the same command computes it again")
 
 
 def join_parts(parts: Sequence[Part], with_csv: bool, shown: ShownMatrix, threads: int, path: str) -> list[str]:

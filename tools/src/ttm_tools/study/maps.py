@@ -7,20 +7,20 @@ from dataclasses import dataclass
 from pathlib import Path
 from typing import Any, Sequence
 
-from ..faults import quantity
-from ..files import many_written_aside, output
-from ..picture_files import write_picture
-from ..naming import file_names
-from ..views.lines import planned_of
+from ..core.filenames import file_names
+from ..core.files import atomic_folder, output
+from ..core.text import quantity
 from ..measures.opportunities import columns_of
 from ..points.shown import points_in
 from ..views import isochrones
 from ..views.isochrones import AreaGround, Walking
+from ..views.lines import planned_of
 from ..views.maps import Areas, Sheet, figure_of, figure_of_isochrones, picture_of
 from ..views.nearest import Nearest
+from ..views.picture_files import write_picture
 from ..views.pictures import PictureOptions
 from .counted import COUNTED
-from .results import STOPS, Records, StudyMatrix
+from .results import Records, STOPS, StudyMatrix
 from .sources import Sources
 from .stages import Stage
 
@@ -71,7 +71,7 @@ def maps_stages(whole: StudyMatrix, known: Records) -> list[Stage]:
     drawn = maps_of(whole)
 
     def make() -> list[str]:
-        with many_written_aside(whole.at(MAPS)) as folder:
+        with atomic_folder(whole.at(MAPS)) as folder:
             walked = functools.cache(lambda: ground_for(whole))
             for picture in drawn:
                 is_area = picture.kind == "isochrones"

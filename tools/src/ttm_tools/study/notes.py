@@ -8,7 +8,7 @@ from pathlib import Path
 from typing import Any, Sequence
 
 from .. import __version__
-from ..faults import BadInput
+from ..core.errors import InputError
 from ..opening.paths import regular
 from ..opening.texts import read_json
 from .results import StudyMatrix
@@ -58,7 +58,7 @@ def write_notes(whole: StudyMatrix, records: dict[str, Record], machine: Machine
     try:
         there = read_notes(study.folder)
         there.pop("times", None)
-    except BadInput:
+    except InputError:
         there = {}
     if there != json.loads(json.dumps(facts)):
         write_settled(study.folder / NOTES, as_text({**facts, "times": times(study.folder)}))
@@ -82,9 +82,9 @@ def read_notes(folder: Path) -> dict[str, Any]:
     path = folder / NOTES
     try:
         regular(path)
-    except BadInput as fault:
-        raise BadInput(path, f"{fault.what}: is it the folder of a finished study?") from None
+    except InputError as fault:
+        raise InputError(path, f"{fault.what}: is it the folder of a finished study?") from None
     notes: dict[str, Any] = read_json(path, "the record of a study")
     if not isinstance(notes, dict) or notes.get("form") != FORM:
-        raise BadInput(path, f"has another format than {FORM}")
+        raise InputError(path, f"has another format than {FORM}")
     return notes

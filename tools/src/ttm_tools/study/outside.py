@@ -9,11 +9,11 @@ from dataclasses import replace
 
 import numpy as np
 
-from ..gtfs.fields import Floats
+from ..core.arrays import Floats
+from ..core.text import display_text, short_number
 from ..measures.access_table import AccessTable
 from ..measures.opportunities import Counts
-from ..points.features import plain
-from ..records import rows, shown
+from ..records import rows
 from .settings import Study
 from .walking import GRID, OUTSIDE, OUTSIDE_COLUMNS
 
@@ -47,7 +47,9 @@ def with_outside(study: Study, table: AccessTable, people: Counts) -> tuple[Acce
 
 def sentence_on_outside(study: Study) -> str:
     """Whom the percentages of people count, as the end of a caption."""
-    outside = ", ".join(f"{plain(round(number, 3))} {shown(name)}" for name, number in people_outside(study).items())
+    outside = ", ".join(
+        f"{short_number(round(number, 3))} {display_text(name)}" for name, number in people_outside(study).items()
+    )
     if outside and are_counted(study):
         return f"of all people, of whom {outside} live outside all cells and reach nothing"
     in_cells = study.points.grid is not None and not study.points.origins

@@ -2,8 +2,8 @@
 
 from typing import Any
 
-from ..faults import quantity
-from ..files import output
+from ..core.files import output
+from ..core.text import quantity
 from ..measures.opportunities import columns_of
 from ..points.study import POINTS
 from ..views.page.make import page_of

@@ -6,19 +6,20 @@ import itertools
 from pathlib import Path
 from typing import Iterator, Sequence
 
+from ..core.text import display_text
 from ..measures.access_table import read_access
 from ..points.grid import OUTSIDE
 from ..points.study import UNREACHED
-from ..records import records as records_in, shown
+from ..records import records as records_in
 from .counted import NOT_COUNTED
 from .document import Document
 from .maps import AREAS, maps_of
 from .outside import sentence_on_outside
 from .page import PAGE
 from .results import ACCESS_TABLE, Records, StudyMatrix
+from .settings import Study
 from .stages import Stage
 from .window_results import write_changes_by_window, write_windows
-from .settings import Study
 
 MARKDOWN, HTML, TOLD = "report.md", "report.html", "inputs/told.txt"
 FEW = 10  # origins that lose, and that gain most, which the report names
@@ -108,7 +109,7 @@ def write_figures(document: Document, whole: StudyMatrix, records: Records) -> N
         document.table(caption, ["Counted", "Within, minutes", *whole.scenarios], list(means(whole)))
     for scenario, name in whole.others.items():
         if f"compare_{name}" in records:
-            document.heading(f"{shown(scenario)} compared with {shown(whole.inputs.base)}", 3)
+            document.heading(f"{display_text(scenario)} compared with {display_text(whole.inputs.base)}", 3)
             write_changes_by_window(document, whole, records, scenario)
             document.items(records[f"compare_{name}"].lines)
             write_changes(document, whole, f"compare_{name}.csv")
@@ -116,12 +117,12 @@ def write_figures(document: Document, whole: StudyMatrix, records: Records) -> N
         document.heading("How access is distributed among people", 3)
     for name, caption in OF_PEOPLE.items():
         if name in records:
-            header, *lines = [list(map(shown, fields)) for _, fields in records_in(whole.at(f"{name}.csv"))]
+            header, *lines = [list(map(display_text, fields)) for _, fields in records_in(whole.at(f"{name}.csv"))]
             people = sentence_on_outside(study)
             of = f"; percentages are {people}" if "percent" in header else f"; measures are {people}" * ("," in people)
             document.table(f"{caption} ({name}.csv){of}", list(map(as_phrase, header)), lines)
             for path in (output for output in records[name].outputs if output.endswith(".png")):
-                document.picture(path, f"{caption}: {shown(Path(path).stem)}")
+                document.picture(path, f"{caption}: {display_text(Path(path).stem)}")
     write_windows(document, whole, records)
     if "page" in records:
         document.link("A page for the browser:", PAGE)
@@ -131,9 +132,9 @@ def write_figures(document: Document, whole: StudyMatrix, records: Records) -> N
         document.heading("Maps", 3)
         document.paragraph("The pictures are also files in the folder maps.")
         for picture in maps_of(whole):
-            start = f", from {shown(picture.origin)}" if picture.origin else ""
-            end = f", the nearest {shown(picture.nearest)}" if picture.nearest else ""
-            document.picture(picture.file, f"{picture.kind}, {shown(picture.scenario)}{start}{end}")
+            start = f", from {display_text(picture.origin)}" if picture.origin else ""
+            end = f", the nearest {display_text(picture.nearest)}" if picture.nearest else ""
+            document.picture(picture.file, f"{picture.kind}, {display_text(picture.scenario)}{start}{end}")
 
 
 def means(whole: StudyMatrix) -> Iterator[list[str]]:
@@ -143,7 +144,7 @@ def means(whole: StudyMatrix) -> Iterator[list[str]]:
     for number, kind in enumerate(table.kinds):
         if kind.percentile in ("", str(whole.study.share)):
             yield [
-                shown(kind.opportunity),
+                display_text(kind.opportunity),
                 kind.cutoff,
                 *texts_apart([table.numbers[place, number].mean() for place in places]),
             ]
@@ -176,7 +177,7 @@ def write_changes(document: Document, whole: StudyMatrix, path: str) -> None:
         wanted = (fields for _, fields in records_in(whole.at(path)) if is_change(fields[place], sign))
         found = list(itertools.islice(wanted, FEW))
         if found:
-            rows = [list(map(shown, fields)) for fields in found]
+            rows = [list(map(display_text, fields)) for fields in found]
             caption = f"Who {what} most {of} ({path} has all{chosen})"
             document.table(caption, list(map(as_phrase, header)), rows)
 

@@ -6,28 +6,27 @@ from typing import Any, Callable, Sequence
 
 import numpy as np
 
-from ..gtfs.fields import Floats
+from ..core.arrays import Floats
+from ..core.filenames import file_names
+from ..core.files import atomic_folder, output
+from ..core.text import display_text, quantity
 from ..gtfs.stops import Stops
-from ..files import many_written_aside, output
-from ..picture_files import write_picture
-from ..faults import quantity
 from ..matrices import Matrix, Pair, capped, open_matrix, pair_of
 from ..measures.access import Decay, access, nearest
-from ..measures.access_table import AccessTable, AccessKind, read_access
+from ..measures.access_table import AccessKind, AccessTable, read_access
 from ..measures.comparison import compare, sides_of
 from ..measures.opportunities import Counts, columns_of, read_counts
-from ..naming import file_names
-from ..points.shown import shown_of
-from ..records import shown
+from ..points.shown import select_points
 from ..views import bands, equity, tables
-from ..views.access import ACCESS, NEAREST, Form, Measured, decimal, measured, write_access
+from ..views.access import ACCESS, Form, Measured, NEAREST, decimal, measured, write_access
 from ..views.differences import summary, write_origins, write_pairs
+from ..views.picture_files import write_picture
 from .counted import COUNTED, PEOPLE
 from .inputs import Inputs
 from .joining import MATRIX
 from .outside import with_outside
-from .stages import Record, Stage
 from .settings import Study
+from .stages import Record, Stage
 
 ACCESS_TABLE = "access.csv"
 Records = dict[str, Record]
@@ -61,7 +60,9 @@ class StudyMatrix:
         """What `ttm` counts as access: as the study calls it, or its column."""
         if "opportunities" not in self.inputs.records:
             return self.study.results.unit or (POINTS if self.study.points.all else STOPS)
-        return self.study.results.unit or shown(self.study.opportunities.column or columns_of(self.at(COUNTED))[0])
+        return self.study.results.unit or display_text(
+            self.study.opportunities.column or columns_of(self.at(COUNTED))[0]
+        )
 
     @property
     def depends(self) -> dict[str, Any]:
@@ -91,7 +92,7 @@ class StudyMatrix:
 
     def open(self, name: str = MATRIX) -> tuple[Matrix, Stops]:
         """The matrix, or that of another window, with names and places of what it shows."""
-        matrix, stops = shown_of(self.whole(name), self.at(self.inputs.feed), None)
+        matrix, stops = select_points(self.whole(name), self.at(self.inputs.feed), None)
         assert stops is not None  # a feed was named
         return matrix, stops
 
@@ -145,7 +146,7 @@ def table_stage(whole: StudyMatrix, of: Measurement) -> Stage:
         found = of.of(matrix, counts)
         with output(whole.at(path)) as file:
             write_access(file, found, counts.names, of.limits, Form(of.heads))
-        return [f"{path}: {', '.join(map(shown, counts.names))}"]
+        return [f"{path}: {', '.join(map(display_text, counts.names))}"]
 
     options = [*of.options, whole.study.results.max_minutes]
     facts = {"matrix": whole.sum, "words": options, "counted": whole.inputs.outputs_of("counted")}
@@ -195,7 +196,7 @@ def equity_stage(whole: StudyMatrix, path: str, end: str, depends: dict[str, Any
         for name, form in ((csv, tables.CSV), (page, tables.MARKDOWN)):
             with output(whole.at(name)) as file:
                 equity.write_equity(file, equity.measured(table, people, options), form)
-        return [f"{csv}: {', '.join(map(shown, people.names))}"]
+        return [f"{csv}: {', '.join(map(display_text, people.names))}"]
 
     return Stage(f"equity{end}", {**depends, "base": whole.inputs.base}, [csv, page], make)
 
@@ -210,7 +211,7 @@ def bands_stage(whole: StudyMatrix, path: str, name: str, limits: Sequence[float
             bands.write_bands(file, table, bands.bands_of(table, table.kinds, people, limits), tables.CSV)
         for folder in pictures:
             draw_bands(whole, folder, table, people, limits)
-        return [f"{csv}: {', '.join(map(shown, people.names))}"]
+        return [f"{csv}: {', '.join(map(display_text, people.names))}"]
 
     facts = {**depends, "bands": list(limits), "words": [whole.study.share, whole.study.within]}
     return Stage(name, facts, [csv, *pictures], make)
@@ -219,7 +220,7 @@ def bands_stage(whole: StudyMatrix, path: str, name: str, limits: Sequence[float
 def draw_bands(whole: StudyMatrix, folder: str, table: AccessTable, people: Counts, limits: Sequence[float]) -> None:
     """Draws the bars of each thing that is counted."""
     names = list(dict.fromkeys(kind.opportunity for kind in table.kinds))
-    with many_written_aside(whole.at(folder)) as aside:
+    with atomic_folder(whole.at(folder)) as aside:
         for name, file in file_names(names).items():
             figure = bands.figure_of(table, [whole.kind_drawn(table.kinds, name, table.of_times)], people, limits)
             write_picture(str(aside / f"{file}.png"), figure)

@@ -10,10 +10,12 @@ from dataclasses import dataclass
 from types import FrameType
 from typing import Callable, Generator, Iterator, Protocol, Sequence
 
-from .. import progress
+from ..core import progress
+from ..core.console import say
+from ..core.errors import InputError
+from ..core.signals import Interrupted
+from ..core.text import quantity
 from ..engine import Run
-from ..faults import BadInput, quantity, say
-from ..files import Interrupted
 from .cutting import Part
 from .stages import log
 from .ttm import Running, with_origins
@@ -177,7 +179,7 @@ def shown(ended: Iterator[Failed | None], total: int) -> Iterator[Failed | None]
     done, and how long it will take.
     """
     if sys.stderr.isatty():
-        yield from progress.shown(ended, total, "parts", "parts")
+        yield from progress.track(ended, total, "parts", "parts")
         return
     begin = last = time.monotonic()
     for count, outcome in enumerate(ended, 1):
@@ -194,4 +196,4 @@ def refuse_failed(failed: Sequence[Failed], parts: int) -> None:
     if failed:
         first = failed[0]
         message = f"{len(failed):,} of {quantity(parts, 'part')} have no matrix; the same command retries them"
-        raise BadInput(first.part.folder, f"{first.message} ({message})")
+        raise InputError(first.part.folder, f"{first.message} ({message})")

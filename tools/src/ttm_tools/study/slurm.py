@@ -5,7 +5,8 @@ from itertools import groupby
 from pathlib import Path
 from typing import Sequence
 
-from ..faults import BadInput, needs_program, one_line, say
+from ..core.console import one_line, say
+from ..core.errors import InputError, needs_program
 from .cutting import PARTS, Part
 from .stages import write_settled
 from .task import SCRIPT
@@ -37,7 +38,7 @@ def submit(missing: Sequence[Part], options: Sequence[str]) -> str:
     study = missing[0].study
     ran = subprocess.run(["sbatch", *own, *options, SCRIPT], cwd=study, capture_output=True, text=True)
     if ran.returncode != 0:
-        raise BadInput("sbatch", one_line(ran.stderr) or f"ended with status {ran.returncode}")
+        raise InputError("sbatch", one_line(ran.stderr) or f"ended with status {ran.returncode}")
     job = ran.stdout.strip().split(";")[0]
     write_settled(study / JOB, job + "\n")
     say(f"parts: {len(missing)} as job {job}; it continues if this command ends, and the same command waits for it")

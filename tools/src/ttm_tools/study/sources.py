@@ -4,8 +4,8 @@ from dataclasses import dataclass
 from pathlib import Path
 from typing import Any, Callable, Iterable, Mapping, Sequence
 
-from ..faults import BadInput
-from ..files import sum_of
+from ..core.errors import InputError
+from ..core.files import sha256_of_file
 from ..opening.paths import regular
 from .stages import Stage, files_in
 
@@ -32,9 +32,9 @@ def signature_of(path: Path) -> Signature:
 def source_of(path: Path, stated: str, name: str) -> Source:
     """Takes the sum of a file that stays as it is meanwhile."""
     before = signature_of(path)
-    source = Source(path, stated, name, sum_of(path), before)
+    source = Source(path, stated, name, sha256_of_file(path), before)
     if signature_of(path) != before:
-        raise BadInput(path, CHANGED)
+        raise InputError(path, CHANGED)
     return source
 
 
@@ -64,14 +64,14 @@ class Sources:
     def refuse_changed(self) -> None:
         """Refuses files that aren't as they were when their sums were taken."""
         if [path for path, _, _ in self.listed()] != [file.path for file in self.files]:
-            raise BadInput(", ".join(self.given), CHANGED)
+            raise InputError(", ".join(self.given), CHANGED)
         for file in self.files:
             if signature_of(file.path) != file.signature:
-                raise BadInput(file.path, CHANGED)
+                raise InputError(file.path, CHANGED)
 
 
 def refuse_other_sums(study: Path, sums: Mapping[str, str]) -> None:
     """Refuses files of a study's folder that changed while a run read them."""
     for name, was in sums.items():
-        if not (study / name).is_file() or sum_of(study / name) != was:
-            raise BadInput(name, "changed while ttm read it; the same command makes it again")
+        if not (study / name).is_file() or sha256_of_file(study / name) != was:
+            raise InputError(name, "changed while ttm read it; the same command makes it again")

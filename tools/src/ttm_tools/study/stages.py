@@ -14,8 +14,9 @@ from pathlib import Path
 from typing import Any, Callable, Iterator, Sequence
 
 from .. import __version__
-from ..faults import BadInput, say
-from ..files import all_in, outputs_noted, remove, sum_of, written_aside
+from ..core.console import say
+from ..core.errors import InputError
+from ..core.files import all_in, atomic_path, outputs_noted, remove, sha256_of_file
 
 RECORDS = "stages"
 LOCK, MARK = ".lock", "a folder of ttm-tools study\n"
@@ -30,7 +31,7 @@ class Stage:
     name: str
     depends: dict[str, Any]  # all that its outputs depend on: arguments, and sums of files
     outputs: Sequence[str]  # files, by names with a suffix, and folders, from the study's folder on
-    make: Callable[[], list[str]]  # writes them, a folder by `many_written_aside`, and says what was done
+    make: Callable[[], list[str]]  # writes them, a folder by `atomic_folder`, and says what was done
     of_tools: bool = True  # whether other tools may make other outputs: done anew, then
     keeps_task: bool = False  # whether other machines still compute what is needed
     refuse_changed: Callable[[], None] = lambda: None  # says what isn't as it was when its sum was taken
@@ -61,7 +62,7 @@ def key_of(facts: Any) -> str:
 def sum_of_tools() -> str:
     """The sum of the tools themselves, by their version and their files."""
     files = sorted(path for path in PACKAGE.rglob("*") if path.is_file() and "__pycache__" not in path.parts)
-    return key_of([__version__, [[str(path.relative_to(PACKAGE)), sum_of(path)] for path in files]])
+    return key_of([__version__, [[str(path.relative_to(PACKAGE)), sha256_of_file(path)] for path in files]])
 
 
 def files_in(path: Path) -> list[Path]:
@@ -80,7 +81,7 @@ def settle(path: Path) -> None:
 
 def write_settled(path: Path, text: str) -> None:
     """Writes a text that is whole under its name even after a power cut."""
-    with written_aside(path) as aside:
+    with atomic_path(path) as aside:
         aside.write_text(text, encoding="utf-8")
         settle(aside)
     settle(path.parent)
@@ -121,7 +122,7 @@ class Folder:
         """Has faults of the block name files of the folder from there on."""
         try:
             yield
-        except BadInput as fault:
+        except InputError as fault:
             fault.file, fault.what = self.shown(fault.file), self.shown(fault.what)
             fault.args = tuple(self.shown(str(text)) for text in fault.args)
             raise
@@ -141,7 +142,7 @@ class Folder:
         """Whether nothing was changed since a stage was done."""
         there = {str(file.relative_to(self.path)) for name in stage.outputs for file in files_in(self.at(name))}
         return there == set(record.outputs) and all(
-            self.at(name).is_file() and sum_of(self.at(name)) == was for name, was in record.outputs.items()
+            self.at(name).is_file() and sha256_of_file(self.at(name)) == was for name, was in record.outputs.items()
         )
 
     def owned(self) -> set[str]:
@@ -162,7 +163,9 @@ class Folder:
         owned = self.owned()
         for name in self.there(stage):
             if name not in owned:
-                raise BadInput(self.at(name), "doesn't belong to this study, which would replace it: move it elsewhere")
+                raise InputError(
+                    self.at(name), "doesn't belong to this study, which would replace it: move it elsewhere"
+                )
 
     def make_anew(self, stage: Stage) -> list[str]:
         """Removes what was there, and writes the outputs. At any moment the files that a kill would leave are noted:
@@ -199,7 +202,7 @@ class Folder:
         files = [file for name in stage.outputs for file in files_in(self.at(name)) if file.is_file()]
         for file in files:
             settle(file)
-        sums = {str(file.relative_to(self.path)): sum_of(file) for file in files}
+        sums = {str(file.relative_to(self.path)): sha256_of_file(file) for file in files}
         record = Record(key, sums, lines, round(time.monotonic() - begin, 3))
         write_settled(self.path / RECORDS / f"{stage.name}.json", as_text(vars(record)))
         self.at(f"{RECORDS}/{stage.name}.begun").unlink()
@@ -249,7 +252,7 @@ def held(folder: Path) -> Iterator[None]:
         try:
             fcntl.flock(file, fcntl.LOCK_EX | fcntl.LOCK_NB)
         except OSError:
-            raise BadInput(folder, "another ttm-tools study works in this folder") from None
+            raise InputError(folder, "another ttm-tools study works in this folder") from None
         if not os.fstat(file.fileno()).st_size:
             file.write(MARK)
             file.flush()
@@ -261,8 +264,8 @@ def refuse_folder(folder: Path) -> None:
     if not os.path.lexists(folder):
         return
     if not folder.is_dir():
-        raise BadInput(folder, "is not a folder")
+        raise InputError(folder, "is not a folder")
     names, lock = {path.name for path in folder.iterdir()}, folder / LOCK
     of_a_study = lock.is_file() and (lock.read_bytes() == MARK.encode() or (folder / LOG).is_file())
     if not of_a_study and names - {LOCK}:
-        raise BadInput(folder, "isn't empty, and isn't the folder of a study: name a new one with --out")
+        raise InputError(folder, "isn't empty, and isn't the folder of a study: name a new one with --out")

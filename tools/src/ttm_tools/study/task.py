@@ -10,12 +10,12 @@ from dataclasses import replace
 from pathlib import Path
 from typing import Any, Sequence
 
+from ..core.errors import InputError
+from ..core.files import remove
 from ..engine import Run, program_at
-from ..faults import BadInput
-from ..files import remove
 from ..parts import origins_in
 from .cutting import FIRST, PARTS, Part, parts_for
-from .stages import PACKAGE, TASK, Folder, as_text, facts_in, write_settled
+from .stages import Folder, PACKAGE, TASK, as_text, facts_in, write_settled
 from .ttm import Running, facts_of, found_program, version_of, with_origins
 
 SCRIPT = f"{PARTS}/one_part.sh"
@@ -40,17 +40,17 @@ def write_task(run: Run, parts: Sequence[Part], key: str, version: Sequence[str]
 def one_part(folder: Path, number: int) -> None:
     """Computes a part where a study's folder says so; what goes wrong is noted next to it."""
     if not folder.is_dir():
-        raise BadInput(folder, "is not the folder of a study")
+        raise InputError(folder, "is not the folder of a study")
     study = Folder(folder.resolve())
     with study.shown_in_faults():
         known = facts_in(study.at(TASK))
         if not known:
-            raise BadInput(folder, f"is not the folder of a study with parts to compute: no {TASK}")
+            raise InputError(folder, f"is not the folder of a study with parts to compute: no {TASK}")
         run = Run(**known["run"])
         origins, window = origins_in(str(study.at(str(run.files["origins"])))), known.get("window", FIRST)
         parts = parts_for(origins, known["parts"], known["key"], window, study.path)
         if not 1 <= number <= len(parts):
-            raise BadInput(folder, f"has no part {number}, but 1 to {len(parts)}")
+            raise InputError(folder, f"has no part {number}, but 1 to {len(parts)}")
         part = parts[number - 1]
         if part.is_done():
             return
@@ -59,7 +59,7 @@ def one_part(folder: Path, number: int) -> None:
         message = computed(with_origins(run, part.origins_name, threads), part, known)
         if message is not None:
             write_settled(part.errors_file, message + "\n")
-            raise BadInput(part.folder, message)
+            raise InputError(part.folder, message)
 
 
 def computed(run: Run, part: Part, known: dict[str, Any]) -> str | None:

@@ -15,9 +15,9 @@ from dataclasses import dataclass, replace
 from pathlib import Path
 from typing import Any
 
+from ..core.console import one_line
+from ..core.files import aside_name, remove
 from ..engine import EngineFault, Run, program_at, refusal_of
-from ..faults import one_line
-from ..files import aside_name, remove
 from .stages import settle
 
 DIES = 1  # PR_SET_PDEATHSIG of Linux

@@ -9,19 +9,20 @@ from typing import Any, Iterator, Sequence
 
 import numpy as np
 
+from ..core.console import say
+from ..core.errors import InputError
+from ..core.files import sha256_of_file
+from ..core.text import display_text, first_few, quantity
 from ..engine import Run, run as run_ttm
-from ..faults import BadInput, quantity, say, some
-from ..files import sum_of
 from ..matrices import Matrix, open_matrix
 from ..matrices.csv_matrix import CsvMatrix
 from ..opening.paths import as_one_line
 from ..parts import origins_in, parts_of, write_stops
-from ..records import shown
-from .cutting import PARTS
 from .counted import scale_in
+from .cutting import PARTS
 from .joining import CSV, MATRIX, unscaled
 from .notes import NOTES, read_notes
-from .stages import LOCK, RECORDS, Folder, held, room
+from .stages import Folder, LOCK, RECORDS, held, room
 from .ttm import found_program, version_of
 from .work import sweep
 
@@ -89,18 +90,18 @@ def refuse_changed_sources(study: Folder, sources: dict[str, str]) -> None:
     """Refuses the first source that isn't as it was read; those that aren't there any more are reported as well."""
     lost = [path for path in sources if not study.at(path).is_file()]
     for path, was in sources.items():
-        if path not in lost and sum_of(study.at(path)) != was:
-            raise BadInput(path, f"has another checksum than {NOTES} says: it was changed since the study read it")
+        if path not in lost and sha256_of_file(study.at(path)) != was:
+            raise InputError(path, f"has another checksum than {NOTES} says: it was changed since the study read it")
     if lost:
-        say(f"sources: {len(lost)} of {quantity(len(sources), 'file')} no longer exist: {some(lost)}")
+        say(f"sources: {len(lost)} of {quantity(len(sources), 'file')} no longer exist: {first_few(lost)}")
 
 
 def refuse_changed(study: Folder, files: dict[str, str]) -> None:
     for name, was in files.items():
         if not study.at(name).is_file():
-            raise BadInput(name, f"no longer exists, and {NOTES} has its checksum")
-        if sum_of(study.at(name)) != was:
-            raise BadInput(name, f"has another checksum than {NOTES} says: it was changed")
+            raise InputError(name, f"no longer exists, and {NOTES} has its checksum")
+        if sha256_of_file(study.at(name)) != was:
+            raise InputError(name, f"has another checksum than {NOTES} says: it was changed")
 
 
 def compare_again(
@@ -132,13 +133,13 @@ def refuse_other(
     key, own = keys
     places = {name: place for place, name in enumerate(matrix.origins(*key))}
     if again.origins(*own) != list(origins):
-        raise BadInput(matrix.path, f"{shown(key[0])} isn't what ttm computes now: it has other rows")
+        raise InputError(matrix.path, f"{display_text(key[0])} isn't what ttm computes now: it has other rows")
     chosen = np.array([places[name] for name in origins], dtype=np.intp)
     sums = matrix.access(*key)[chosen] == unscaled(again.access(*own), scale)
     for row, (origin, place) in enumerate(zip(origins, chosen.tolist())):
         if not sums[row].all() or bytes_of(matrix, key, place) != bytes_of(again, own, row, matrix):
-            message = f"share {key[1]}, origin {shown(origin)} isn't what ttm computes"
-            raise BadInput(matrix.path, f"the row of {shown(key[0])}, {message}")
+            message = f"share {key[1]}, origin {display_text(origin)} isn't what ttm computes"
+            raise InputError(matrix.path, f"the row of {display_text(key[0])}, {message}")
 
 
 def bytes_of(matrix: Matrix, key: tuple[str, Any], place: int, like: Matrix | None = None) -> bytes:

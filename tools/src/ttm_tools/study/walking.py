@@ -3,11 +3,10 @@
 from dataclasses import replace
 from typing import Protocol
 
-from ..faults import quantity
+from ..core.text import quantity, short_number
 from ..gtfs.stops import read_stops
 from ..plans.nearness import sentences_on_nearer
 from ..points import grid as grids, read_points, study as points
-from ..points.features import plain
 from ..records import write_rows
 from ..walks import Pace, footpaths_of, walks_of
 from .settings import Study
@@ -110,7 +109,7 @@ def grid_stage(study: Study, feed: str, stops_sum: str | None) -> Stage:
         with open(study.folder / GRID, "wb") as file:
             write_rows(file, ["id", "name", "lat", "lon", "width", *found.columns], points.point_lines(found))
         with open(study.folder / OUTSIDE, "wb") as file:
-            write_rows(file, OUTSIDE_COLUMNS, ([name, plain(number)] for name, number in filled.outside.items()))
+            write_rows(file, OUTSIDE_COLUMNS, ([name, short_number(number)] for name, number in filled.outside.items()))
         return [f"{GRID}: {quantity(len(found.identifiers), 'cell')} of {width:g} metres", *filled.sentences]
 
     has_area = settings.grid_area is not None

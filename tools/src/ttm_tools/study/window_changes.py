@@ -5,8 +5,8 @@ from typing import BinaryIO, Iterator, Mapping, Sequence
 
 import numpy as np
 
-from ..column_list import WINDOW_CHANGES, WINDOWS as WINDOW_COLUMNS, names_of
-from ..gtfs.fields import Floats
+from ..core.arrays import Floats
+from ..core.columns import WINDOWS as WINDOW_COLUMNS, WINDOW_CHANGES, names_of
 from ..measures.access_table import AccessKind, AccessTable
 from ..measures.comparison import Sides, sides_of
 from ..measures.equity import mean

@@ -7,26 +7,26 @@ from typing import Any, BinaryIO, Iterator, Sequence
 
 import numpy as np
 
-from ..faults import quantity
-from ..column_list import WINDOWS as WINDOW_COLUMNS, names_of
-from ..files import many_written_aside, output
-from ..picture_files import write_picture
-from ..measures.access_table import AccessTable, AccessKind
+from ..core.columns import WINDOWS as WINDOW_COLUMNS, names_of
+from ..core.filenames import file_names
+from ..core.files import atomic_folder, output
+from ..core.text import display_text, quantity
+from ..measures.access_table import AccessKind, AccessTable
 from ..measures.opportunities import Counts, columns_of, read_counts
-from ..naming import file_names
-from ..records import records as records_in, shown, write_rows
+from ..records import records as records_in, write_rows
 from ..views import equity
-from ..views.access import ACCESS, NEAREST, Measured, decimal, long_rows
-from ..views.windows import WindowColumn, FigureLabels, figure_by_time, figure_of_heat, figure_of_maps
+from ..views.access import ACCESS, Measured, NEAREST, decimal, long_rows
+from ..views.picture_files import write_picture
+from ..views.windows import FigureLabels, WindowColumn, figure_by_time, figure_of_heat, figure_of_maps
 from .counted import COUNTED, PEOPLE
 from .document import Document
 from .joining import MATRIX
 from .outside import with_outside
-from .results import LOSE, POINTS, STOPS, Measurement, Records, StudyMatrix, measurements_of
+from .results import LOSE, Measurement, POINTS, Records, STOPS, StudyMatrix, measurements_of
+from .settings import DayWindow
 from .stages import Stage
 from .window_changes import changes_of, fields_of, write_changes
 from .windows import WINDOWS, matrix_of
-from .settings import DayWindow
 
 HEADS = names_of(WINDOW_COLUMNS)
 EACH = "origins"  # whom the means count where no people are named: each origin once
@@ -155,13 +155,13 @@ def draw_all(whole: StudyMatrix, tables: dict[DayWindow, AccessTable]) -> None:
     wide, people = with_people(whole, tables)
     places, base = POINTS if whole.study.points.all else STOPS, first.scenario(whole.inputs.base)
     _, stops = whole.open()
-    with many_written_aside(whole.at(PICTURES)) as folder:
+    with atomic_folder(whole.at(PICTURES)) as folder:
         for name, paths in pictures_of(whole).items():
             kind = whole.kind_drawn(first.kinds, name)
             number = first.kinds.index(kind)
             columns, of_people = (columns_drawn(own, number) for own in (tables, wide))
             scenario = whole.inputs.base if len(first.scenarios) > 1 else ""
-            labels = FigureLabels(kind.label, shown(name), places, shown(scenario))
+            labels = FigureLabels(kind.label, display_text(name), places, display_text(scenario))
             figures = [
                 figure_by_time(of_people, first.scenarios, people, labels),
                 figure_of_heat(columns, base, labels),
@@ -196,7 +196,7 @@ def write_windows(document: Document, whole: StudyMatrix, records: Records) -> N
     if not questions:
         return
     document.heading("By time of day", 3)
-    rows = [[*question.head, shown(path_of(whole, question))] for question in questions]
+    rows = [[*question.head, display_text(path_of(whole, question))] for question in questions]
     document.table("Windows, each with its matrix", ["Day", "Window", "From", "To", "Matrix"], rows)
     document.paragraph(f"Comparisons, maps and the page are those of the first: {questions[0].label}.")
     if "windows_access" not in records:
@@ -208,7 +208,7 @@ def write_windows(document: Document, whole: StudyMatrix, records: Records) -> N
     if PICTURES in {path.rpartition("/")[0] for path in records["windows_access"].outputs}:
         for name, paths in pictures_of(whole).items():
             for path, what in zip(paths, KINDS.values()):
-                document.picture(path, f"{shown(name)}: {what}")
+                document.picture(path, f"{display_text(name)}: {what}")
 
 
 def lines_reported(path: str, kind: list[str], columns: Sequence[str]) -> Iterator[list[str]]:
@@ -218,4 +218,4 @@ def lines_reported(path: str, kind: list[str], columns: Sequence[str]) -> Iterat
     first, places = len(HEADS), [header.index(name) for name in columns]
     for _, fields in table:
         if fields[first : first + len(kind)] == kind:
-            yield [shown(fields[place]) for place in places]
+            yield [display_text(fields[place]) for place in places]

@@ -4,12 +4,13 @@ import re
 from dataclasses import replace
 from pathlib import Path
 
-from ..faults import BadInput, needs, say
+from ..core.console import say
+from ..core.errors import InputError, needs
+from ..core.filenames import sentences_on_names
+from ..core.files import remove, sha256_of_file
+from ..core.locks import is_locked, lock_file
 from ..gtfs.stops import read_stops
-from ..files import remove, sum_of
-from ..locks import is_locked, lock_file
 from ..matrices import BASE, TODAY, open_matrix
-from ..naming import sentences_on_names
 from ..views.page.document import leaflet_files
 from ..views.page.settings import LEAFLET
 from .checks import check_shown
@@ -21,11 +22,11 @@ from .notes import write_notes
 from .report import TOLD, day_shown
 from .result_list import make_results
 from .results import StudyMatrix, names_of_scenarios
-from .stages import RECORDS, Folder, Record, Stage, held, log, refuse_folder, room
+from .settings import Study
+from .stages import Folder, RECORDS, Record, Stage, held, log, refuse_folder, room
 from .ttm import found_program, version_of
 from .walking import with_grid
 from .windows import Machine, make_windows, matrix_stage
-from .settings import Study
 
 OF_ONE_ORIGIN = ("origins: ", "rows: ", "cells: ", "bytes of ")  # what the report of a trial says of itself
 RUNS_IN, NO_CHANGE = "runs in scenario ", "warning: this scenario changes nothing on the days of the study"
@@ -47,7 +48,7 @@ def make_in(folder: Folder, study: Study, program: str, means: Means) -> None:
     """Makes all of a study in its folder, which is held."""
     path = folder.path
     folder.at(RECORDS).mkdir(exist_ok=True)
-    machine = Machine(version_of(program), sum_of(program), means)
+    machine = Machine(version_of(program), sha256_of_file(program), means)
     log(path, "command", "began", 0.0)
     sweep(path, inside_parts=False)
     inputs = make_inputs(study, folder, program)
@@ -87,7 +88,7 @@ def refuse_settings(study: Study, inputs: Inputs) -> None:
         return
     check_shown(study, set(inputs.origins()), "map_origins", "isochrones")
     if not read_stops(inputs.at(inputs.feed)).placed.any():
-        raise BadInput(
+        raise InputError(
             f"{inputs.feed}/stops.txt",
             "no stop has stop_lat and stop_lon: say maps = false and page = false in [results]",
         )

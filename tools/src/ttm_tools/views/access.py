@@ -6,10 +6,11 @@ from typing import BinaryIO, Callable, Iterator, Sequence
 
 import numpy as np
 
-from ..faults import BadInput
-from ..gtfs.fields import Floats
+from ..core.arrays import Floats
+from ..core.errors import InputError
+from ..core.text import display_text
 from ..matrices import Matrix, Share
-from ..records import shown, write_rows
+from ..records import write_rows
 
 LONG, WIDE = "long", "wide"
 ACCESS, NEAREST = ("cutoff", "accessibility"), ("nearest", "seconds")  # the last two columns of the long form
@@ -38,8 +39,8 @@ def origins_of(matrix: Matrix, scenario: str) -> list[str]:
     first = matrix.origins(scenario, matrix.shares[0])
     for share in matrix.shares:
         if matrix.origins(scenario, share) != first:
-            message = f"{shown(scenario)} has other origins for the percentile {share}: is it truncated?"
-            raise BadInput(matrix.path, message)
+            message = f"{display_text(scenario)} has other origins for the percentile {share}: is it truncated?"
+            raise InputError(matrix.path, message)
     return first
 
 

@@ -3,13 +3,13 @@
 from dataclasses import astuple, dataclass
 from typing import Any, BinaryIO, Iterator, Sequence
 
-from ..column_list import BANDS, BANDS_OF_NEAREST, names_of
-from ..faults import BadInput, some
-from ..gtfs.fields import Floats
-from ..measures.access_table import AccessTable, AccessKind, by_group
+from ..core.arrays import Floats
+from ..core.columns import BANDS, BANDS_OF_NEAREST, names_of
+from ..core.errors import InputError
+from ..core.text import display_text, first_few
+from ..measures.access_table import AccessKind, AccessTable, by_group
 from ..measures.bands import with_at_least, within_minutes
 from ..measures.opportunities import Counts
-from ..records import shown
 from .access import decimal
 from .equity import significant
 from .tables import write_table
@@ -70,14 +70,14 @@ def parts_of(table: AccessTable, inside: Sequence[float]) -> list[float]:
 def figure_of(table: AccessTable, kinds: Sequence[AccessKind], people: Counts, limits: Sequence[float]) -> Any:
     """A bar for each group and scenario, of one kind."""
     if len(kinds) > 1:
-        there = some([kind.label for kind in kinds])
+        there = first_few([kind.label for kind in kinds])
         how = "choose it with --opportunity, --percentile, --cutoff"
-        raise BadInput(table.path, f"a picture shows one of {there}: {how}")
+        raise InputError(table.path, f"a picture shows one of {there}: {how}")
     from matplotlib import colormaps
 
     found = list(bands_of(table, kinds, people, limits))
     rows = list(dict.fromkeys((band.group, band.scenario) for band in found))
-    labels = labels_of(table, limits, shown(kinds[0].opportunity))
+    labels = labels_of(table, limits, display_text(kinds[0].opportunity))
     high = AROUND + BAR * (len(rows) + len(people.names))
     figure = figure_with(f"People by band: {table.label_of(kinds[0])}", high)
     axes = figure.add_axes((0.24, 0.55 / high, 0.72, 1 - (AROUND - 0.2) / high))
@@ -91,7 +91,9 @@ def figure_of(table: AccessTable, kinds: Sequence[AccessKind], people: Counts, l
             begin += part
     ticks = [row + people.names.index(group) for row, (group, _) in enumerate(rows)]
     axes.set(xlim=(0, 100), xlabel="% of the people", yticks=ticks)
-    axes.set_yticklabels([f"{shown(group)}, {shown(scenario)}" for group, scenario in rows], parse_math=False)
+    axes.set_yticklabels(
+        [f"{display_text(group)}, {display_text(scenario)}" for group, scenario in rows], parse_math=False
+    )
     axes.invert_yaxis()
     axes.legend(frameon=False, loc="lower left", bbox_to_anchor=(0, 1), ncols=min(4, len(labels)), fontsize=8)
     return figure

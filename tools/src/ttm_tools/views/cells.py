@@ -7,7 +7,7 @@ import numpy.typing as npt
 from matplotlib.collections import PathCollection, PolyCollection
 from matplotlib.path import Path
 
-from ..gtfs.fields import Floats
+from ..core.arrays import Floats
 from ..gtfs.projection import Projection
 from ..gtfs.stops import Area, Stops
 

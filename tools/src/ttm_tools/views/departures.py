@@ -4,9 +4,9 @@ from typing import Any, Sequence
 
 import numpy as np
 
-from ..records import shown
-from .texts import figure_with, text_alone
+from ..core.text import display_text
 from .journeys import ExplainOptions, Found
+from .texts import figure_with, text_alone
 
 COLOURS = ("#332288", "#cc6677", "#117733", "#88ccee", "#aa4499", "#ddcc77")
 MARKS = ("o", "s", "^", "D", "v", "P")
@@ -38,7 +38,7 @@ def draw_scenario(axes: Any, options: ExplainOptions, found: Found, place: int, 
     colour, mark = COLOURS[place % len(COLOURS)], MARKS[place % len(MARKS)]
     minutes = np.array([np.nan if time is None else time / 60 for time in found.durations])
     cell = "not reached" if found.cell is None else f"{options.share} % achieve {found.cell / 60:.1f} minutes"
-    label = f"{shown(found.name)}: {cell}"
+    label = f"{display_text(found.name)}: {cell}"
     axes.plot(minutes, color=colour, marker=mark, markersize=3.5, linewidth=0.9, label=label)
     if found.cell is not None:
         axes.axhline(found.cell / 60, color=colour, linestyle="dashed", linewidth=0.8)

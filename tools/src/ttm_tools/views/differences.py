@@ -6,12 +6,12 @@ from typing import BinaryIO, Sequence
 import numpy as np
 import numpy.typing as npt
 
-from ..faults import quantity
-from ..column_list import compared
+from ..core.columns import compared
+from ..core.text import display_text, quantity
 from ..gtfs.stops import Stops
 from ..matrices import Pair, Sums
-from ..measures.comparison import KINDS, Changes, Comparison, order_of, order_of_origins, sides_of, sorted_origins
-from ..records import Numerals, Texts, field, fields_as_texts, joined, shown, texts_of, write_rows
+from ..measures.comparison import Changes, Comparison, KINDS, order_of, order_of_origins, sides_of, sorted_origins
+from ..records import Numerals, Texts, field, fields_as_texts, joined, texts_of, write_rows
 
 LINES_AT_ONCE = 200_000
 
@@ -95,7 +95,7 @@ def summary(pair: Pair, comparison: Comparison, limit: float, place: int | None,
     pairs = len(pair.origins) * len(pair.matrix.stops)
     totals = comparison.counts.sum(axis=0)
     counts = ", ".join(f"{count:,} {kind}" for kind, count in zip(KINDS, totals.tolist()))
-    names, end = f"{shown(pair.other)} compared with {shown(pair.base)}", pair.matrix.greatest_stated
+    names, end = f"{display_text(pair.other)} compared with {display_text(pair.base)}", pair.matrix.greatest_stated
     sentences = [
         f"{names}: of {quantity(pairs, 'pair')} {counts} (by more than {limit:g} seconds{'; ' * bool(end)}{end})"
     ]

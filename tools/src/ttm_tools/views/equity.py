@@ -6,15 +6,15 @@ from typing import Any, BinaryIO, Callable, Iterable, Iterator, Sequence
 
 import numpy as np
 
-from ..column_list import OF_PEOPLE, OF_PEOPLE_NEAREST, names_of
-from ..faults import BadInput, some
-from ..gtfs.fields import Floats
-from ..measures.access_table import AccessTable, AccessKind, by_group
+from ..core.arrays import Floats
+from ..core.columns import OF_PEOPLE, OF_PEOPLE_NEAREST, names_of
+from ..core.errors import InputError
+from ..core.text import display_text, first_few
+from ..measures.access_table import AccessKind, AccessTable, by_group
 from ..measures.columns import header
-from ..measures.equity import TENTHS, Equity, changes_by_tenth, equity, lorenz
+from ..measures.equity import Equity, TENTHS, changes_by_tenth, equity, lorenz
 from ..measures.nearness import Nearness, nearness
 from ..measures.opportunities import Counts
-from ..records import shown
 from .tables import write_table
 from .texts import figure_with, text_alone
 
@@ -43,8 +43,8 @@ def chosen_kinds(
         and all(number is None or is_number(getattr(kind, name), number) for name, number in numbers.items())
     ]
     if not kinds:
-        there = some([table.label_of(kind) for kind in table.kinds])
-        raise BadInput(table.path, f"nothing of the kind; it has {there}")
+        there = first_few([table.label_of(kind) for kind in table.kinds])
+        raise InputError(table.path, f"nothing of the kind; it has {there}")
     return kinds
 
 
@@ -94,16 +94,16 @@ def write_equity(out: BinaryIO, lines: Iterator[Line], form: str) -> None:
 def figure_of(table: AccessTable, people: Counts, options: EquityOptions) -> Any:
     """The picture of one kind and one group."""
     if table.of_times:
-        raise BadInput(table.path, "of times to the nearest ttm-tools bands draws a picture")
+        raise InputError(table.path, "of times to the nearest ttm-tools bands draws a picture")
     if len(options.kinds) > 1:
-        there = some([kind.label for kind in options.kinds])
+        there = first_few([kind.label for kind in options.kinds])
         names = "--opportunity, --percentile and --cutoff"
-        raise BadInput(table.path, f"a picture shows one of {there}: choose it with {names}")
+        raise InputError(table.path, f"a picture shows one of {there}: choose it with {names}")
     if len(people.names) > 1:
-        raise BadInput(table.path, f"a picture shows one group of {', '.join(people.names)}: choose it with --column")
+        raise InputError(table.path, f"a picture shows one group of {', '.join(people.names)}: choose it with --column")
     kind, weights = options.kinds[0], people.numbers[:, 0]
     numbers, base = table.numbers[:, table.kinds.index(kind)], table.scenario(options.base)
-    figure = figure_with(f"Distribution of access: {kind.label}; people: {shown(people.names[0])}", 4.8, 0.192)
+    figure = figure_with(f"Distribution of access: {kind.label}; people: {display_text(people.names[0])}", 4.8, 0.192)
     draw_lorenz(figure.add_axes((0.07, 0.13, 0.4, HIGH)), table.scenarios, numbers, weights)
     draw_tenths(figure.add_axes((0.58, 0.13, 0.4, HIGH)), table.scenarios, numbers, weights, base)
     return figure
@@ -114,7 +114,7 @@ def draw_lorenz(axes: Any, names: Sequence[str], numbers: Floats, weights: Float
     for place, name in enumerate(names):
         across, up = lorenz(numbers[place], weights)
         colour, style = COLOURS[place % len(COLOURS)], "solid" if place == 0 else "dashed"
-        axes.plot(100 * across, 100 * up, color=colour, linestyle=style, label=shown(name))
+        axes.plot(100 * across, 100 * up, color=colour, linestyle=style, label=display_text(name))
     axes.set(xlim=(0, 100), ylim=(0, 100), xlabel="people by ascending access, %", ylabel="their part of all access, %")
     axes.legend(frameon=False, loc="upper left", fontsize=9)
 
@@ -126,9 +126,12 @@ def draw_tenths(axes: Any, names: Sequence[str], numbers: Floats, weights: Float
     for row, place in enumerate(others):
         changes = changes_by_tenth(numbers[base], numbers[place], weights)
         across = np.arange(1, TENTHS + 1) + (row - (len(others) - 1) / 2) * wide
-        axes.bar(across, changes, wide, color=COLOURS[place % len(COLOURS)], label=shown(names[place]))
+        axes.bar(across, changes, wide, color=COLOURS[place % len(COLOURS)], label=display_text(names[place]))
     axes.axhline(0, color="#333333", linewidth=0.8)
-    axes.set(xticks=range(1, TENTHS + 1), xlabel=f"tenth of the people, 1 has the least access in {shown(names[base])}")
+    axes.set(
+        xticks=range(1, TENTHS + 1),
+        xlabel=f"tenth of the people, 1 has the least access in {display_text(names[base])}",
+    )
     axes.set_ylabel("mean change of access")
     if others:
         axes.legend(frameon=False, fontsize=9)

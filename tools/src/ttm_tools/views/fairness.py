@@ -3,10 +3,10 @@
 from dataclasses import astuple, dataclass
 from typing import BinaryIO, Iterator, Sequence
 
-from ..column_list import OF_PEOPLE, names_of
-from ..faults import BadInput
-from ..gtfs.fields import Floats
-from ..measures.access_table import AccessTable, AccessKind, by_group
+from ..core.arrays import Floats
+from ..core.columns import OF_PEOPLE, names_of
+from ..core.errors import InputError
+from ..measures.access_table import AccessKind, AccessTable, by_group
 from ..measures.fairness import Concentration, Poverty, Theil, theil_of_all
 from ..measures.measure_list import FAIRNESS
 from ..measures.opportunities import Counts
@@ -28,7 +28,7 @@ class FairnessOptions:
 def lines_of(table: AccessTable, people: Counts, options: FairnessOptions) -> Iterator[list[str]]:
     """A line for each kind, group and scenario; of Theil's T one more for all groups together."""
     if table.of_times:
-        raise BadInput(table.path, f"{options.measure} is measured of access, not of times to the nearest")
+        raise InputError(table.path, f"{options.measure} is measured of access, not of times to the nearest")
     measure = FAIRNESS[options.measure].compute()
     more = [value for value in (options.rank, options.line) if value is not None]
     for kind in options.kinds:

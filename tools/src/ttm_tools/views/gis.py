@@ -14,16 +14,17 @@ from urllib.parse import quote
 
 import numpy as np
 
-from ..faults import BadInput, needs, quantity
-from ..gtfs.fields import Floats
+from ..core.arrays import Floats
+from ..core.errors import InputError, needs
+from ..core.files import atomic_path
+from ..core.text import display_text, quantity
 from ..gtfs.stops import Stops
-from ..files import written_aside
 from ..matrices import Matrix, Share
 from ..measures.access import nearest
 from ..measures.opportunities import Counts
 from ..opening.paths import as_one_line
 from ..points.areas import geometry_of, squares_of
-from ..records import shown, with_gaps
+from ..records import with_gaps
 from .access import decimal
 
 LAYER = "stops"
@@ -38,13 +39,13 @@ class Features:
 
     def properties(self, place: int) -> dict[str, Any]:
         numbers = {name: column[place] for name, column in self.columns.items()}
-        named = {"stop_id": shown(self.stops.identifiers[place]), "stop_name": self.stops.names[place]}
+        named = {"stop_id": display_text(self.stops.identifiers[place]), "stop_name": self.stops.names[place]}
         return named | {name: None if math.isnan(number) else int(number) for name, number in numbers.items()}
 
 
 def named(scenario: str, share: Share, what: str) -> str:
     """The name of a column, as base_50_access_1800, base_50_seconds."""
-    return "_".join([shown(scenario), *([str(share)] if share is not None else []), what])
+    return "_".join([display_text(scenario), *([str(share)] if share is not None else []), what])
 
 
 def features_of(
@@ -91,7 +92,7 @@ def with_nearest(
         places = [among[origins[row]] for row in rows]
         for (kind, what), (place, count) in itertools.product(enumerate(counts.names), enumerate(nearest_of)):
             column = placed(found[rows, kind, place], places, len(features.stops.identifiers))
-            columns[named(scenario, share, f"{shown(what)}_nearest_{decimal(count)}")] = column
+            columns[named(scenario, share, f"{display_text(what)}_nearest_{decimal(count)}")] = column
     return Features(features.stops, columns)
 
 
@@ -119,7 +120,7 @@ def write_geopackage(path: str, features: Features) -> None:
     from shapely.geometry import MultiPolygon, Point
 
     stops = features.stops
-    columns: dict[str, Any] = {"stop_id": list(map(shown, stops.identifiers)), "stop_name": stops.names}
+    columns: dict[str, Any] = {"stop_id": list(map(display_text, stops.identifiers)), "stop_name": stops.names}
     columns |= {name: with_gaps(numbers) for name, numbers in features.columns.items()}
     shapes = [Point(*place) for place in zip(stops.longitudes.tolist(), stops.latitudes.tolist())]
     for name, area in stops.areas.items():  # all as several polygons, since a layer has one kind
@@ -133,7 +134,7 @@ def write_layer(path: str, columns: Any, shapes: Sequence[Any], layer: str) -> N
     import geopandas
 
     frame = geopandas.GeoDataFrame(columns, geometry=shapes, crs="EPSG:4326")
-    with written_aside(path) as aside, as_one_line(path, "not written"):
+    with atomic_path(path) as aside, as_one_line(path, "not written"):
         frame.to_file(aside, driver="GPKG", layer=layer)
         refuse_part(aside, path, layer, len(frame))
 
@@ -144,4 +145,4 @@ def refuse_part(written: Path, path: str, layer: str, count: int) -> None:
         (state,) = base.execute("PRAGMA integrity_check").fetchone()
         (there,) = base.execute(f"SELECT COUNT(*) FROM {layer}").fetchone()
     if state != "ok" or there != count:
-        raise BadInput(path, f"not written: it has {there:,} of {quantity(count, 'record')}; is the disk full?")
+        raise InputError(path, f"not written: it has {there:,} of {quantity(count, 'record')}; is the disk full?")

@@ -12,14 +12,14 @@ from typing import Any, BinaryIO, Iterator, Mapping, Sequence
 
 import numpy as np
 
-from ..faults import BadInput
-from ..gtfs.fields import Floats
+from ..core.arrays import Floats
+from ..core.errors import InputError
+from ..core.text import display_text
 from ..gtfs.projection import Projection
 from ..gtfs.stops import Stops
 from ..matrices import Matrix, Share
 from ..measures.opportunities import Counts
 from ..points.features import AREAS, POLYGONS, read_frame, text_of, valid
-from ..records import shown
 from ..walks import Pace
 from ..walks.osm import read_streets
 from ..walks.reach import GrowingStrip, Reach, reach_of
@@ -128,7 +128,7 @@ def ground_of(stops: Stops, polygons: Mapping[str, Any]) -> AreaGround:
     from shapely.ops import transform
 
     if not stops.placed.any():
-        raise BadInput(stops.path, "no stop has stop_lat and stop_lon, so there is nothing to draw")
+        raise InputError(stops.path, "no stop has stop_lat and stop_lon, so there is nothing to draw")
     halves = stops.sides() / 2000
     is_square = stops.placed & ~np.isnan(halves[:, 0])
     centre = is_square if is_square.any() else stops.placed
@@ -199,11 +199,11 @@ def isochrones_of(matrix: Matrix, ground: AreaGround, bands: Bands, counts: Coun
 
 def properties_of(isochrone: Isochrone, origin: str) -> dict[str, Any]:
     """What a file says of an isochrone in addition to its shape."""
-    known: dict[str, Any] = {"origin": shown(origin), "scenario": shown(isochrone.scenario)}
+    known: dict[str, Any] = {"origin": display_text(origin), "scenario": display_text(isochrone.scenario)}
     if isochrone.share is not None:
         known["percentile"] = isochrone.share
     known |= {"minutes": whole(isochrone.minutes), "square_km": round(isochrone.area, 4), "reached": isochrone.reached}
-    return known | {shown(name): whole(number) for name, number in isochrone.counts.items()}
+    return known | {display_text(name): whole(number) for name, number in isochrone.counts.items()}
 
 
 def whole(number: float) -> float:

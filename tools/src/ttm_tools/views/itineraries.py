@@ -3,9 +3,9 @@
 from dataclasses import astuple, dataclass
 from typing import Iterator, Sequence
 
-from ..column_list import JOURNEYS
+from ..core.columns import JOURNEYS
+from ..core.text import display_text
 from ..measures.journeys import Leg
-from ..records import shown
 from .journeys import ExplainOptions, Found
 
 
@@ -51,6 +51,6 @@ def lines_of(options: ExplainOptions, found: Sequence[Found]) -> Iterator[list[o
         departure = options.departures[of.chosen]
         trips = [int(of.runs.trip[leg.run]) for leg in of.legs if leg.run is not None]
         columns = (options.timetable.routes, options.timetable.trips)
-        names = [" ".join(shown(column[trip]) for trip in trips) for column in columns]
+        names = [" ".join(display_text(column[trip]) for trip in trips) for column in columns]
         parts = astuple(parts_of(of.legs, departure))
         yield [*head, of.cell, options.clock(departure), *parts, len(trips), *names]

@@ -4,11 +4,11 @@ import itertools
 from dataclasses import dataclass
 from typing import Iterator, Mapping, Sequence
 
-from ..faults import quantity
+from ..core.text import display_text, quantity
 from ..gtfs.stops import has_file, in_folder
-from ..measures.journeys import Leg
-from ..records import rows, shown
 from ..gtfs.timetable import DAY, Runs, Timetable
+from ..measures.journeys import Leg
+from ..records import rows
 
 GAP = "   "
 
@@ -56,12 +56,15 @@ def routes_called(folder: str) -> dict[str, str]:
 
 
 def name_of(route: str, short: str, long: str) -> str:
-    return shown(short.strip() or long.strip() or route)
+    return display_text(short.strip() or long.strip() or route)
 
 
 def with_identifiers(names: Mapping[str, str]) -> dict[str, str]:
     """What people call each route, with its identifier where it is another."""
-    return {route: name if name == shown(route) else f"{name} ({shown(route)})" for route, name in names.items()}
+    return {
+        route: name if name == display_text(route) else f"{name} ({display_text(route)})"
+        for route, name in names.items()
+    }
 
 
 def names_of_routes(folder: str) -> dict[str, str]:
@@ -93,9 +96,9 @@ def side_by_side(columns: Sequence[Sequence[str]]) -> Iterator[str]:
 def lines_of(options: ExplainOptions, found: Found, names: dict[str, str]) -> Iterator[str]:
     """A journey, leg by leg."""
     if found.cell is None or found.chosen is None:
-        yield f"{shown(found.name)}: not reached"
+        yield f"{display_text(found.name)}: not reached"
         return
-    yield f"{shown(found.name)}: {found.cell} seconds"
+    yield f"{display_text(found.name)}: {found.cell} seconds"
     time, at = options.departures[found.chosen], options.origin
     yield f"{options.clock(time)} {options.stop(at)}"
     for leg in found.legs:
@@ -114,13 +117,14 @@ def leg_lines(options: ExplainOptions, found: Found, names: dict[str, str], leg:
         yield f"  wait {span(leg.begin - time - leg.change)}"
     trip, timetable = int(found.runs.trip[leg.run]), options.timetable
     route = timetable.routes[trip]
-    yield f"{options.clock(leg.begin)} route {names.get(route, shown(route))}, trip {shown(timetable.trips[trip])}"
+    name = names.get(route, display_text(route))
+    yield f"{options.clock(leg.begin)} route {name}, trip {display_text(timetable.trips[trip])}"
     yield f"  ride {span(leg.finish - leg.begin)}"
 
 
 def departure_lines(options: ExplainOptions, found: Sequence[Found]) -> Iterator[str]:
     """A line for each departure, with its durations; that of the journey above has a star."""
-    table = [["departure", *[shown(of.name) for of in found]]]
+    table = [["departure", *[display_text(of.name) for of in found]]]
     for place, departure in enumerate(options.departures):
         cells = []
         for of in found:

@@ -9,12 +9,13 @@ from typing import Any, BinaryIO, Iterator, Sequence
 import numpy as np
 import numpy.typing as npt
 
-from .. import progress
-from ..faults import BadInput, Lacking
+from ..core import progress
+from ..core.errors import InputError, MissingDependencyError
+from ..core.files import atomic_path
+from ..core.text import display_text
 from ..gtfs.stops import Stops
-from ..files import written_aside
 from ..matrices import Matrix, Seconds, Share, lacking
-from ..records import Numerals, Texts, field, fields_as_texts, joined, shown, texts_of, with_gaps
+from ..records import Numerals, Texts, field, fields_as_texts, joined, texts_of, with_gaps
 
 CELLS_AT_ONCE = 1_000_000
 MEDIAN = 50  # percent
@@ -52,7 +53,9 @@ def pieces_of(matrix: Matrix, choice: TableChoice) -> Iterator[TablePiece]:
         if choice.origins is not None:
             chosen = set(choice.origins)
             places = np.array([place for place, name in enumerate(names) if name in chosen], dtype=np.intp)
-        for begin in progress.shown(range(0, len(places), step), -(-len(places) // step), shown(scenario), "blocks"):
+        for begin in progress.track(
+            range(0, len(places), step), -(-len(places) // step), display_text(scenario), "blocks"
+        ):
             some = places[begin : begin + step]
             rows = [matrix.rows_at(scenario, share, some) for share in choice.shares]
             rows = rows if whole else [row[:, columns] for row in rows]
@@ -65,7 +68,7 @@ def origins_of(matrix: Matrix, scenario: str, shares: Sequence[Share]) -> list[s
     for share in shares[1:]:
         lost = lacking((f"share {shares[0]}", first), (f"share {share}", matrix.origins(scenario, share)))
         if lost:
-            raise BadInput(matrix.path, f"scenario {shown(scenario)}: {lost}")
+            raise InputError(matrix.path, f"scenario {display_text(scenario)}: {lost}")
     return first
 
 
@@ -185,13 +188,13 @@ def frame_of(matrix: Matrix, choice: TableChoice, piece: TablePiece, stops: Stop
     destination = np.tile(np.arange(len(choice.destinations)), len(piece.origins))
     tables = []
     for share, (_, times) in zip(choice.shares, groups_of(choice, piece)):
-        columns: dict[str, Any] = {} if choice.r5py else {"scenario": [shown(piece.scenario)] * len(origin)}
+        columns: dict[str, Any] = {} if choice.r5py else {"scenario": [display_text(piece.scenario)] * len(origin)}
         if matrix.layout.names_share and not choice.r5py:
             columns["share"] = share
         header = header_of(matrix, choice, None)
         ends = (origin, piece.origins), (destination, choice.destinations)
         for name, (codes, names) in zip(header[-len(times) - 2 :], ends):
-            columns[name] = pandas.Categorical.from_codes(codes, list(map(shown, names)))
+            columns[name] = pandas.Categorical.from_codes(codes, list(map(display_text, names)))
         for name, seconds in zip(header[-len(times) :], map(np.ravel, times)):
             columns[name] = np.round(seconds.astype(np.float64) / 60, 2) if choice.r5py else with_gaps(seconds)
         columns |= columns_of_places(stops, piece.origins, origin, "origin")
@@ -221,13 +224,13 @@ def write_parquet(path: str, frames: Iterator[Any]) -> None:
     except ImportError:
         write_by_fastparquet(path, frames)
         return
-    with written_aside(path) as aside:
+    with atomic_path(path) as aside:
         writer = None
         for table in (pyarrow.Table.from_pandas(frame, preserve_index=False) for frame in frames if len(frame)):
             writer = writer or pyarrow.parquet.ParquetWriter(str(aside), table.schema)
             writer.write_table(table.cast(writer.schema))
         if writer is None:
-            raise BadInput(path, "no rows to write")
+            raise InputError(path, "no rows to write")
         writer.close()
 
 
@@ -236,12 +239,12 @@ def write_by_fastparquet(path: str, frames: Iterator[Any]) -> None:
         import fastparquet
     except ImportError:
         what = "Parquet needs pyarrow or fastparquet, and neither is installed; a name that ends in .csv writes a CSV"
-        raise Lacking(f"{path}: {what}") from None
-    with written_aside(path) as aside:
+        raise MissingDependencyError(f"{path}: {what}") from None
+    with atomic_path(path) as aside:
         for number, frame in enumerate(frame for frame in frames if len(frame)):
             fastparquet.write(str(aside), frame, append=number > 0)
         if not aside.exists():
-            raise BadInput(path, "no rows to write")
+            raise InputError(path, "no rows to write")
 
 
 def frames_of(matrix: Matrix, choice: TableChoice, stops: Stops | None) -> Iterator[Any]:

@@ -5,11 +5,12 @@ from typing import Any
 
 import numpy as np
 
-from ..faults import BadInput, say
+from ..core.console import say
+from ..core.errors import InputError
+from ..core.text import display_text
 from ..gtfs.projection import Projection
 from ..gtfs.stops import Stops
 from ..matrices import Matrix
-from ..records import shown
 from . import drawing, pictures
 from .isochrone_map import BANDS, draw_bands
 from .isochrones import AreaGround, Walking
@@ -45,7 +46,7 @@ def picture_of(
 ) -> Picture:
     """What a map draws: times, access, nearest, or difference, of the nearest where it is named."""
     if origin is not None and origin not in stops.places:
-        raise BadInput(stops.path, f"no stop {origin}")
+        raise InputError(stops.path, f"no stop {origin}")
     if what is not None and kind == "nearest":
         picture = picture_of_nearest(matrix, options, what)
     elif what is not None:
@@ -66,7 +67,7 @@ def figure_of(picture: Picture, matrix: Matrix, stops: Stops, folder: str, sheet
     shown_stops = stops.of(picture.drawn or matrix.stops)
     lost = int((~shown_stops.placed).sum())
     if lost == len(shown_stops.identifiers):
-        raise BadInput(stops.path, "no stop has stop_lat and stop_lon, so there is nothing to draw")
+        raise InputError(stops.path, "no stop has stop_lat and stop_lon, so there is nothing to draw")
     if lost:
         say(f"{lost} {picture.what} have no stop_lat and stop_lon and are not drawn")
     projection = Projection(shown_stops.latitudes, shown_stops.longitudes)
@@ -104,7 +105,7 @@ def figure_of_isochrones(matrix: Matrix, stops: Stops, folder: str, sheet: Sheet
     bands = list(zip(limits, shapes))
     title = sheet.title or f"Areas reached from {stops.of([areas.origin]).name_of(areas.origin)}"
     subtitle = f"{bands[-1][1].area:,.1f} km² within {bands[-1][0]:g} minutes"
-    source, place = pictures.source_of(shown(scenario), share, matrix), there.places.get(areas.origin)
+    source, place = pictures.source_of(display_text(scenario), share, matrix), there.places.get(areas.origin)
     picture = Picture(title, subtitle, "Reached within", [], np.zeros(0, np.intp), source, place)
     lines, note = lines_below(folder, stops, ground.projection, sheet, None)
     return draw_bands(picture, ground, lines, note, sheet.width, bands)

@@ -5,12 +5,11 @@ from dataclasses import dataclass
 
 import numpy as np
 
-from ..faults import singular
-from ..gtfs.fields import Floats
+from ..core.arrays import Floats
+from ..core.text import display_text, singular
 from ..gtfs.stops import Stops
 from ..matrices import Matrix, Share, pair_of
 from ..measures.access import nearest
-from ..records import shown
 from . import pictures
 from .pictures import MINUTES, MINUTES_OF_DIFFERENCE, Picture, PictureOptions
 
@@ -27,7 +26,7 @@ class Nearest:
 
     def thing(self) -> str:
         """What is looked for, in the singular if it is one."""
-        return singular(shown(self.name)) if self.count == 1 else shown(self.name)
+        return singular(display_text(self.name)) if self.count == 1 else display_text(self.name)
 
     def seconds(self, matrix: Matrix, scenario: str, share: Share) -> Floats:
         """The time to it from each origin, NaN where fewer are reached."""
@@ -44,7 +43,7 @@ def picture_of_nearest(matrix: Matrix, options: PictureOptions, what: Nearest) -
     subtitle = f"{there.sum():,} of {len(there):,} {options.what} reach at least {what.count:g} {what.thing()}"
     if there.any():
         subtitle += f", half of these within {math.ceil(float(np.median(seconds[there])) / 60)} minutes"
-    title, source = f"Travel time to the {what.label()}", pictures.source_of(shown(scenario), share, matrix)
+    title, source = f"Travel time to the {what.label()}", pictures.source_of(display_text(scenario), share, matrix)
     picture = Picture(title, subtitle, pictures.KEY_OF_TIMES, marks, classes, source)
     return pictures.of_all(picture, matrix, matrix.origins(scenario, share), options)
 

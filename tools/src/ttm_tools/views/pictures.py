@@ -12,12 +12,11 @@ from typing import Any, Sequence
 import numpy as np
 import numpy.typing as npt
 
-from ..faults import counted
-from ..gtfs.fields import Floats
+from ..core.arrays import Floats
+from ..core.text import counted, display_text
 from ..gtfs.stops import Stops
 from ..matrices import Matrix, Pair, Share, pair_of
 from ..measures.comparison import sides_of
-from ..records import shown
 
 MINUTES = (10.0, 20.0, 30.0, 45.0, 60.0, 90.0)
 MINUTES_OF_DIFFERENCE = (1.0, 5.0, 15.0)
@@ -107,7 +106,7 @@ def picture_of_times(matrix: Matrix, stops: Stops, origin: str, options: Picture
     half = f", half of them within {math.ceil(float(np.median(seconds[there])) / 60)} minutes" if there.any() else ""
     others = len(seconds) - (origin in matrix.places)
     subtitle = f"{there.sum():,} of {others:,} other {options.what} are reached{half}"
-    title, source = f"Travel time from {stops.name_of(origin)}", source_of(shown(scenario), share, matrix)
+    title, source = f"Travel time from {stops.name_of(origin)}", source_of(display_text(scenario), share, matrix)
     return Picture(title, subtitle, KEY_OF_TIMES, marks, classes, source, matrix.places.get(origin))
 
 
@@ -174,7 +173,7 @@ def picture_of_access(matrix: Matrix, stops: Stops, options: PictureOptions) -> 
     subtitle = f"Half of {origins} reach at least {within_reach}; the most is {most:,}"
     title = f"Access from each {options.what[:-1]}: {options.unit}{within_stated(limit)}"
     key = f"{options.unit.capitalize()} reached{within_stated(limit)}".replace(" within", "\nwithin")
-    source = source_of(shown(scenario), share, matrix)
+    source = source_of(display_text(scenario), share, matrix)
     picture = Picture(title, subtitle, key, marks, classes, source)
     return of_all(picture, matrix, matrix.origins(scenario, share), options)
 
@@ -207,7 +206,7 @@ def counts_stated(classes: Classes, breaks: Sequence[float], labels: Sequence[st
 
 
 def beside(pair: Pair) -> str:
-    return f"{shown(pair.other)} compared with {shown(pair.base)}"
+    return f"{display_text(pair.other)} compared with {display_text(pair.base)}"
 
 
 def picture_of_time_difference(matrix: Matrix, stops: Stops, origin: str, options: PictureOptions) -> Picture:

@@ -5,13 +5,15 @@ from typing import Any, BinaryIO, Iterator, Mapping, Sequence
 
 import numpy as np
 
-from ..column_list import SERVICE, SERVICE_OF_STOPS, names_of
+from ..core.arrays import Whole
+from ..core.columns import SERVICE, SERVICE_OF_STOPS, names_of
+from ..core.text import display_text
+from ..gtfs.fields import clock
 from ..gtfs.stops import in_folder
-from ..measures.columns import header
-from ..measures.service import Period, ServiceRuns, Service, departures_by_stop, headway_stops, service_of
-from ..gtfs.fields import Whole, clock
-from ..records import rows, shown, write_rows
 from ..gtfs.timetable import Timetable
+from ..measures.columns import header
+from ..measures.service import Period, Service, ServiceRuns, departures_by_stop, headway_stops, service_of
+from ..records import rows, write_rows
 from .equity import significant
 from .journeys import routes_called
 
@@ -137,11 +139,11 @@ def costs_stated(day: Day) -> list[str]:
     whole = Period(min(period.start for period in day.periods), max(period.end for period in day.periods))
     every = {name: np.ones(len(runs.trip), dtype=np.bool_) for name, runs in day.running.items()}
     (base, first), *others = ((name, service_of(runs, every[name], whole, -1)) for name, runs in day.running.items())
-    lines = [f"{shown(base)}: {', '.join(f'{number} {what}' for what, number in numbers_of(first))}"]
+    lines = [f"{display_text(base)}: {', '.join(f'{number} {what}' for what, number in numbers_of(first))}"]
     for name, service in others:
         pairs = zip(numbers_of(first), numbers_of(service))
         parts = [f"{what} {before} to {after}" for (what, before), (_, after) in pairs]
-        lines.append(f"{shown(name)} compared with {shown(base)}: {', '.join(parts)}")
+        lines.append(f"{display_text(name)} compared with {display_text(base)}: {', '.join(parts)}")
     return lines
 
 

@@ -4,10 +4,10 @@ from typing import Any
 
 import numpy as np
 
-from ..faults import BadInput
+from ..core.errors import InputError
+from ..core.text import display_text
 from ..gtfs.projection import Projection
 from ..measures.service import Period, departures_by_piece
-from ..records import shown
 from .service import Day, period_shown
 from .texts import text_alone
 
@@ -24,7 +24,7 @@ def figure_of(day: Day, scenario: str, period: Period) -> Any:
 
     stops = day.timetable.all_stops.of(day.timetable.stops)
     if not stops.placed.any():
-        raise BadInput(stops.path, "no stop has stop_lat and stop_lon, so there is nothing to draw")
+        raise InputError(stops.path, "no stop has stop_lat and stop_lon, so there is nothing to draw")
     projection = Projection(stops.latitudes, stops.longitudes)
     ends = np.stack(projection.kilometres(stops.longitudes, stops.latitudes), axis=1)
     one, other, counts = departures_by_piece(day.running[scenario], period)
@@ -40,7 +40,7 @@ def figure_of(day: Day, scenario: str, period: Period) -> Any:
     axes.autoscale()
     axes.set_aspect("equal")
     axes.set_axis_off()
-    title = f"Vehicles an hour, both ways together: {shown(scenario)}, {period_shown(period)}"
+    title = f"Vehicles an hour, both ways together: {display_text(scenario)}, {period_shown(period)}"
     figure.text(MARGIN, 0.97, title, fontsize=13, fontweight="bold", va="top")
     labels = [f"less than {CLASSES[0]:g}", *(f"{low:g} to {high:g}" for low, high in zip(CLASSES, CLASSES[1:]))]
     labels.append(f"{CLASSES[-1]:g} and more")

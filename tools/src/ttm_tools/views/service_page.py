@@ -8,8 +8,8 @@ from typing import BinaryIO, Iterator
 
 import numpy as np
 
-from ..measures.service import ServiceRuns, Service
-from ..records import shown
+from ..core.text import display_text
+from ..measures.service import Service, ServiceRuns
 from .service import Day, Groups, ServiceLine, period_shown, stops_of, texts_of
 
 STYLE = """body{font-family:sans-serif;margin:1em;max-width:70em}table{border-collapse:collapse;margin:.5em 0}
@@ -37,8 +37,8 @@ def heading_of(key: tuple[str, str], groups: Groups) -> str:
     route, direction = key
     if not route:
         return "All routes"
-    name = groups.names.get(route, shown(route))
-    return f"Route {name}" + (f", direction {shown(direction)}" if direction else "")
+    name = groups.names.get(route, display_text(route))
+    return f"Route {name}" + (f", direction {display_text(direction)}" if direction else "")
 
 
 def hours_of(running: ServiceRuns, groups: Groups, place: int, stop: int) -> dict[int, list[int]]:
@@ -59,7 +59,7 @@ def section_of(
     yield f"<h2>{escape(heading)}</h2>\n<table><tr><th>Hour</th>"
     for name, (stop, _) in minutes.items():
         name_of_stop = all_stops.name_of(day.timetable.stops[stop]) if stop >= 0 else "no departures"
-        yield f"<th>{escape(shown(name))}: {escape(name_of_stop)}</th>"
+        yield f"<th>{escape(display_text(name))}: {escape(name_of_stop)}</th>"
     yield "</tr>\n"
     for hour in sorted({hour for _, by_hour in minutes.values() for hour in by_hour}):
         cells = [" ".join(f"{minute:02}" for minute in by_hour.get(hour, [])) for _, by_hour in minutes.values()]
@@ -68,5 +68,5 @@ def section_of(
     yield f"</table>\n<table><tr>{''.join(f'<th>{name}</th>' for name in names)}</tr>\n"
     for line in lines:
         numbers = "".join(f'<td class="n">{text}</td>' for text in texts_of(line.service))
-        yield f"<tr><td>{period_shown(line.period)}</td><td>{escape(shown(line.scenario))}</td>{numbers}</tr>\n"
+        yield f"<tr><td>{period_shown(line.period)}</td><td>{escape(display_text(line.scenario))}</td>{numbers}</tr>\n"
     yield "</table>\n"

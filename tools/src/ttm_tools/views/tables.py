@@ -2,8 +2,8 @@
 
 from typing import BinaryIO, Sequence
 
-from ..escaping import markdown
-from ..records import shown, write_rows
+from ..core.text import display_text, markdown
+from ..records import write_rows
 
 CSV, MARKDOWN = "csv", "markdown"
 WORDS = 5  # columns, which come first
@@ -15,7 +15,7 @@ def write_table(out: BinaryIO, header: Sequence[str], rows: Sequence[Sequence[ob
         write_rows(out, header, rows)
         return
     columns = [column.replace("_", " ") for column in header]
-    heads, *lines = [[markdown(shown(str(text))) for text in row] for row in (columns, *rows)]
+    heads, *lines = [[markdown(display_text(str(text))) for text in row] for row in (columns, *rows)]
     bars = ["---"] * WORDS + ["---:"] * (len(header) - WORDS)
     for cells in (heads, bars, *lines):
         out.write(f"| {' | '.join(cells)} |\n".encode("utf-8", "backslashreplace"))

@@ -9,12 +9,12 @@ from typing import Any, Sequence
 
 import numpy as np
 
-from ..gtfs.fields import Floats
+from ..core.arrays import Floats
+from ..core.text import display_text
 from ..gtfs.projection import Projection
 from ..gtfs.stops import Stops
 from ..measures.equity import TENTHS, mean, part
 from ..measures.opportunities import Counts
-from ..records import shown
 from .equity import COLOURS
 from .texts import figure_with, text_alone
 
@@ -70,7 +70,7 @@ def figure_by_time(
     """A panel for each group of people and each day: the mean over the group, and that of the tenth of it that has the
     least, along the hours. The panels of a group begin a row.
     """
-    days, names = days_of(columns), list(map(shown, groups.names))
+    days, names = days_of(columns), list(map(display_text, groups.names))
     across = min(ACROSS, len(days))
     of_a_group = math.ceil(len(days) / across)
     rows = of_a_group * len(names)
@@ -104,7 +104,7 @@ def draw_levels(axes: Any, columns: Sequence[WindowColumn], scenarios: Sequence[
     spans = np.array([column.span for column in columns])
     for (place, name), (row, style) in itertools.product(enumerate(scenarios), enumerate(("solid", "dashed"))):
         found = np.array([levels(column.numbers[place], people)[row] for column in columns])
-        label = shown(name) + (", tenth with the least" if row else "")
+        label = display_text(name) + (", tenth with the least" if row else "")
         how: dict[str, Any] = {"color": COLOURS[place % len(COLOURS)], "linestyle": style}
         axes.plot(spans.mean(axis=1), found, linewidth=0.8, label=label, **how)
         axes.hlines(found, spans[:, 0], spans[:, 1], colors=how["color"], linewidth=3.0, alpha=0.5 if row else 1.0)

@@ -1,6 +1,7 @@
 """Walks between the stops of a feed, or places among them: straight lines, and ways along streets."""
 
-from ..faults import needs, quantity
+from ..core.errors import needs
+from ..core.text import quantity
 from ..gtfs.stops import Stops
 from ..records import Rounded
 from .straight import Pace, Walks, distances, points_of, read_walks, straight_walks

@@ -3,16 +3,16 @@
 import numpy as np
 import numpy.typing as npt
 
-from ..faults import BadInput
+from ..core.arrays import Floats
+from ..core.errors import InputError
 from ..gtfs.columns import begins_run
-from ..gtfs.fields import Floats
 
 Places = npt.NDArray[np.int64]
 MOST_PAIRS = 4_000_000  # walks that `ttm` takes
 Ways = tuple[Places, Places, Floats]  # from where, to where, metres
 
 
-class TooManyWalks(BadInput):
+class TooManyWalks(InputError):
     """More walks than `ttm` takes."""
 
 

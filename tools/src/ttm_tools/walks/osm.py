@@ -13,9 +13,9 @@ from typing import Any, Mapping
 import numpy as np
 import numpy.typing as npt
 
-from ..faults import BadInput, needs
+from ..core.arrays import Floats
+from ..core.errors import InputError, needs
 from ..gtfs.columns import begins_run
-from ..gtfs.fields import Floats
 from ..opening.paths import as_one_line, regular
 
 Flags = npt.NDArray[np.bool_]
@@ -142,5 +142,5 @@ def read_streets(path: str) -> Streets:
         osmium.make_simple_handler(way=collector.take).apply_file(path, locations=True)
     found = collector.streets(path)
     if not len(found.begin):
-        raise BadInput(path, "no way that may be walked")
+        raise InputError(path, "no way that may be walked")
     return found

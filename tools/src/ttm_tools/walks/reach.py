@@ -6,7 +6,7 @@ from typing import Any, Callable
 
 import numpy as np
 
-from ..gtfs.fields import Floats
+from ..core.arrays import Floats
 from .counting import Places
 from .osm import Streets
 from .straight import Pace, points_of

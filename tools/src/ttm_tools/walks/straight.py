@@ -13,12 +13,13 @@ from typing import Iterator
 import numpy as np
 import numpy.typing as npt
 
-from ..faults import BadInput
+from ..core.arrays import Floats
+from ..core.errors import InputError
+from ..core.text import display_text
 from ..gtfs.columns import coded
-from ..gtfs.fields import Floats
 from ..gtfs.stops import EARTH, Stops
-from ..records import Rounded, rows, shown
-from .counting import WaysFound, Places, Ways
+from ..records import Rounded, rows
+from .counting import Places, Ways, WaysFound
 
 SIDE = 1 << 21  # cubes along an axis
 ROUND = [(x * SIDE + y) * SIDE + z for x, y, z in itertools.product((-1, 0, 1), repeat=3)]  # to those that touch a cube
@@ -222,6 +223,8 @@ def read_walks(path: str, stops: Stops, rounded: Rounded) -> list[tuple[str, str
     for number, (a, b, seconds) in rows(path, ["from_stop_id", "to_stop_id", "seconds"]):
         for column, stop in (("from_stop_id", a), ("to_stop_id", b)):
             if stop not in stops.places:
-                raise BadInput(path, f"is not a stop of {stops.path}", record=number, column=column, value=shown(stop))
+                raise InputError(
+                    path, f"is not a stop of {stops.path}", record=number, column=column, value=display_text(stop)
+                )
         found.append((a, b, rounded.whole(seconds, path, number, "seconds", up=True)))
     return found

@@ -11,8 +11,8 @@ from typing import Any
 
 import numpy as np
 
+from ..core.arrays import Floats
 from ..gtfs.columns import begins_run
-from ..gtfs.fields import Floats
 from .counting import Places, least
 from .osm import Streets
 from .straight import Pace, distances, points_of, ranges

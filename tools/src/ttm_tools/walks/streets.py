@@ -14,10 +14,10 @@ from typing import Iterator
 
 import numpy as np
 
-from .. import progress
-from ..gtfs.fields import Floats
+from ..core import progress
+from ..core.arrays import Floats
 from ..gtfs.stops import Stops
-from .counting import WaysFound, Places, Ways
+from .counting import Places, Ways, WaysFound
 from .osm import Flags, Streets
 from .straight import Entrances, Pace, Walks, cubes_of, doors_of, entrances_of, inside_ways, points_of
 from .street_graph import Graph, Snaps, build_graph, snap, subgraph
@@ -68,7 +68,7 @@ def shortest_paths(graph: Graph, first: int, connectors: Floats, limit: float, o
     origins = origins[np.argsort(cubes.key[origins], kind="stable")]
     keys, counts = np.unique(cubes.key[origins], return_counts=True)
     groups = np.split(origins, np.cumsum(counts)[:-1]) if len(keys) else []
-    for key, group in progress.shown(zip(keys.tolist(), groups), len(keys), "streets", "cubes"):
+    for key, group in progress.track(zip(keys.tolist(), groups), len(keys), "streets", "cubes"):
         # The box around the group's own origins is often much smaller than the 27 cubes.
         nodes = cubes.around(key)
         low, high = graph.positions[group].min(axis=0) - limit, graph.positions[group].max(axis=0) + limit

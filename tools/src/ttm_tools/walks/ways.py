@@ -7,7 +7,7 @@ from typing import Any
 import numpy as np
 import numpy.typing as npt
 
-from ..gtfs.fields import Floats
+from ..core.arrays import Floats
 from .osm import Streets
 from .straight import Pace, points_of
 from .street_graph import Snaps, build_graph, interpolate, snap

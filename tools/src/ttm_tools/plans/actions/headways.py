@@ -6,13 +6,14 @@ from typing import Iterator, Mapping, Sequence
 
 import numpy as np
 
-from ...faults import quantity
-from ...gtfs.fields import Mask, clock
+from ...core.arrays import Mask
+from ...core.text import quantity
+from ...gtfs.fields import clock
+from ...opening.kinds import TIME, whole
+from ...opening.toml_file import Entry
 from ..base import Headway
 from ..choice import chosen, directions_of, pattern_of, stop_shown
 from ..days import runs_of, service_of, service_on
-from ...opening.kinds import TIME, whole
-from ...opening.toml_file import Entry
 from ..state import State, Trip, in_range
 from .lines import EVERY, refuse_many
 

@@ -5,15 +5,15 @@ from fractions import Fraction
 
 import numpy as np
 
-from ...faults import quantity
-from ...gtfs.fields import Whole, clock
+from ...core.arrays import Whole
+from ...core.text import display_text, quantity
+from ...gtfs.fields import clock
 from ...gtfs.projection import metres_between
-from ...records import shown
+from ...opening.kinds import FLAG, TIME, decimal, whole, wholes
+from ...opening.toml_file import Entry
 from ..base import NO_ROW
 from ..choice import chosen, stop_named, stop_shown, stops_named
 from ..days import service_named
-from ...opening.kinds import FLAG, TIME, decimal, whole, wholes
-from ...opening.toml_file import Entry
 from ..new_records import ROUTE_TYPE
 from ..state import State, Trip, in_range
 
@@ -49,7 +49,7 @@ def add_line(state: State, entry: Entry) -> list[str]:
     length = int(run.sum()) + dwell * (len(way) - 2)
     departures = f"{quantity(len(times), 'departure')} from each end"
     sentence = f"route {route}: {quantity(len(way), 'stop')} in {clock(length)}; {departures}"
-    return [sentence, *([f"route {route}: agency {shown(agency)}"] if agency else [])]
+    return [sentence, *([f"route {route}: agency {display_text(agency)}"] if agency else [])]
 
 
 def times_of(time: int, run: Whole, dwell: int) -> tuple[Whole, Whole]:

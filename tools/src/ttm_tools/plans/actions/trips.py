@@ -4,12 +4,12 @@ from dataclasses import replace
 
 import numpy as np
 
-from ..base import NO_ROW
-from ..choice import chosen, routes_of, stop_named, stops_named, stop_shown
-from ...faults import quantity
-from ...gtfs.fields import Mask, Whole
+from ...core.arrays import Mask, Whole
+from ...core.text import quantity
 from ...opening.kinds import LAST_TIME, near, whole
 from ...opening.toml_file import Entry
+from ..base import NO_ROW
+from ..choice import chosen, routes_of, stop_named, stop_shown, stops_named
 from ..state import State, Trip, in_range
 from .lines import run_times
 

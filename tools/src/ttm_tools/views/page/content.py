@@ -7,14 +7,14 @@ from typing import Any, Sequence
 import numpy as np
 import numpy.typing as npt
 
-from ... import progress
-from ...faults import BadInput
-from ...gtfs.fields import Floats
+from ...core import progress
+from ...core.arrays import Floats
+from ...core.errors import InputError
+from ...core.text import display_text
 from ...gtfs.stops import Stops
 from ...matrices import Matrix, Share, lacking
-from ...measures.access import STEP, Decay, times_to
+from ...measures.access import Decay, STEP, times_to
 from ...measures.opportunities import Counts, read_counts
-from ...records import shown
 from .parts import Bytes, minutes_of
 from .places import in_order
 from .settings import PageSettings
@@ -76,7 +76,7 @@ def origins_of(matrix: Matrix, options: PageOptions) -> list[str]:
     for scenario, share in itertools.product(options.scenarios, options.shares):
         lost = lacking((base, first), (scenario, matrix.origins(scenario, share)))
         if lost is not None:
-            raise BadInput(matrix.path, lost)
+            raise InputError(matrix.path, lost)
     return first
 
 
@@ -87,7 +87,7 @@ def ground_of(matrix: Matrix, stops: Stops, options: PageOptions) -> Ground:
     columns = [name for name in places.identifiers if name in matrix.places]
     starts = [name for name in places.identifiers if name in among]
     if np.isnan(places.latitudes).all():
-        raise BadInput(stops.path, f"none of the {options.what} has coordinates, so there is nothing to show")
+        raise InputError(stops.path, f"none of the {options.what} has coordinates, so there is nothing to show")
     wanted = set(starts if options.origins is None else options.origins)
     rows = [name for name in starts if name in wanted]
     room = options.most_cells // max(1, len(columns) * len(options.scenarios) * len(options.shares))
@@ -103,8 +103,8 @@ def counts_of(known: Sequence[str], options: PageOptions) -> tuple[Counts, int]:
     found = [read_counts(paths, known, "stop of the matrix") for paths in (settings.opportunities, settings.people)]
     both = [name for name in found[1].names if name in found[0].names]
     if both:
-        raise BadInput(", ".join(settings.people), f"a column {shown(both[0])} is among the opportunities too")
-    names = [shown(name) for counts in found for name in counts.names]
+        raise InputError(", ".join(settings.people), f"a column {display_text(both[0])} is among the opportunities too")
+    names = [display_text(name) for counts in found for name in counts.names]
     return Counts(names, np.concatenate([counts.numbers for counts in found], axis=1)), len(found[1].names)
 
 
@@ -156,7 +156,7 @@ class Reading:
         sums = [self.sums(np.zeros((0, len(matrix.stops)), np.float32))]  # of all origins of the matrix
         origins = {name: number for number, name in enumerate(matrix.origins(scenario, share))}
         count = -(-len(origins) // matrix.rows_at_once())
-        for block in progress.shown(matrix.blocks(scenario, share), count, f"{scenario} {share or ''}", "blocks"):
+        for block in progress.track(matrix.blocks(scenario, share), count, f"{scenario} {share or ''}", "blocks"):
             sums.append(self.sums(block.seconds))
             taken = np.array([place for place, name in enumerate(block.origins) if name in rows], dtype=np.intp)
             cells[[rows[block.origins[place]] for place in taken]] = minutes_of(block.seconds[taken][:, columns])

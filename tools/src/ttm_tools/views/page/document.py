@@ -14,9 +14,9 @@ from urllib.parse import urlsplit
 
 import numpy as np
 
-from ...faults import Lacking
+from ...core.errors import MissingDependencyError
+from ...core.text import display_text
 from ...matrices import Share
-from ...records import shown
 from .content import Content
 from .lines import Lines
 from .parts import Element, blocks_of, part, rows_in_block
@@ -56,7 +56,7 @@ def leaflet_files(folder: str) -> tuple[str, str]:
     for name in ("leaflet.min.js", "leaflet.css"):
         path = Path(folder) / name
         if not path.is_file():
-            raise Lacking(f"no {path}, which the page needs: apt-get install libjs-leaflet")
+            raise MissingDependencyError(f"no {path}, which the page needs: apt-get install libjs-leaflet")
         found.append(path.read_text(encoding="utf-8"))
     return found[0], found[1]
 
@@ -90,13 +90,13 @@ def head_of(content: Content, lines: Lines, frame: Frame) -> dict[str, Any]:
     ground, names = content.ground, content.counts.names
     return {
         "title": frame.title,
-        "scenarios": [shown(name) for name in frame.scenarios],
+        "scenarios": [display_text(name) for name in frame.scenarios],
         "shares": frame.shares,
         "minutes": frame.minutes,
         "walk": frame.walk,
         "pace": frame.pace,
         "streets": {"speed": frame.streets.speed, "aside": ASIDE} if frame.streets else None,
-        "identifiers": [shown(name) for name in ground.places.identifiers],
+        "identifiers": [display_text(name) for name in ground.places.identifiers],
         "names": ground.places.names,
         "columns": len(ground.columns),
         "origins": len(ground.origins),

@@ -8,12 +8,12 @@ from typing import Sequence
 import numpy as np
 import numpy.typing as npt
 
-from ...faults import BadInput
+from ...core.errors import InputError
+from ...core.text import display_text
 from ...gtfs.lines import GRID, Trips, lines_of, pieces, read_trips, removed_trips
 from ...gtfs.projection import Projection
 from ...gtfs.stops import Stops, has_file
 from ...matrices import TODAY
-from ...records import shown
 from .places import MICRO
 
 OnGrid = npt.NDArray[np.int32]  # x, y of both ends, on the grid
@@ -89,7 +89,9 @@ def scenario_files(folder: str, scenarios: Sequence[str], edits: Sequence[str]) 
     for path in edits:
         name = name_of(path)
         if name not in scenarios:
-            raise BadInput(path, f"no scenario {shown(name)} on the page; it has {', '.join(map(shown, scenarios))}")
+            raise InputError(
+                path, f"no scenario {display_text(name)} on the page; it has {', '.join(map(display_text, scenarios))}"
+            )
         files[name] = path
     return files
 

@@ -5,14 +5,15 @@ import os
 from dataclasses import dataclass, replace
 from typing import BinaryIO
 
-from ...faults import BadInput, quantity, say
+from ...core.console import say
+from ...core.errors import InputError
+from ...core.text import display_text, quantity
 from ...gtfs.stops import read_list
 from ...matrices import Matrix, Share
-from ...points.shown import points_in, shown_of
-from ...records import shown
+from ...points.shown import points_in, select_points
 from ...walks import Pace
 from . import sources
-from .content import MOST_CELLS, Content, Ground, PageOptions, content_of, origins_of
+from .content import Content, Ground, MOST_CELLS, PageOptions, content_of, origins_of
 from .document import Frame, write_page
 from .lines import Lines, page_lines, scenario_files
 from .settings import PageSettings
@@ -43,12 +44,14 @@ def options_of(matrix: Matrix, what: str, settings: PageSettings) -> PageOptions
     named = read_list(settings.origins, origins_of(matrix, options), "origin")
     cells = len(named) * len(matrix.stops) * len(scenarios) * len(shares)
     if cells > MOST_CELLS:
-        raise BadInput(settings.origins, f"travel times from its stops are {cells:,}, and a page takes {MOST_CELLS:,}")
+        raise InputError(
+            settings.origins, f"travel times from its stops are {cells:,}, and a page takes {MOST_CELLS:,}"
+        )
     return replace(options, origins=named)
 
 
 def page_of(matrix: Matrix, settings: PageSettings) -> Page:
-    chosen, stops = shown_of(matrix, settings.feed, settings.points)
+    chosen, stops = select_points(matrix, settings.feed, settings.points)
     assert stops is not None  # there is a feed
     options = options_of(chosen, "stops" if chosen is matrix else "points", settings)
     content = content_of(matrix, chosen, stops, options)
@@ -73,7 +76,7 @@ def with_streets(frame: Frame, ground: Ground, settings: PageSettings) -> Frame:
 def frame_of(matrix: Matrix, content: Content, options: PageOptions, settings: PageSettings) -> Frame:
     """What stands around the numbers."""
     arguments = sources.RunArguments(settings.arguments or "")
-    name = shown(os.path.basename(os.path.abspath(settings.feed)))
+    name = display_text(os.path.basename(os.path.abspath(settings.feed)))
     most = matrix.greatest_stated
     end = f" {most[0].upper()}{most[1:]}." if most else ""  # if travel times have a maximum
     files = {

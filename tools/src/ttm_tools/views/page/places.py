@@ -3,7 +3,7 @@
 import numpy as np
 import numpy.typing as npt
 
-from ...gtfs.fields import Floats
+from ...core.arrays import Floats
 from ...gtfs.stops import Stops
 
 MICRO = 1_000_000  # of a degree

@@ -7,10 +7,10 @@ from pathlib import Path
 from typing import Mapping, Sequence
 
 from ... import __version__
-from ...faults import WrongWords
-from ...files import sum_of
+from ...core.errors import ArgumentError
+from ...core.files import sha256_of_file
+from ...core.text import display_text
 from ...matrices import Share
-from ...records import shown
 
 FEED = "stops routes trips stop_times calendar calendar_dates frequencies transfers shapes".split()
 
@@ -26,7 +26,7 @@ class RunArguments:
         try:
             texts = shlex.split(self.text)
         except ValueError as fault:
-            raise WrongWords(f"--words {self.text!r}: {fault}") from None
+            raise ArgumentError(f"--words {self.text!r}: {fault}") from None
         for place, word in enumerate(texts):
             if word.startswith(f"{name}="):
                 return word.partition("=")[2]
@@ -59,7 +59,7 @@ def meaning(share: Share, arguments: RunArguments) -> str:
 def table(names: Mapping[str, Sequence[str]], feed: str, arguments: RunArguments) -> list[tuple[str, str]]:
     """Where the page comes from, as lines of a table: feed, day, words of the run, and the sums of all files."""
     rows = [
-        ("Feed", shown(os.path.basename(os.path.abspath(feed)))),
+        ("Feed", display_text(os.path.basename(os.path.abspath(feed)))),
         ("Date", arguments.date or "not stated"),
         ("Departures", arguments.window or "not stated"),
         ("Arguments of the run", arguments.text or "not stated"),
@@ -67,5 +67,7 @@ def table(names: Mapping[str, Sequence[str]], feed: str, arguments: RunArguments
     ]
     of_feed = [str(path) for path in (Path(feed) / f"{name}.txt" for name in FEED) if path.is_file()]
     for kind, paths in [*names.items(), ("Feed", of_feed)]:
-        rows += [(f"{kind}: {shown(os.path.basename(path))}", f"SHA-256 {sum_of(path)}") for path in paths]
+        rows += [
+            (f"{kind}: {display_text(os.path.basename(path))}", f"SHA-256 {sha256_of_file(path)}") for path in paths
+        ]
     return rows

@@ -1,4 +1,4 @@
-"""Locks of outputs: one process at a time writes a file or folder, of all machines that share the disk."""
+"""Locks: one process at a time writes an output, among all machines that share the disk."""
 
 import contextlib
 import errno
@@ -8,22 +8,28 @@ import threading
 from pathlib import Path
 from typing import Iterator
 
-from .faults import BadInput
+from .errors import InputError
 
 BUSY = (errno.EWOULDBLOCK, errno.EACCES)
-_own: set[Path] = set()  # what this process has locked
-_changing = threading.Lock()  # of `_own`
+_own: set[Path] = set()  # paths that this process has locked
+_changing = threading.Lock()  # guards `_own`
 
 
 def lock_file(path: Path, name: str) -> Path:
-    """The file whose lock stands for that of `path`, next to it; `name` is that of `path`, shortened if it is long."""
+    """Return the lock file of `path`, next to it; `name` is the name of `path`, shortened if it is long."""
     return path.with_name(f".part.lock.{name}")
 
 
 @contextlib.contextmanager
 def locked(path: Path, lock: Path, waits: bool = False) -> Iterator[bool]:
-    """Locks `path` by its lock file while the block runs, and yields whether it is locked: some disks have no locks. If
-    another process has the lock, waits for it or raises `BadInput`. Blocks of one process may be nested.
+    """Lock `path` while the block runs, and yield whether it is locked: some disks support no locks.
+
+    Blocks of one process may be nested.
+
+    Raises
+    ------
+    InputError
+        Another process has the lock, and `waits` is false.
     """
     with _changing:
         nested = path in _own
@@ -43,12 +49,12 @@ def locked(path: Path, lock: Path, waits: bool = False) -> Iterator[bool]:
 
 
 def acquired(path: Path, lock: Path, waits: bool) -> int | None:
-    """An open file that has the lock; None if the disk has no locks, or the folder takes no file."""
+    """Return an open file that holds the lock; None if the disk has no locks, or no file can be created."""
     while True:
         try:
             handle = os.open(lock, os.O_RDWR | os.O_CREAT | os.O_CLOEXEC | os.O_NOFOLLOW, 0o666)
         except OSError:
-            return None  # what is written next reports it
+            return None  # the caller writes next, and gets the same error
         try:
             fcntl.flock(handle, fcntl.LOCK_EX if waits else fcntl.LOCK_EX | fcntl.LOCK_NB)
             with contextlib.suppress(OSError):
@@ -57,15 +63,15 @@ def acquired(path: Path, lock: Path, waits: bool) -> int | None:
         except OSError as fault:
             os.close(handle)
             if fault.errno in BUSY:
-                raise BadInput(path, "another command writes it at the moment") from None
+                raise InputError(path, "another command writes it at the moment") from None
             with contextlib.suppress(OSError):
                 os.unlink(lock)
             return None
-        os.close(handle)  # the process that had it has removed the file: the next one gets another file
+        os.close(handle)  # the previous holder removed this file while we waited: try again with the new one
 
 
 def is_locked(lock: Path) -> bool:
-    """Whether a process has the lock of this file, or may have it."""
+    """Return whether a process holds a lock file, or may hold it."""
     try:
         handle = os.open(lock, os.O_RDWR | os.O_CLOEXEC | os.O_NOFOLLOW)
     except FileNotFoundError:

@@ -1,4 +1,4 @@
-"""A bar of progress on a terminal, for work over some seconds; elsewhere, and without tqdm, nothing is shown."""
+"""Progress bars."""
 
 import importlib.util
 import sys
@@ -7,8 +7,11 @@ from typing import Iterable, Iterator, TypeVar
 Item = TypeVar("Item")
 
 
-def shown(items: Iterable[Item], total: int, what: str, unit: str) -> Iterator[Item]:
-    """The items as they are, with a bar from the second second on."""
+def track(items: Iterable[Item], total: int, what: str, unit: str) -> Iterator[Item]:
+    """Yield the items, with a progress bar on a terminal after the first second.
+
+    Nothing is shown if standard error is not a terminal, or tqdm is not installed.
+    """
     if not sys.stderr.isatty() or importlib.util.find_spec("tqdm") is None:
         yield from items
         return

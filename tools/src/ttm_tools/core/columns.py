@@ -1,5 +1,7 @@
-"""The tables that commands print in addition to those of `Equity`, `Nearness` and `Service`: the columns of each in
-their order, each one entry with what it is. Headers and the tables of docs/reference/measures.md come from them.
+"""Columns of the tables that commands print, in order, with their descriptions.
+
+Headers of tables come from here, and so do the lists in docs/reference/measures.md. The columns of `Equity`, `Nearness`
+and `Service` are fields of these classes.
 """
 
 import itertools
@@ -9,7 +11,7 @@ from typing import Iterable, Sequence
 
 @dataclass(frozen=True)
 class TableColumn:
-    """A column of a table whose lines no measure gives: what it is, with its unit, unless its name says so."""
+    """A column, its description with the unit (none if the name says enough), and the source of its definition."""
 
     name: str
     what: str = ""
@@ -17,12 +19,12 @@ class TableColumn:
 
 
 def named(*names: str, what: str = "") -> tuple[TableColumn, ...]:
-    """Columns that are explained together."""
+    """Return columns that share a description."""
     return tuple(TableColumn(name, what) for name in names)
 
 
 def names_of(columns: Iterable[TableColumn]) -> list[str]:
-    """The header of a table of these columns."""
+    """Return the header of a table."""
     return [column.name for column in columns]
 
 
@@ -40,8 +42,8 @@ BY_ORIGIN = (
     *named("percent", what="the same in percent of before"),
     *named("cut_off", "slower", "new", "faster", what="number of such destinations"),
 )
-OF_PEOPLE = named("opportunity", "percentile", "cutoff", "group", "scenario")  # before the columns of a measure
-OF_PEOPLE_NEAREST = named("opportunity", "percentile", "nearest", "group", "scenario")  # of times to the nearest
+OF_PEOPLE = named("opportunity", "percentile", "cutoff", "group", "scenario")  # followed by the columns of a measure
+OF_PEOPLE_NEAREST = named("opportunity", "percentile", "nearest", "group", "scenario")  # for times to the nearest opportunities
 LIMIT = "the limit: opportunities, or minutes to the nearest"
 OF_BAND = named("people", "percent", what="those of the group within it")
 BANDS = (*OF_PEOPLE, *named("at_least", what=LIMIT), *OF_BAND)
@@ -55,20 +57,20 @@ JOURNEYS = (
     *named("walk_seconds", "egress_seconds", what=ON_FOOT),
     *named("rides", "routes", "trips"),
 )
-SERVICE = named("scenario", "route", "route_name", "direction", "period")  # before the columns of `Service`
+SERVICE = named("scenario", "route", "route_name", "direction", "period")  # followed by the columns of `Service`
 SERVICE_OF_STOPS = named("scenario", "stop_id", "stop_name", "period", "departures", "departures_an_hour")
 REPAIRS = named("file", "record", "column", "value", "rule", "done")
 ERRORS = named("file", "record", "column", "value", "fault", "allowed")
 ACCESS = named("id", "opportunity", "percentile", "cutoff", "accessibility")
 NEAREST = named("id", "opportunity", "percentile", "nearest", "seconds")
-WINDOWS = named("date", "window", "from", "to")  # before the columns of a study's tables by window
-WINDOW_CHANGES = (  # behind them, of who loses and who gains access by window
+WINDOWS = named("date", "window", "from", "to")  # first columns of a study's tables by window
+WINDOW_CHANGES = (  # after WINDOWS, in the table of changes of access
     *named("scenario", "opportunity", "percentile", "cutoff"),
     *named("lose", "cut_off", "gain", "newly_reached", what="number of origins"),
     *named("group"),
     *named("mean_change", what="mean change of access of the group, after minus before"),
 )
-EXPLAINED = {  # by their commands: a table of docs/reference/measures.md for each
+EXPLAINED = {  # by command; docs/reference/measures.md has a table for each
     "compare": (*BY_PAIR, *BY_ORIGIN),
     "bands": (*BANDS[:-2], *BANDS_OF_NEAREST),
     "explain": JOURNEYS,
@@ -76,12 +78,12 @@ EXPLAINED = {  # by their commands: a table of docs/reference/measures.md for ea
 
 
 def compared(by_pair: bool, has_names: bool) -> list[str]:
-    """The header of a table of `compare`; names of stops come from a feed."""
+    """Return the header of a table of `compare`; without a feed there are no names of stops."""
     return [name for name in names_of(BY_PAIR if by_pair else BY_ORIGIN) if has_names or not name.endswith("_name")]
 
 
 def explained(columns: Iterable[TableColumn]) -> str:
-    """The columns that are explained, as docs/reference/measures.md lists them: those of one explanation in one row."""
+    """Return a Markdown table of the columns that have a description, one row for each description."""
     each_once = dict.fromkeys(own for own in columns if own.what)
     grouped = itertools.groupby(each_once, lambda own: (own.what, own.source))
     listed = [(what, source, names_of(some)) for (what, source), some in grouped]
@@ -91,6 +93,6 @@ def explained(columns: Iterable[TableColumn]) -> str:
 
 
 def table(heads: Sequence[str], rows: Iterable[Sequence[str]]) -> str:
-    """A table of Markdown."""
+    """Return a Markdown table."""
     lines = ["".join(f"| {cell} " if cell else "| " for cell in row[: len(heads)]) + "|" for row in [heads, *rows]]
     return "\n".join([lines[0], "|---" * len(heads) + "|", *lines[1:]])

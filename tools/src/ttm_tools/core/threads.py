@@ -1,4 +1,4 @@
-"""Work by several threads: for what leaves Python free while it goes on, as sums and compression do."""
+"""Threads for work that releases the interpreter lock, such as checksums and compression."""
 
 import os
 from collections import deque
@@ -8,16 +8,16 @@ from typing import Callable, Iterable, Iterator, TypeVar
 
 Item = TypeVar("Item")
 Made = TypeVar("Made")
-AHEAD = 2  # pieces of each thread that are computed, or being computed, before they are needed
+AHEAD = 2  # results per thread that may wait for the consumer; more would only take memory
 
 
 def processors() -> int:
-    """How many this process may take."""
+    """Return the number of processors that this process may use."""
     return len(os.sched_getaffinity(0))
 
 
-def in_order(work: Callable[[Item], Made], items: Iterable[Item], threads: int) -> Iterator[Made]:
-    """What is made of each item, in their order; only few are ahead, so that they take little memory."""
+def map_in_order(work: Callable[[Item], Made], items: Iterable[Item], threads: int) -> Iterator[Made]:
+    """Yield `work(item)` for each item, in their order, computed a few items ahead by several threads."""
     coming = iter(items)
     with ThreadPoolExecutor(threads) as pool:
         begun = deque(pool.submit(work, item) for item in islice(coming, AHEAD * threads))

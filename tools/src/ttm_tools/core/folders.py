@@ -1,4 +1,4 @@
-"""Folders that no other process gets: temporary ones, and new ones by the next number."""
+"""Folders that no other process uses: temporary folders, and numbered ones."""
 
 import contextlib
 import errno
@@ -13,14 +13,16 @@ from typing import Iterator
 from .files import remove, writing_to
 from .locks import is_locked, locked
 
-TAKEN = (errno.ENOTEMPTY, errno.EEXIST, errno.ENOTDIR)  # a name that another process has got meanwhile
-LOCK = "lock"  # of a temporary folder
+TAKEN = (errno.ENOTEMPTY, errno.EEXIST, errno.ENOTDIR)  # another process was first
+LOCK = "lock"  # lock file of a temporary folder
 
 
 @contextlib.contextmanager
 def scratch(what: str) -> Iterator[Path]:
-    """A temporary folder of this process, which is locked as long as it exists. Those of this user that nobody has
-    locked, since a run was killed, are removed: processes of other machines may have theirs in the same place.
+    """Yield a temporary folder, locked as long as it exists.
+
+    Unlocked ones of this user are removed first: a killed run left them. The lock also protects folders of other
+    machines that share the disk.
     """
     for other in Path(tempfile.gettempdir()).glob("ttm-tools-*"):
         with contextlib.suppress(OSError):
@@ -36,7 +38,7 @@ def scratch(what: str) -> Iterator[Path]:
 
 @dataclass
 class NewFolder:
-    """A folder that is being written: where its files are until it is complete, and its name afterwards."""
+    """A folder that is being written: its temporary name, and its final one once it is complete."""
 
     aside: Path
     folder: Path
@@ -44,8 +46,9 @@ class NewFolder:
 
 @contextlib.contextmanager
 def numbered_folder(parent: str | Path) -> Iterator[NewFolder]:
-    """Yields a new folder inside `parent`. When the block ends well, it is named by the first free number from 1 on;
-    when several threads, processes or hosts do so at once, each gets a number of its own.
+    """Yield a new folder inside `parent`; when the block ends well, its name becomes the first free number from 1 on.
+
+    Several threads, processes and hosts may do so at once; each gets a number of its own.
     """
     out = Path(parent)
     out.mkdir(parents=True, exist_ok=True)
@@ -61,7 +64,7 @@ def numbered_folder(parent: str | Path) -> Iterator[NewFolder]:
 
 
 def rename_to_free_number(aside: Path, out: Path) -> Path:
-    """Renames a folder that isn't empty. The system refuses to replace another folder that isn't, or a file."""
+    """Rename a folder that is not empty, relying on the system to refuse a name that is taken."""
     for number in itertools.count(1):
         folder = out / str(number)
         if not os.path.lexists(folder):

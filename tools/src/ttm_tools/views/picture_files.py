@@ -1,29 +1,29 @@
-"""Files of pictures: PNG, or SVG or PDF if their names say so."""
+"""Picture files: SVG or PDF if their names end so, else PNG."""
 
 import argparse
 from pathlib import Path
 from typing import Any
 
-from .files import output
+from ..core.files import output
 
-UNDATED = {"svg": {"Date": None}, "pdf": {"CreationDate": None}}  # so that the same figure has the same bytes
-OTHERS = ("jpg", "jpeg", "tif", "tiff", "webp", "eps", "ps", "gif", "bmp", "svgz")  # kinds that are not written
+UNDATED = {"svg": {"Date": None}, "pdf": {"CreationDate": None}}  # a date would make each file different
+OTHERS = ("jpg", "jpeg", "tif", "tiff", "webp", "eps", "ps", "gif", "bmp", "svgz")  # formats that are refused
 
 
 def kind_of(path: str) -> str:
-    """The end of a name, in small letters, without its point."""
+    """Return the extension of a file name in lower case, without the dot."""
     return Path(path).suffix.lower()[1:]
 
 
 def picture_name(path: str) -> str:
-    """The name of a picture, as an option has it. One that ends as no kind of picture is that of a PNG file."""
+    """Check the name of a picture, as an argparse type. Without a known extension the picture is a PNG file."""
     if kind_of(path) in OTHERS:
         raise argparse.ArgumentTypeError(f"{path!r} is not the name of a picture: .png, .svg or .pdf")
     return path
 
 
 def write_picture(path: str, figure: Any) -> None:
-    """Writes a figure of matplotlib."""
+    """Write a matplotlib figure to a picture file."""
     from matplotlib import rc_context
 
     undated = UNDATED.get(kind_of(path))

@@ -1,7 +1,7 @@
-"""Which files a command may replace: those that it wrote itself, and that nobody changed since.
+"""Which files a command may replace: those that it wrote itself and that have not changed since.
 
-A file that a command writes carries a note as an extended attribute, which moves with it: the command, and the file's
-size and time. On a disk without such attributes, a file counts as the command's own if it begins as the new one does.
+Each file that a command writes carries a note in an extended attribute: the command, and the file's size and time. On
+a disk without such attributes, a file counts as the command's own if it begins like the new one.
 """
 
 import contextlib
@@ -12,28 +12,28 @@ from enum import Enum, auto
 from pathlib import Path
 from typing import Iterator
 
-from .faults import BadInput
+from .errors import InputError
 
-NOTE = "user.ttm-tools"  # of Linux: attributes of users begin so
-SECONDS = 2  # by which the time of a file may differ from its note: some disks round it
-LONGEST_LINE = 1 << 16  # bytes of a first line that are compared
-MAGIC = 8  # bytes by which formats such as PNG, HDF5 and SQLite begin
+NOTE = "user.ttm-tools"  # Linux requires the prefix
+SECONDS = 2  # that a file's time may differ from its note: some disks round times
+LONGEST_LINE = 1 << 16  # bytes of a first line to compare
+MAGIC = 8  # bytes that identify formats such as PNG, HDF5 and SQLite
 NO_NOTES = (errno.ENOTSUP, errno.EOPNOTSUPP, errno.ENOSYS)
-_inputs: set[tuple[int, int]] | None = None  # device and inode of the files that a command has read
+_inputs: set[tuple[int, int]] | None = None  # device and inode of each file that the command read
 _command, _forces = "", False
 
 
 class Writer(Enum):
-    """Who wrote a file."""
+    """The last writer of a file."""
 
     THIS_COMMAND = auto()
-    OTHER = auto()  # or somebody changed it since
-    UNKNOWN = auto()  # the disk has no notes
+    OTHER = auto()  # another program, or the file changed since
+    UNKNOWN = auto()  # the disk has no extended attributes
 
 
 @contextlib.contextmanager
 def command_runs(name: str, forces: bool = False) -> Iterator[None]:
-    """Protects files while a command runs: those that it reads, and those that it did not write unless `forces`."""
+    """While a command runs, protect its inputs and, unless `forces`, all files that it did not write."""
     global _inputs, _command, _forces
     before = _inputs, _command, _forces
     _inputs, _command, _forces = set(), name, forces
@@ -44,26 +44,26 @@ def command_runs(name: str, forces: bool = False) -> Iterator[None]:
 
 
 def is_command() -> bool:
-    """Whether files are protected."""
+    """Return whether files are protected."""
     return _inputs is not None
 
 
 def note_input(found: os.stat_result) -> None:
-    """Notes a file that is opened to read."""
+    """Register a file that is opened for reading."""
     if _inputs is not None:
         _inputs.add((found.st_dev, found.st_ino))
 
 
 def refuse_input(path: Path) -> None:
-    """Refuses an output that the command reads as well."""
+    """Raise an `InputError` if an output is also an input of the command."""
     with contextlib.suppress(OSError):
         found = os.stat(path)
         if _inputs is not None and (found.st_dev, found.st_ino) in _inputs:
-            raise BadInput(path, "is an input as well: name another output")
+            raise InputError(path, "is an input as well: name another output")
 
 
 def note_output(path: Path) -> None:
-    """Notes in a file that this command wrote it, where the disk can."""
+    """Write the command's note to a file, if the disk supports it."""
     if is_command():
         with contextlib.suppress(OSError, AttributeError):
             found = os.stat(path)
@@ -71,7 +71,7 @@ def note_output(path: Path) -> None:
 
 
 def writer_of(path: Path) -> Writer:
-    """Who wrote a file, by its note."""
+    """Return the writer of a file according to its note."""
     try:
         command, size, seconds = os.getxattr(path, NOTE).decode().split()
         found = os.stat(path)
@@ -86,8 +86,9 @@ def writer_of(path: Path) -> Writer:
 
 
 def refuse_foreign(path: Path, new: Path | None = None) -> None:
-    """Refuses to replace a file that this command did not write, unless it is empty. If the disk has no notes, the file
-    `new` that takes its place decides.
+    """Raise an `InputError` if the command must not replace a file: it did not write it, and it is not empty.
+
+    Without extended attributes, `new`, the file that would replace it, decides: the two must begin alike.
     """
     if _inputs is None or _forces or not os.path.exists(path):
         return
@@ -97,11 +98,11 @@ def refuse_foreign(path: Path, new: Path | None = None) -> None:
     writer = writer_of(path)
     if writer is Writer.OTHER or writer is Writer.UNKNOWN and new is not None and not begins_alike(path, new):
         message = f"ttm-tools {_command} did not write this file, or it was changed since: "
-        raise BadInput(path, f"{message}name another output, or add --force to replace it")
+        raise InputError(path, f"{message}name another output, or add --force to replace it")
 
 
 def begins_alike(path: Path, other: Path) -> bool:
-    """Whether two files have the same first line, or begin with the same bytes if they aren't texts."""
+    """Return whether two files have the same first line or, for binary files, the same first bytes."""
     heads = list[bytes]()
     for file in (path, other):
         with open(file, "rb") as opened:

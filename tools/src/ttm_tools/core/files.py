@@ -1,5 +1,7 @@
-"""Files and folders that get their names when they are whole, and leave nothing behind where they don't, whatever
-signal ends the run.
+"""Outputs that appear only when they are complete.
+
+`output` and `atomic_path` write a file, `atomic_folder` a folder. Until the block ends well, what is written has a
+temporary name next to the output; after an error or a signal nothing is left of it.
 """
 
 import contextlib
@@ -8,78 +10,28 @@ import hashlib
 import os
 import re
 import shutil
-import signal
 import socket
 import stat
 import sys
 import tempfile
-import threading
 from functools import cache
 from pathlib import Path
-from types import FrameType
-from typing import BinaryIO, Callable, Iterator, NoReturn, Sequence
+from typing import BinaryIO, Callable, Iterator, Sequence
 
-from .faults import BadInput
+from .errors import InputError
 from .locks import lock_file, locked
 from .provenance import is_command, note_output, refuse_foreign, refuse_input
-
-ENDING = [
-    getattr(signal, name)
-    for name in "SIGHUP SIGINT SIGQUIT SIGALRM SIGTERM SIGUSR1 SIGUSR2 SIGVTALRM SIGPROF SIGXCPU SIGIO SIGPWR".split()
-    if hasattr(signal, name)
-]
-
+from .signals import no_signals
 
 FULL = (errno.ENOSPC, errno.EDQUOT, errno.EFBIG)
-LONGEST_NAME = 200  # bytes of a file's name that its name aside repeats
+LONGEST_NAME = 200  # bytes of a file's name that appear in its temporary name
 Note = Callable[[Sequence[Path]], None]
-_outputs: Note | None = None  # called with the files of a folder before they get their names
-
-
-class Interrupted(BaseException):
-    """A signal that ends the run; what was begun is cleared away on its way up."""
-
-    def __init__(self, number: int) -> None:
-        self.number = number
-        super().__init__(f"ended by {signal.Signals(number).name}")
-
-    def __reduce__(self) -> tuple[type["Interrupted"], tuple[int]]:
-        return Interrupted, (self.number,)
-
-    @property
-    def status(self) -> int:
-        return 128 + self.number
-
-
-def unwind_on_signals() -> None:
-    """Has each signal that would end this process end it by `Interrupted`, once, so that files are cleared away."""
-
-    def unwind(number: int, _: FrameType | None) -> NoReturn:
-        for other in ENDING:
-            signal.signal(other, signal.SIG_IGN)
-        raise Interrupted(number)
-
-    for number in ENDING:
-        if signal.getsignal(number) is not signal.SIG_IGN:
-            signal.signal(number, unwind)
-
-
-@contextlib.contextmanager
-def no_signals() -> Iterator[None]:
-    """Lets signals wait while several names are given at once."""
-    if threading.current_thread() is not threading.main_thread():
-        yield
-        return
-    before = signal.pthread_sigmask(signal.SIG_BLOCK, ENDING)
-    try:
-        yield
-    finally:
-        signal.pthread_sigmask(signal.SIG_SETMASK, before)
+_outputs: Note | None = None
 
 
 @contextlib.contextmanager
 def outputs_noted(note: Note) -> Iterator[None]:
-    """Has the files of each folder that is written be noted before they get their names."""
+    """Call `note` with the files of each folder that the block writes, before they get their names."""
     global _outputs
     before, _outputs = _outputs, note
     try:
@@ -89,20 +41,20 @@ def outputs_noted(note: Note) -> Iterator[None]:
 
 
 def all_in(path: Path) -> list[Path]:
-    """A file, or whatever else isn't a folder; of a folder all of that in it."""
+    """Return all files below a folder, or the path itself if it exists and is no folder. Links are not followed."""
     if path.is_symlink() or not path.is_dir():
         return [path] if os.path.lexists(path) else []
     return sorted(path for path in path.rglob("*") if path.is_symlink() or not path.is_dir())
 
 
 def is_full(fault: OSError) -> bool:
-    """Whether a disk is full, or a file may not grow."""
+    """Return whether the disk is full, or the file reached its size limit."""
     return fault.errno in FULL
 
 
 @contextlib.contextmanager
 def writing_to(path: str | Path) -> Iterator[None]:
-    """Names the file that is written where the disk is full: not the one that is copied."""
+    """Let errors about a full disk name the output; when a file is copied, Python names the source."""
     try:
         yield
     except OSError as fault:
@@ -112,20 +64,20 @@ def writing_to(path: str | Path) -> Iterator[None]:
 
 
 def copy_file(source: str | Path, target: str | Path) -> None:
-    """Copies the bytes of a file."""
+    """Copy the bytes of a file."""
     with writing_to(target):
         shutil.copyfile(source, target)
 
 
 def short_name(name: str) -> str:
-    """A name as it stands in another one: a long one by its sum."""
+    """Return a file name for use inside another one; a long name is replaced by its checksum."""
     written = os.fsencode(name)
     return name if len(written) <= LONGEST_NAME else hashlib.sha256(written).hexdigest()
 
 
 @cache
 def this_machine() -> str:
-    """Eight digits that name this machine since its start, and the room of process numbers that a container has."""
+    """Return eight digits that identify this machine, its boot, and the process namespace of a container."""
     facts = [socket.gethostname()]
     with contextlib.suppress(OSError):
         facts.append(Path("/proc/sys/kernel/random/boot_id").read_text(encoding="ascii"))
@@ -134,19 +86,19 @@ def this_machine() -> str:
 
 
 def aside_name(path: Path) -> Path:
-    """Where a file is written until it is complete: next to it, under a name with this process and machine."""
+    """Return the temporary name of an output: next to it, with this process and machine in it."""
     return path.with_name(f".part.{os.getpid()}-{this_machine()}.{short_name(path.name)}")
 
 
 def place_of(path: Path) -> Path:
-    """Where the name of an output is, or will be: in the nearest folder above it that exists."""
+    """Return the path of an output in the nearest folder above it that exists; its lock file lies there, too."""
     whole = Path(os.path.abspath(path))
     return next((parent for parent in whole.parents if parent.is_dir()), whole) / (whole.name or "files")
 
 
 @contextlib.contextmanager
 def outputs_locked(paths: Sequence[str]) -> Iterator[None]:
-    """Locks the outputs of a command from its start on, and refuses those that it may not replace."""
+    """Lock the outputs of a command while it runs, and refuse those that it must not replace."""
     with contextlib.ExitStack() as locks:
         for path in map(target_of, paths):
             if not is_stream(path):
@@ -156,18 +108,18 @@ def outputs_locked(paths: Sequence[str]) -> Iterator[None]:
 
 
 def output_locked(path: Path) -> contextlib.AbstractContextManager[bool]:
-    """Locks an output: a command is refused if another one has it; within a study it waits."""
+    """Lock an output. If another process has the lock, a command is refused; a study waits."""
     place = place_of(path)
     return locked(place, lock_file(place, short_name(place.name)), waits=not is_command())
 
 
 def target_of(path: str | Path) -> Path:
-    """The file that a command writes: where a link leads."""
+    """Return the file that an output replaces. A command follows links, so the link itself stays."""
     return Path(path) if not is_command() or is_stream(path) else Path(os.path.realpath(path))
 
 
 def is_stream(path: str | Path) -> bool:
-    """Whether a command writes to a pipe or a device such as /dev/null, which stays what it is."""
+    """Return whether a command's output is a pipe or a device such as /dev/null, which it must not replace."""
     with contextlib.suppress(OSError):
         kind = os.stat(path).st_mode
         return is_command() and (stat.S_ISFIFO(kind) or stat.S_ISCHR(kind))
@@ -176,7 +128,7 @@ def is_stream(path: str | Path) -> bool:
 
 @contextlib.contextmanager
 def written_to_stream(path: Path) -> Iterator[Path]:
-    """Yields a path to write to; what is written there is copied to a pipe or device when the block ends well."""
+    """Yield a temporary path; when the block ends well, what it wrote there is copied to a pipe or device."""
     with tempfile.TemporaryDirectory(prefix="ttm-tools-out.") as folder:
         aside = Path(folder) / path.name
         yield aside
@@ -185,7 +137,7 @@ def written_to_stream(path: Path) -> Iterator[Path]:
 
 
 def is_running(process: int) -> bool:
-    """Whether a process of this machine runs."""
+    """Return whether a process of this machine is running."""
     try:
         os.kill(process, 0)
     except ProcessLookupError:
@@ -196,6 +148,7 @@ def is_running(process: int) -> bool:
 
 
 def remove(path: Path) -> None:
+    """Remove a file or folder, if it exists."""
     if path.is_dir() and not path.is_symlink():
         shutil.rmtree(path, ignore_errors=True)
     else:
@@ -203,7 +156,10 @@ def remove(path: Path) -> None:
 
 
 def remove_leavings(path: Path) -> None:
-    """Removes what killed runs (SIGKILL, a power cut) of any machine left next to a file, which is locked."""
+    """Remove temporary files that killed runs (SIGKILL, a power cut) left next to an output.
+
+    The caller has locked the output, so no other process is writing it.
+    """
     form = re.compile(r"\.part\.[0-9]+(-[0-9a-f]{8})?\." + re.escape(short_name(path.name)))
     for other in path.parent.iterdir() if path.parent.is_dir() else ():
         if form.fullmatch(other.name) and other != aside_name(path):
@@ -211,9 +167,13 @@ def remove_leavings(path: Path) -> None:
 
 
 @contextlib.contextmanager
-def written_aside(path: str | Path) -> Iterator[Path]:
-    """Yields a path to write to. What is written there gets the name `path` when the block ends well, and is removed
-    when it doesn't.
+def atomic_path(path: str | Path) -> Iterator[Path]:
+    """Yield a temporary path to write to; the file is renamed to `path` when the block ends well.
+
+    Raises
+    ------
+    InputError
+        `path` is an input of the command, or a file that the command must not replace.
     """
     whole = target_of(path)
     if is_stream(whole):
@@ -239,8 +199,8 @@ def written_aside(path: str | Path) -> Iterator[Path]:
 
 
 @contextlib.contextmanager
-def many_written_aside(folder: str | Path) -> Iterator[Path]:
-    """Yields an empty folder to write to; its files are moved to `folder`, all at once, when the block ends well."""
+def atomic_folder(folder: str | Path) -> Iterator[Path]:
+    """Yield an empty temporary folder; its files are all moved to `folder` when the block ends well."""
     whole = Path(folder)
     found = next(parent for parent in (whole, *whole.parents) if parent.exists())
     aside = aside_name(found / (whole.name or "files"))
@@ -257,7 +217,7 @@ def many_written_aside(folder: str | Path) -> Iterator[Path]:
 
 
 def move_all(aside: Path, whole: Path) -> None:
-    """Moves the files of a folder to another one, or none of them if one may not be replaced."""
+    """Move the files of a folder to another one, or none of them if one must not be replaced."""
     files = sorted(aside.iterdir())
     for file in files:
         refuse_input(whole / file.name)
@@ -272,25 +232,25 @@ def move_all(aside: Path, whole: Path) -> None:
             os.replace(file, whole / file.name)
 
 
-def is_free(out: Path) -> None:
-    """Refuses a folder that isn't empty, in which files of two runs would lie side by side."""
+def require_empty(out: Path) -> None:
+    """Raise an `InputError` unless an output folder is empty or does not exist."""
     if out.exists() and (not out.is_dir() or any(out.iterdir())):
-        raise BadInput(out, "already exists, and isn't empty")
+        raise InputError(out, "already exists, and isn't empty")
 
 
 @contextlib.contextmanager
 def output(path: str | None) -> Iterator[BinaryIO]:
-    """Standard output, or a file that gets its name when it is whole."""
+    """Yield a file that appears at `path` when the block ends well, or standard output if `path` is None."""
     if path is None:
         yield sys.stdout.buffer
         sys.stdout.buffer.flush()
         return
-    with written_aside(path) as aside:
+    with atomic_path(path) as aside:
         with open(aside, "wb") as file:
             yield file
 
 
-def sum_of(path: str | Path) -> str:
-    """The SHA-256 of a file's bytes."""
+def sha256_of_file(path: str | Path) -> str:
+    """Return the SHA-256 checksum of a file's bytes, in hexadecimal digits."""
     with open(path, "rb") as file:
         return hashlib.file_digest(file, "sha256").hexdigest()

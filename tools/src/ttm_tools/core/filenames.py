@@ -1,19 +1,19 @@
-"""Files that are called by people's names: short, of signs that every disk takes, and no two alike."""
+"""File names made of names that people chose: short, portable, and distinct."""
 
 import hashlib
 import itertools
 import re
 from typing import Sequence
 
-from .records import shown
+from .text import display_text
 
-LONGEST = 80  # bytes of a name in a file's name
-SIGNS_OF_SUM = 8
+LONGEST = 80  # bytes of a name that appear in a file name
+CHECKSUM_DIGITS = 8
 
 
 def file_name(name: str) -> str:
-    """A name as a file may be called; a long one is cut, and ends with some signs of its sum."""
-    name_in_file = re.sub(r"[^\w.-]", "_", shown(name)).lstrip(".") or "_"
+    """Return a name as a file name; a long one is cut and ends with digits of its checksum."""
+    name_in_file = re.sub(r"[^\w.-]", "_", display_text(name)).lstrip(".") or "_"
     written = name_in_file.encode("utf-8", "replace")
     if len(written) <= LONGEST:
         return name_in_file
@@ -21,12 +21,14 @@ def file_name(name: str) -> str:
 
 
 def sum_of_name(name: str) -> str:
-    return hashlib.sha256(name.encode("utf-8", "surrogateescape")).hexdigest()[:SIGNS_OF_SUM]
+    """Return the first digits of a name's checksum."""
+    return hashlib.sha256(name.encode("utf-8", "surrogateescape")).hexdigest()[:CHECKSUM_DIGITS]
 
 
 def file_names(names: Sequence[str], ends: Sequence[str] = ("",)) -> dict[str, str]:
-    """The names of files, such that no file of one name, with any of the ends, is called as one of another name is,
-    however a disk takes capitals.
+    """Return a file name for each name.
+
+    The file names stay distinct if any of `ends` is appended, also on a disk that ignores case.
     """
     used, called = set[str](), dict[str, str]()
     for name in names:
@@ -40,5 +42,7 @@ def file_names(names: Sequence[str], ends: Sequence[str] = ("",)) -> dict[str, s
 
 
 def sentences_on_names(names: dict[str, str]) -> list[str]:
-    """Which names files don't have as they are."""
-    return [f"files of {shown(name)} are named {file}" for name, file in names.items() if shown(name) != file]
+    """Return a sentence for each name that its file does not carry unchanged."""
+    return [
+        f"files of {display_text(name)} are named {file}" for name, file in names.items() if display_text(name) != file
+    ]

@@ -1,0 +1,1 @@
+"""What all other packages use: errors, texts, files, threads and progress. It imports no other package."""

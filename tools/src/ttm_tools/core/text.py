@@ -1,0 +1,84 @@
+"""Texts for people: counts with nouns, numbers without needless decimals, and input made safe to show.
+
+Names of stops, titles and the like come from other people's files. `printed`, `as_text` and `markdown` remove what
+would control a terminal, or become markup in Markdown and HTML.
+"""
+
+import html
+import math
+import unicodedata
+from typing import Sequence
+
+UNPRINTABLE = {"Cc", "Cf", "Zl", "Zp"}  # Unicode categories: control, format, line and paragraph separators
+MARKUP = "\\`*_[]|~"
+KEEP_E = ("ouses", "auses", "fuses", "muses", "cuses")  # houses, causes, excuses; else campuses, viruses
+
+
+def printed(text: str) -> str:
+    """Return a text with `?` in place of each unprintable character, as `ttm` prints it."""
+    if text.isascii() and text.isprintable():
+        return text
+    return "".join("?" if unicodedata.category(sign) in UNPRINTABLE else sign for sign in text)
+
+
+def as_text(text: str) -> str:
+    """Return a line of Markdown in which links and HTML are inactive; other markup stays."""
+    return html.escape(printed(text), quote=False).replace("[", "\\[").replace("`", "\\`")
+
+
+def markdown(text: str) -> str:
+    """Return one line of Markdown that every renderer shows as the given text."""
+    escaped = " ".join(printed(text.replace("\n", " ").replace("\t", " ")).split())
+    escaped = html.escape(escaped, quote=False)
+    for sign in MARKUP:
+        escaped = escaped.replace(sign, "\\" + sign)
+    return escaped
+
+
+def display_text(text: str) -> str:
+    """Return a text of a file for display: bytes that are not UTF-8 are decoded as Windows-1252, the likeliest guess.
+
+    Such bytes are surrogate escapes in `text`.
+    """
+    if text.isascii() or not any("\udc80" <= letter <= "\udcff" for letter in text):
+        return text
+    data = text.encode("utf-8", "surrogateescape")
+    try:
+        return data.decode("cp1252")
+    except UnicodeDecodeError:
+        return data.decode("latin-1")
+
+
+def short_number(number: float) -> str:
+    """Return a number without a needless `.0`; "" for NaN."""
+    if math.isnan(number):
+        return ""
+    return str(int(number)) if math.isfinite(number) and number == int(number) else repr(number)
+
+
+def quantity(count: int, noun: str) -> str:
+    """Return a count and its noun, in the plural unless the count is 1: `1 stop`, `2,000 stops`."""
+    return f"{count:,} {noun}{'' if count == 1 else 's'}"
+
+
+def singular(name: str) -> str:
+    """Return the singular of a column name: `job` for `jobs`. Irregular plurals are returned unchanged."""
+    if name != "uses" and name.endswith("uses") and not name.endswith(KEEP_E):
+        return name.removesuffix("es")
+    if name.endswith("ovies"):
+        return name.removesuffix("s")
+    for ending, one in (("ies", "y"), ("sses", "ss"), ("ches", "ch"), ("shes", "sh"), ("xes", "x")):
+        if name.endswith(ending):
+            return name.removesuffix(ending) + one
+    return name if not name.endswith("s") or name.endswith(("ss", "us", "is")) or name == "s" else name[:-1]
+
+
+def counted(count: int, name: str) -> str:
+    """Return a count and the column that it belongs to: `1 job`, `2,000 jobs`."""
+    return f"{count:,} {singular(name) if count == 1 else name}"
+
+
+def first_few(names: Sequence[str], most: int = 4) -> str:
+    """Return the first names of a list, and how many more there are."""
+    more = len(names) - most
+    return ", ".join(names[:most]) + (f" and {more:,} more" if more > 0 else "")
