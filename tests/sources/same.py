@@ -1,7 +1,7 @@
 """Looks that what several places say is the same in all of them.
 
 The small feed of `tests/program/small.py` is that of the crate `small_feed`; no two crates declare a limit, or the
-number of lanes, of one name; and the help states the limits that the code goes by.
+number of lanes, of one name; and the help and the tools state the limits that the code goes by.
 """
 
 from __future__ import annotations
@@ -29,6 +29,10 @@ STATED = [
 ]
 # the same of the files of scenarios, which are all but the base
 FILES_STATED = "Scenario files, at most {};"
+# limits of the tools: those before the first empty line are the engine's
+OF_TOOLS = "tools/src/ttm_tools/core/limits.py"
+OF_ENGINE = re.compile(r"(?m)^# The engine's.*\n((?:MOST_\w+ = [\d_]+.*\n)+)")
+OF_TOOL = re.compile(r"(?m)^(MOST_\w+) = ([\d_]+)")
 
 
 def judged(root: Path) -> Iterator[tuple[str, bool]]:
@@ -42,6 +46,10 @@ def judged(root: Path) -> Iterator[tuple[str, bool]]:
         for name, number in LIMIT.findall(source) if not repository.PROMISE_NOTHING.search(crate) else ():
             yield f"{crate}: {name} is declared once", name not in limits
             limits[name] = int(number)
+    engine = OF_ENGINE.search((root / OF_TOOLS).read_text())
+    yield f"{OF_TOOLS}: has the engine's limits", engine is not None
+    for name, number in OF_TOOL.findall(engine[1]) if engine else ():
+        yield f"{OF_TOOLS}: {name} is the engine's", limits.get(name) == int(number)
     files = FILES_STATED.format(limits.get("MOST_SCENARIOS", 0) - 1)
     for text in [text.format(limits.get(name)) for text, name in STATED] + [files]:
         yield f"help: '{text}'", bool(re.search(re.escape(text) + r"(?!\d)", sources["command_line"]))

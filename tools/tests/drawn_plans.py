@@ -13,7 +13,8 @@ from random_feeds import Drawn
 
 from ttm_tools import cli
 from ttm_tools.core.errors import InputError
-from ttm_tools.gtfs.fields import FILES, clock
+from ttm_tools.core.times import as_clock
+from ttm_tools.gtfs.fields import FILES
 from ttm_tools.opening.toml_file import Entry, LineNumbers
 from ttm_tools.plans.base import Base, read_base
 from ttm_tools.plans.carrying_out import carried_out
@@ -111,7 +112,11 @@ class DrawnPlan:
     def line(self) -> Values:
         count, first = self.random.randint(2, 4), self.random.randint(7 * 60 + 30, 8 * 60 + 20)
         last = first + self.random.randint(0, 40)
-        times = {"first": clock(60 * first)[:5], "last": clock(60 * last), "every": self.random.choice([120, 600])}
+        times = {
+            "first": as_clock(60 * first)[:5],
+            "last": as_clock(60 * last),
+            "every": self.random.choice([120, 600]),
+        }
         days = self.random.choice([{"days": "daily"}, {"service": self.random.choice(self.feed.services)}])
         both: Values = {"both": False} if self.random.random() < 0.3 else {}
         stops = [self.stop() for _ in range(count)]
@@ -122,7 +127,13 @@ class DrawnPlan:
         first = self.random.randint(7 * 60, 8 * 60 + 20)
         end = first + self.random.randint(1, 60)
         every = self.random.choice([90, 300, 1000])
-        return {"do": "headway", **self.chosen(), "every": every, "from": clock(60 * first), "to": clock(60 * end)}
+        return {
+            "do": "headway",
+            **self.chosen(),
+            "every": every,
+            "from": as_clock(60 * first),
+            "to": as_clock(60 * end),
+        }
 
     def speed(self) -> Values:
         action: Values = {"do": "speed", **self.chosen()}
@@ -152,7 +163,7 @@ class DrawnPlan:
         """The words of a run from the old stops, which alone count."""
         own = {name: self.folder / f"{name}.csv" for name in ("origins", "opportunities")}
         files: dict[str, object] = {**own, **({} if footpaths is None else {"footpaths": footpaths})}
-        hours = {"date": DATE, "from": clock(60 * first)[:5], "to": clock(60 * first + 1200)[:5]}
+        hours = {"date": DATE, "from": as_clock(60 * first)[:5], "to": as_clock(60 * first + 1200)[:5]}
         options = {**hours, "trips": 3, "walk": 300, "share": "25,100", "within": "900,3600", "workers": 1, "tries": 1}
         return [str(word) for name, value in {**options, **files}.items() for word in (f"--{name}", value)]
 

@@ -2,6 +2,7 @@
 
 import ast
 import graphlib
+import re
 import subprocess
 import sys
 from functools import cache
@@ -33,7 +34,6 @@ MAY_IMPORT = {  # besides itself
 BELONGS_TO = {
     "__main__": "cli",
     "conversation": "engine",
-    "dates": "core",
     "explanation": "journeys",
     "explore": "web",
     "measures.journeys": "journeys",
@@ -66,7 +66,6 @@ EXCEPTIONS = {
     "network": ("matrices",),
     "parts": ("gtfs",),
     "plans.base": ("prepare",),
-    "plans.limits": ("prepare",),
     "points.shown": ("matrices",),
     "points.study": ("matrices",),
     "prepare.check": ("prepare",),
@@ -74,6 +73,10 @@ EXCEPTIONS = {
     "views.lines": ("web",),
     "views.maps": ("web",),
 }
+
+LIMITS = {65_535, 4_000_000, 8_000_000, 1 << 32, (1 << 32) - 1, (1 << 24) - 1, 7_200, 604_799, 1.33}
+LIMITS_IN_TEXT = re.compile(r"\b(65[,_]?535|4[,_]?294[,_]?967[,_]?29[56]|[48],000,000|7[,_]?200|1\.33)\b")
+MINUTES = "[0-5][0-9]"  # in a pattern of clock times
 
 
 @cache
@@ -151,6 +154,34 @@ def test_each_exception_is_still_needed() -> None:
 def test_no_modules_import_each_other() -> None:
     graph = {name: {other for other in others if other} for name, others in imports().items() if name}
     assert len(list(graphlib.TopologicalSorter(graph).static_order())) == len(modules()) - 1
+
+
+def constants(path: Path) -> Iterator[object]:
+    """The numbers and texts in a file's code, docstrings left out, and its powers of two."""
+    tree = ast.parse(path.read_text())
+    docstrings = {id(node.value) for node in ast.walk(tree) if isinstance(node, ast.Expr)}
+    for node in ast.walk(tree):
+        if isinstance(node, ast.Constant) and id(node) not in docstrings:
+            yield node.value
+        elif isinstance(node, ast.BinOp) and isinstance(node.op, ast.LShift):
+            sides = node.left, node.right
+            if all(isinstance(side, ast.Constant) and isinstance(side.value, int) for side in sides):
+                yield eval(compile(ast.Expression(node), str(path), "eval"))
+
+
+def states_a_limit(value: object) -> bool:
+    """Whether a number or text is one that `core.limits` has a name for, or a pattern of clock times."""
+    if isinstance(value, str):
+        return bool(LIMITS_IN_TEXT.search(value)) or MINUTES in value
+    return isinstance(value, (int, float)) and value in LIMITS
+
+
+def test_limits_and_clock_times_are_in_one_place_each() -> None:
+    found = {(name, value) for name, path in modules().items() for value in constants(path) if states_a_limit(value)}
+    elsewhere = {(name, value) for name, value in found if name not in ("core.limits", "core.times")}
+    assert elsewhere == set()
+    assert {value for name, value in found if name == "core.limits"} >= {65_535, 7_200, 1.33}
+    assert any(name == "core.times" for name, _ in found)
 
 
 def test_the_package_alone_loads_nothing_that_takes_long() -> None:

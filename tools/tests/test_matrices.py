@@ -10,10 +10,11 @@ import pytest
 
 from helpers import TOWN, Cell, Town, town_matrix
 from ttm_tools.core.errors import InputError
+from ttm_tools.core.limits import MOST_SECONDS
 from ttm_tools.core.threads import map_in_order
 from ttm_tools.matrices import Matrix, layout_of, open_matrix, pair_of, write_open_matrix
 from ttm_tools.matrices.layout import MatrixLayout
-from ttm_tools.matrices.lines import MOST, head_of, seconds_of
+from ttm_tools.matrices.lines import head_of, seconds_of
 
 BOTH_FORMS = pytest.mark.parametrize("second_form", [False, True])
 
@@ -115,7 +116,7 @@ def test_what_is_no_matrix_is_told_by_its_record(town: Town, second_form: bool) 
     text = town_matrix(second_form)
     message = f"record 4: {6 + second_form} fields, and the header has {7 + second_form}"
     refused(town, text.replace("1900,\n", "1900\n"), message)
-    allowed = f"is not a travel time; allowed: whole seconds up to {MOST}, or nothing"
+    allowed = f"is not a travel time; allowed: whole seconds up to {MOST_SECONDS}, or nothing"
     for bad in ("3oo", "-3", "3.5", " 3", "16777216", "4294967297", "12345678901234567890"):
         refused(town, text.replace(",300,", f",{bad},"), f"record 2: B {bad!r} {allowed}")
     refused(town, text[:-1], "truncated: the last line has no end")
@@ -145,7 +146,9 @@ def test_drawn_cells_are_the_numbers_that_python_reads() -> None:
     draw = random.Random(7)
     for _ in range(300):
         count = draw.randrange(1, 40)
-        numbers = [draw.choice([None, 0, draw.randrange(10 ** draw.randrange(1, 8)), MOST]) for _ in range(count)]
+        numbers = [
+            draw.choice([None, 0, draw.randrange(10 ** draw.randrange(1, 8)), MOST_SECONDS]) for _ in range(count)
+        ]
         text = ",".join("" if number is None else str(number) for number in numbers)
         found = seconds_of(text.encode(), count)
         assert found is not None

@@ -153,7 +153,7 @@ def test_what_ttm_does_not_take_is_told_before_anything_is_written(room: Room, m
     room.refused(f"{room.path('cells.csv')}: {message}: {helps}", *arguments)
     assert room.ran(*arguments, "--leave-out")[2] == 0
     monkeypatch.setattr(study, "MOST_STOPS", 65535)
-    monkeypatch.setattr(study, "MOST_PAIRS", 3)
+    monkeypatch.setattr(study, "MOST_FOOTPATHS", 3)
     message = "4 walks are more than the 3 that ttm takes: use a shorter --limit, or fewer points"
     arguments[arguments.index("--out") + 1] = room.path("more")
     room.refused(f"{room.path('cells.csv')}: {message}; {helps}", *arguments)

@@ -297,14 +297,14 @@ def test_a_network_of_a_folder_and_its_extent(room: Room, cache: None) -> None:
 
 
 def test_more_walks_than_ttm_takes_are_named(network: r5py.TransportNetwork, monkeypatch: pytest.MonkeyPatch) -> None:
-    monkeypatch.setattr("ttm_tools.walks.counting.MOST_PAIRS", 1)
+    monkeypatch.setattr("ttm_tools.walks.counting.MOST_FOOTPATHS", 1)
     monkeypatch.setattr("ttm_tools.r5py.split.MOST_FOOTPATHS", 4)  # with a change at each of three stops
     with pytest.raises(r5py.NotAvailable, match="^max_time_walking: 0:15:00 gives more than the .* walks") as raised:
         from_home(network)
     assert raised.value.argument == "max_time_walking"
     monkeypatch.setattr("ttm_tools.r5py.split.MOST_FOOTPATHS", 5)  # home to A, and C to the clinic
     assert minutes(from_home(network)) == [41]
-    monkeypatch.setattr("ttm_tools.walks.counting.MOST_PAIRS", 2)
+    monkeypatch.setattr("ttm_tools.walks.counting.MOST_FOOTPATHS", 2)
     assert minutes(from_home(network, max_time=85 * MINUTE)) == [41]
 
 

@@ -17,6 +17,7 @@ for package in ("geopandas", "osmium", "scipy", "pyproj"):
 from r5py_town import MINUTE, degrees, frame  # noqa: E402
 from test_r5py_drawn import draw_place, draw_streets  # noqa: E402
 from ttm_tools import r5py  # noqa: E402
+from ttm_tools.core.limits import MOST_FOOT_SECONDS  # noqa: E402
 from ttm_tools.gtfs.footpaths import read_walks  # noqa: E402
 from ttm_tools.gtfs.stops import read_stops  # noqa: E402
 from ttm_tools.gtfs.timetable import Edits, Events, read_timetable, runs_of  # noqa: E402
@@ -26,7 +27,6 @@ from ttm_tools.points.table import Points  # noqa: E402
 from ttm_tools.r5py.doors import stops_in, write_whole  # noqa: E402
 from ttm_tools.r5py.long_walks import LongWalks, reached_directly  # noqa: E402
 from ttm_tools.r5py.needed import needed_walks  # noqa: E402
-from ttm_tools.r5py.split import LONGEST  # noqa: E402
 from ttm_tools.walks import Pace  # noqa: E402
 from ttm_tools.walks.osm import read_streets  # noqa: E402
 from ttm_tools.walks.table import NONE, WalkTable  # noqa: E402
@@ -116,7 +116,7 @@ def test_a_split_feed_has_the_durations_of_all_walks(room: Room, seed: int, long
         every, split = room.folder / f"every{same}", room.folder / f"split{same}"
         write_whole(every, walks)
         walks.write(split, merges=walk >= longest)
-        expected, found = durations(every, walk), durations(split, LONGEST)
+        expected, found = durations(every, walk), durations(split, MOST_FOOT_SECONDS)
         assert np.array_equal(np.where(expected < longest, expected, 0), np.where(found < longest, found, 0))
         counts = [len((folder / "footpaths.csv").read_text().splitlines()) for folder in (every, split)]
         assert walk < longest or counts[1] < 0.9 * counts[0], counts

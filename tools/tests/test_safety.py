@@ -227,7 +227,7 @@ def test_advice_is_of_what_was_not_done_yet(room: Room, monkeypatch: pytest.Monk
 def test_many_pairs_are_told_while_they_are_counted(room: Room, monkeypatch: pytest.MonkeyPatch) -> None:
     feed = small_feed(room)
     points = room.write("points.csv", "id,lat,lon", [[f"P{n}", 50 + n / 1e5, 7] for n in range(300)])
-    monkeypatch.setattr("ttm_tools.walks.counting.MOST_PAIRS", 1000)
+    monkeypatch.setattr("ttm_tools.walks.counting.MOST_FOOTPATHS", 1000)
     monkeypatch.setattr("ttm_tools.walks.straight.PAIRS_AT_ONCE", 500)
     arguments: list[str] = ["points", "--out", room.path("out"), feed, points]
     assert "more than the 1,000 walks that ttm takes" in room.ran(*arguments)[1]

@@ -629,7 +629,7 @@ def test_limits_of_ttm_are_told_before_anything_is_written(small: Room, monkeypa
     arguments = ["scenarios", small.path("feed"), plan, "--out", small.path("out")]
     for name, most, printed in (
         ("limits.MOST_TRIPS", 5, ": the feed of all scenarios would have 6 trips, and ttm takes 5: {}"),
-        ("limits.MOST_STOP_TIMES", 19, ": the feed of all scenarios would have 20 stop times, and ttm takes 19: {}"),
+        ("limits.MOST_EVENTS", 19, ": the feed of all scenarios would have 20 stop times, and ttm takes 19: {}"),
         (
             "scenario_files.MOST_RECORDS",
             4,
@@ -654,7 +654,7 @@ def test_what_a_day_of_all_scenarios_has_is_told(small: Room, monkeypatch: pytes
         (19, f"{what}, and ttm takes 1,000,000 and 19: use fewer scenarios, or change fewer trips"),
     ):
         with monkeypatch.context() as patch:
-            patch.setattr("ttm_tools.plans.limits.MOST_STOP_TIMES", most)
+            patch.setattr("ttm_tools.plans.limits.MOST_EVENTS", most)
             patch.setattr("ttm_tools.plans.make.refuse_limits", lambda *_: None)
             out = small.path(f"out{most}")
             lines = small.ran("scenarios", small.path("feed"), small.path("plan.toml"), "--out", out)[1].splitlines()

@@ -16,7 +16,7 @@ import numpy as np
 from .core.errors import ArgumentError, InputError, MissingDependencyError
 from .core.files import output
 from .core.folders import scratch
-from .dates import as_ttm_reads
+from .core.times import as_ttm_reads
 from .matrices import BASE, Matrix, Seconds, Sums, TODAY, open_matrix
 from .plans.nearness import new_stops_in, sentences_on_nearer
 from .records import Rounded, write_rows

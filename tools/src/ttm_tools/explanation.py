@@ -16,6 +16,7 @@ from .core.console import say
 from .core.errors import InputError
 from .core.folders import scratch
 from .core.text import display_text
+from .core.times import minutes_of
 from .engine import EngineFault, Pathlike, Run, files_of, nearer_by_plan, program_at, refusal_of
 from .gtfs.footpaths import Footpaths, read_walks
 from .gtfs.stops import Stops, read_stops
@@ -46,7 +47,7 @@ def all_found(
     files = scenarios_of(task.scenarios)
     timetable, cells = read_both(task, stops, list(files), pairs, matrix, program)
     say(*nearer_by_plan(task))
-    first, last = (int(text[:2]) * 60 + int(text[3:]) for text in task.window)
+    first, last = map(minutes_of, task.window)
     departures = [DAY * task.back + 60 * minute for minute in range(first, last + 1)]
     ends = [(timetable.stops.index(one), timetable.stops.index(other)) for one, other in pairs]
     footpaths = os.fspath(task.files["footpaths"]) if "footpaths" in task.files else None

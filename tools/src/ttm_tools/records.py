@@ -15,6 +15,7 @@ import numpy as np
 import numpy.typing as npt
 
 from .core.errors import InputError
+from .core.limits import MOST_NUMBER
 from .core.text import display_text
 from .opening.tables import MOST_COLUMNS, looked_at, parsed
 
@@ -163,8 +164,8 @@ class Rounded:
     def whole(self, text: str, path: object, record: int, column: str, up: bool) -> int:
         """The number of a field, rounded up or to the nearest (a half up), and counted where that changes it."""
         number = number_of(text.strip())
-        if not 0 <= number < 1 << 32:
-            allowed = "a number from 0 to 4294967295"
+        if not 0 <= number <= MOST_NUMBER:
+            allowed = f"a number from 0 to {MOST_NUMBER}"
             raise InputError(path, "is invalid", record=record, column=column, value=text, allowed=allowed)
         rounded = math.ceil(number) if up else math.floor(number + 0.5)
         self.count += rounded != number

@@ -3,6 +3,7 @@ import argparse
 from ..core.console import say
 from ..core.errors import ArgumentError, InputError, needs
 from ..core.files import output
+from ..core.limits import MOST_NUMBER
 from .options import Parser, Range, opened
 
 SUMMARY = "who loses and who gains between two scenarios"
@@ -33,7 +34,7 @@ def describe(parser: Parser) -> None:
     what = "travel times that differ by more than this count as slower or faster"
     parser.add_number("--limit", what, Range("seconds", 0, 604800), default=60)
     what = "access that differs by this or more counts as lost or gained"
-    parser.add_number("--least", what, Range("opportunities", 1, 4294967295), default=1)
+    parser.add_number("--least", what, Range("opportunities", 1, MOST_NUMBER), default=1)
     what = "why an origin is listed: a pair that differs, its access, or either"
     parser.add_choice("--listed", ("both", "times", "access"), what, "both")
     what = "how lines are sorted: the greatest loss or gain first, or by percent"

@@ -4,6 +4,7 @@ from typing import TYPE_CHECKING
 from ..core.console import say
 from ..core.errors import ArgumentError, needs
 from ..core.folders import scratch
+from ..core.limits import MOST_PORT
 from .options import Parser, Range, decimals
 
 if TYPE_CHECKING:
@@ -46,7 +47,7 @@ def describe(parser: Parser) -> None:
     parser.add_several("--opportunities", "FILE", meaning, without="stops")
     parser.add_text("--title", "TEXT", "the title of the page", without="the feed's name")
     parser.add_text("--out", "FOLDER", "where studies are saved", default="explored")
-    parser.add_number("--port", "the port of the page; 0 takes a free one", Range("", 0, 65535), default=0)
+    parser.add_number("--port", "the port of the page; 0 takes a free one", Range("", 0, MOST_PORT), default=0)
     parser.add_flag("--no-browser", "print the address alone", "a browser opens it")
     parser.add_program()
     parser.add_text("--leaflet", "FOLDER", "the folder of Leaflet", default="/usr/share/javascript/leaflet")

@@ -4,14 +4,15 @@ import argparse
 import functools
 import math
 import os
-import re
 import sys
 from dataclasses import dataclass
 from typing import TYPE_CHECKING, Any, Callable, Iterable, Sequence
 
 from ..core.console import say
 from ..core.errors import ArgumentError, InputError
+from ..core.limits import DETOUR, MOST_DAYS, MOST_FOOT_SECONDS, MOST_NUMBER, MOST_RIDES, WALKING_SPEED
 from ..core.text import first_few
+from ..core.times import is_minute
 from ..views.picture_files import picture_name
 
 if TYPE_CHECKING:
@@ -21,8 +22,6 @@ if TYPE_CHECKING:
     from ..gtfs.stops import Stops
     from ..matrices import Matrix
     from ..views.isochrones import AreaGround, Walking
-
-MOST_LIMIT = 4_294_967_295  # seconds
 
 
 @dataclass(frozen=True)
@@ -63,17 +62,17 @@ decimals = functools.partial(Range, whole=False)
 
 def day(text: str) -> "datetime.date":
     """A day, as `ttm` writes it or as ISO 8601 does."""
-    from ..dates import ALLOWED, day_of
+    from ..core.times import DATES_ALLOWED, day_of
 
     try:
         return day_of(text)
     except ValueError:
-        raise argparse.ArgumentTypeError(f"{text!r} is not a date, {ALLOWED}") from None
+        raise argparse.ArgumentTypeError(f"{text!r} is not a date, {DATES_ALLOWED}") from None
 
 
 def clock(text: str) -> str:
     """A minute of the day."""
-    if not re.fullmatch(r"([01][0-9]|2[0-3]):[0-5][0-9]", text):
+    if not is_minute(text):
         raise argparse.ArgumentTypeError(f"{text!r} is not 00:00 to 23:59")
     return text
 
@@ -144,12 +143,12 @@ class Parser(argparse.ArgumentParser):
 
     def add_journeys(self, at: str = "") -> None:
         """How many vehicles a journey has, and how far one walks."""
-        self.add_number("--trips", f"the maximum number of vehicles of a journey{at}", Range("", 1, 8), 4)
-        self.add_number("--walk", f"the longest walk{at}", Range("seconds", 0, 7200), 600)
+        self.add_number("--trips", f"the maximum number of vehicles of a journey{at}", Range("", 1, MOST_RIDES), 4)
+        self.add_number("--walk", f"the longest walk{at}", Range("seconds", 0, MOST_FOOT_SECONDS), 600)
 
     def add_days_that_count(self) -> None:
         for name, where in (("--back", "before"), ("--ahead", "after")):
-            self.add_number(name, f"service days {where} the date that count", Range("days", 0, 6), 1)
+            self.add_number(name, f"service days {where} the date that count", Range("days", 0, MOST_DAYS), 1)
 
     def add_program(self) -> None:
         without = "TTM_PROGRAM, else the one on the PATH, else the one built here"
@@ -167,10 +166,15 @@ class Parser(argparse.ArgumentParser):
 
     def add_within(self, without: str = "the only one") -> None:
         """The limit of access, in minutes as all tools have it, or in seconds as `ttm` has it."""
-        minutes, what = decimals("minutes", 0, MOST_LIMIT // 60), "the limit of access: 0 to 71,582,788 minutes"
+        minutes, what = (
+            decimals("minutes", 0, MOST_NUMBER // 60),
+            f"the limit of access: 0 to {MOST_NUMBER // 60:,} minutes",
+        )
         how: dict[str, Any] = {"type": lambda text: round(60 * minutes.read(text)), "metavar": "MINUTES"}
         self.add("--cutoff", "--cutoffs", what=what, without=without, dest="within", **how)
-        self.add_number("--within", "the same in seconds, as for ttm", Range("seconds", 0, MOST_LIMIT), without=without)
+        self.add_number(
+            "--within", "the same in seconds, as for ttm", Range("seconds", 0, MOST_NUMBER), without=without
+        )
 
     def add_cutoffs(self, what: str, least: float, most: float, default: str) -> None:
         """Limits of access, in minutes as all tools have them, or in seconds as `ttm` has them."""
@@ -222,13 +226,15 @@ class Parser(argparse.ArgumentParser):
 
     def add_walking(self, of: str = "", there: str = "", along: str = "") -> None:
         """How one walks on from a stop in areas; the texts name the picture."""
-        self.add_number("--walk", f"the longest walk on from a stop{of}", Range("seconds", 0, 7200), 600)
+        self.add_number("--walk", f"the longest walk on from a stop{of}", Range("seconds", 0, MOST_FOOT_SECONDS), 600)
         self.add_ways(there, f"a file of OpenStreetMap, along whose ways walks go{along}", "circles")
         self.add_number("--near", "the greatest distance of a stop from a way", decimals("metres", 0, 10000), 100)
 
     def add_ways(self, there: str, streets: str, without: str) -> None:
-        self.add_number("--speed", f"the walking speed{there}", decimals("m/s", 0.01, 100), 1.33)
-        self.add_number("--detour", "length of a walk, as a multiple of the straight line", decimals("", 1, 100), 1.3)
+        self.add_number("--speed", f"the walking speed{there}", decimals("m/s", 0.01, 100), WALKING_SPEED)
+        self.add_number(
+            "--detour", "length of a walk, as a multiple of the straight line", decimals("", 1, 100), DETOUR
+        )
         self.add_text("--streets", "FILE", streets, without=without)
 
     def add_people(self) -> None:

@@ -2,6 +2,7 @@ import argparse
 
 from ..core.errors import ArgumentError, needs
 from ..core.files import output
+from ..core.limits import MOST_NUMBER
 from .options import Parser, Range, decimals, opened, scenarios_of
 
 SUMMARY = "one HTML file to send, with travel times and access to explore in a browser"
@@ -46,7 +47,7 @@ def describe(parser: Parser) -> None:
     what = "a file with the column stop_id: the stops from which the page has travel times"
     parser.add_text("--origins", "FILE", what, without="all that there is room for")
     what = "the seed of the draw, if not all stops fit"
-    parser.add_number("--seed", what, Range("", 0, 4294967295), default=1)
+    parser.add_number("--seed", what, Range("", 0, MOST_NUMBER), default=1)
     parser.add_text("--unit", "WORD", "what the matrix counts as access, such as jobs", default="opportunities")
     parser.add_text("--title", "TEXT", "the title of the page", without="the feed's name")
     parser.add_text("--note", "TEXT", "what else a reader needs to know", without="nothing")

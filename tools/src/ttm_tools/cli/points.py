@@ -3,6 +3,7 @@ from typing import TYPE_CHECKING
 
 from ..core.console import say
 from ..core.errors import ArgumentError, needs
+from ..core.limits import MOST_FOOTPATHS, MOST_FOOT_SECONDS, MOST_STOPS
 from ..core.text import quantity
 from .options import Parser, Range, decimals
 
@@ -11,7 +12,7 @@ if TYPE_CHECKING:
     from ..walks import Pace
 
 SUMMARY = "a feed for journeys from door to door: points as stops, and the walks to them"
-HELP = """\
+HELP = f"""\
 Writes a folder for runs of ttm from point to point, such as cells of a grid, homes or schools: the points become stops
 without trips, and the walks between points and stops become footpaths. A journey then begins with a walk from a point,
 ends with a walk to a point, or is a walk from point to point, and ttm combines walks and rides, minute by minute.
@@ -37,7 +38,8 @@ or of a point in an earlier file, all those of its file begin with the file's na
 
 Walks are those of ttm-tools walks, in straight lines or along streets; a point has no entrances. Points with no stop in
 reach are reported, and so are old stops that walks by way of a plan's new stops bring nearer to each other. ttm accepts
-65,535 stops, stations and points, and 4,000,000 walks; more are an error before anything is written. Memory: some 150
+{MOST_STOPS:,} stops, stations and points, and {MOST_FOOTPATHS:,} walks; more are an error before \
+anything is written. Memory: some 150
 MB, 150 bytes for each walk, and with --streets 800 for each node of the ways."""
 
 
@@ -54,7 +56,9 @@ def describe(parser: Parser) -> None:
     parser.add_text("--area", "FILE", what, without="wherever a stop is within a walk")
     what = "points or polygons whose numbers to sum into the cells"
     parser.add_several("--people", "FILE", what, without="none")
-    parser.add_number("--limit", "the longest walk, and the --walk of a run", Range("seconds", 1, 7200), 600)
+    parser.add_number(
+        "--limit", "the longest walk, and the --walk of a run", Range("seconds", 1, MOST_FOOT_SECONDS), 600
+    )
     parser.add_pace()
     parser.add_flag("--leave-out", "leave out the points without a stop in reach", "they are reported")
 

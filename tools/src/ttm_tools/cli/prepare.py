@@ -5,11 +5,12 @@ from ..core.console import as_line, say
 from ..core.errors import ArgumentError, needs
 from ..core.files import output
 from ..core.folders import scratch
+from ..core.limits import MOST_DAYS, MOST_EVENTS, MOST_STOPS, MOST_TRIPS
 from ..prepare.rules import help_table
 from .options import Parser, Range, day
 
 SUMMARY = "a feed that ttm reads, from published feeds: checked, repaired, clipped, merged"
-HELP = """\
+HELP = f"""\
 Writes a folder that ttm reads, from published feeds: zip files or folders, with the files in it or one folder below.
 
 --check reports all errors for which ttm would refuse the feed, in ttm's order, and writes no folder. For each check
@@ -25,7 +26,7 @@ run. The exit status is 1, and no folder is written, if no trip runs on any day,
 --repair if no trip runs on --date itself, if a rule (except `same`) removes more than a tenth of a file's records (of
 transfers.txt also more than ten), or if a required file has no record left. --allow-loss writes the folder anyway.
 
-{rules}
+{{rules}}
 
 Several feeds are merged: each is checked and repaired by itself. If identifiers of one kind (stops, routes, trips,
 services, agencies, shapes, fares, zones ..) collide with those of an earlier feed, all those of the later feed begin
@@ -38,8 +39,9 @@ to them; a trip keeps its calls inside, two at least. Journeys through a place o
 stop_times.txt only the trips that call inside are read and held in memory. --routes and --agency remove stops without
 trips, --date removes trips whose service doesn't run on the days. In all other files (fare_rules.txt, pathways.txt,
 stop_areas.txt, translations.txt, shapes.txt ..) records that name something removed go too, and fares that lose all
-their rules; the numbers of removed records are printed. More than 65,535 stops and stations, 1,000,000 trips or
-8,000,000 stop times are refused, with the options that remove some.
+their rules; the numbers of removed records are printed. \
+More than {MOST_STOPS:,} stops and stations, {MOST_TRIPS:,} trips or
+{MOST_EVENTS:,} stop times are refused, with the options that remove some.
 
 No rule replaces a missing file or column. Memory: some 250 bytes for each record of stop_times.txt that is held."""
 
@@ -62,8 +64,8 @@ def describe(parser: Parser) -> None:
     parser.add_several("--agency", "AGENCY_ID", "an agency whose routes to keep", without="all")
     what = "YYYYMMDD or YYYY-MM-DD: keep services that run --back days before it to --ahead after"
     parser.add("--date", what=what, without="all", type=day, metavar="DATE")
-    parser.add_number("--back", "days before the date, as for ttm", Range("days", 0, 6), default=1)
-    parser.add_number("--ahead", "days after the date, as for ttm", Range("days", 0, 6), default=1)
+    parser.add_number("--back", "days before the date, as for ttm", Range("days", 0, MOST_DAYS), default=1)
+    parser.add_number("--ahead", "days after the date, as for ttm", Range("days", 0, MOST_DAYS), default=1)
     parser.add_argument("feeds", metavar="FEED", nargs="+", help="a zip file or folder")
 
 

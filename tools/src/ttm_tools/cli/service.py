@@ -1,10 +1,11 @@
 import argparse
-import re
 from typing import TYPE_CHECKING
 
 from ..core.console import say
 from ..core.errors import InputError, needs
 from ..core.files import output
+from ..core.limits import LAST_TIME
+from ..core.times import clock_seconds
 from ..views.picture_files import write_picture
 from .options import Parser
 
@@ -26,15 +27,14 @@ the first.
 --page writes an HTML page like a timetable at a stop: minutes of departure by hour, scenarios side by side. --picture
 draws a map on which a wider line has more vehicles an hour; needs matplotlib. docs/reference/measures.md defines each
 number. Needs pandas. Memory: some 150 MB, and 300 bytes for each stop time of the day and scenario."""
-CLOCK = re.compile(r"([0-9]{1,3}):([0-5][0-9])")
 
 
 def times(text: str) -> list[int]:
     """Ascending times of a day, in seconds."""
-    found = [CLOCK.fullmatch(part) for part in text.split(",")]
-    seconds = [int(match[1]) * 3600 + int(match[2]) * 60 for match in found if match]
+    found = [clock_seconds(part) if part.count(":") == 1 else None for part in text.split(",")]
+    seconds = [number for number in found if number is not None]
     grows = all(low < high for low, high in zip(seconds, seconds[1:]))
-    if len(seconds) < max(2, len(found)) or not grows or seconds[-1] > 168 * 3600:
+    if len(seconds) < max(2, len(found)) or not grows or seconds[-1] > LAST_TIME + 1:
         raise argparse.ArgumentTypeError(f"{text!r} is not two or more ascending times HH:MM up to 168:00")
     return seconds
 

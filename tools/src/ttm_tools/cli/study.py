@@ -3,6 +3,7 @@ import sys
 from pathlib import Path
 
 from ..core.errors import ArgumentError, needs
+from ..core.limits import MOST_NUMBER
 from ..core.signals import Interrupted
 from .options import Parser, Range
 
@@ -40,7 +41,7 @@ def describe(parser: Parser) -> None:
     parser.add_number("--part", what, Range("", 1, 9999), without="all")
     parser.add_text("--verify", "FOLDER", "recompute a tenth of a study's rows", without="the study runs")
     without = "drawn at random, and printed"
-    parser.add_number("--seed", "chooses the rows of --verify", Range("", 0, 4294967295), without=without)
+    parser.add_number("--seed", "chooses the rows of --verify", Range("", 0, MOST_NUMBER), without=without)
 
 
 def refuse_others(args: argparse.Namespace) -> None:

@@ -43,7 +43,9 @@ BY_ORIGIN = (
     *named("cut_off", "slower", "new", "faster", what="number of such destinations"),
 )
 OF_PEOPLE = named("opportunity", "percentile", "cutoff", "group", "scenario")  # followed by the columns of a measure
-OF_PEOPLE_NEAREST = named("opportunity", "percentile", "nearest", "group", "scenario")  # for times to the nearest opportunities
+OF_PEOPLE_NEAREST = named(
+    "opportunity", "percentile", "nearest", "group", "scenario"
+)  # for times to the nearest opportunities
 LIMIT = "the limit: opportunities, or minutes to the nearest"
 OF_BAND = named("people", "percent", what="those of the group within it")
 BANDS = (*OF_PEOPLE, *named("at_least", what=LIMIT), *OF_BAND)

@@ -11,6 +11,7 @@ from decimal import Decimal, InvalidOperation
 from typing import Any, Sequence
 
 from ..core.errors import ArgumentError
+from ..core.limits import MOST_FOOT_SECONDS
 from .routes import Route
 
 Values = dict[str, Any]
@@ -43,7 +44,7 @@ def actions_of(body: Any) -> list[Values]:
 
 def walk_of(body: Any) -> int:
     """The longest walk that the page sends, in seconds."""
-    return number(body["walk"] if isinstance(body, dict) and "walk" in body else None, "walk", 0, 7200)
+    return number(body["walk"] if isinstance(body, dict) and "walk" in body else None, "walk", 0, MOST_FOOT_SECONDS)
 
 
 def number(value: Any, name: str, least: int, most: int) -> int:

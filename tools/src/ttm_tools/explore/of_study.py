@@ -5,7 +5,7 @@ from pathlib import Path
 from typing import Any, Collection, Iterator
 
 from ..core.errors import InputError
-from ..dates import day_of
+from ..core.times import day_of
 from ..study.settings import Study
 from ..study.study_file import read_study
 from .options import ExploreOptions

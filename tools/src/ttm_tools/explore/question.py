@@ -5,9 +5,10 @@ from dataclasses import dataclass
 from typing import Mapping
 
 from ..core.errors import ArgumentError
+from ..core.limits import MOST_RIDES
+from ..core.times import is_minute
 from .point import Point
 
-CLOCK = re.compile(r"([01][0-9]|2[0-3]):[0-5][0-9]")
 WHOLE = re.compile(r"[0-9]{1,18}")
 TAB = re.compile(r"[0-9a-z]{1,32}")
 DEGREES = re.compile(r"-?[0-9]{1,3}(\.[0-9]{1,9})?")
@@ -32,7 +33,7 @@ def whole(args: Mapping[str, str], name: str, least: int, most: int) -> int:
 
 def clock(args: Mapping[str, str], name: str) -> str:
     text = args.get(name, "")
-    if not CLOCK.fullmatch(text):
+    if not is_minute(text):
         raise ArgumentError(f"{name} is {text[:60]!r}; allowed: 00:00 to 23:59")
     return text
 
@@ -59,7 +60,7 @@ def origin_of(args: Mapping[str, str], places: int) -> int | Point:
 
 def question_of(args: Mapping[str, str], places: int) -> Question:
     tab, turn, version = tab_of(args), whole(args, "turn", 0, 1 << 53), version_of(args)
-    origin, trips = origin_of(args, places), whole(args, "trips", 1, 8)
+    origin, trips = origin_of(args, places), whole(args, "trips", 1, MOST_RIDES)
     return Question(origin, window_of(args), trips, tab, turn, version)
 
 

@@ -11,8 +11,9 @@ import numpy.typing as npt
 
 from ..core.arrays import Floats, Mask, Whole
 from ..core.errors import InputError
+from ..core.times import as_clock
 from ..records import number_of
-from .fields import EMPTY, clock, time
+from .fields import EMPTY, time
 
 Codes = npt.NDArray[Any]  # whole numbers of whatever width
 
@@ -71,7 +72,7 @@ def numbered(numbers: Whole, text: Callable[[int], str]) -> Column:
 
 def clocks(seconds: Whole) -> Column:
     """A column of times."""
-    return numbered(seconds, clock)
+    return numbered(seconds, as_clock)
 
 
 def renamed(column: Column, texts: Sequence[str]) -> Column:

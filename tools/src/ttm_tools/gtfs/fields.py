@@ -1,4 +1,4 @@
-"""Which texts `ttm` takes as numbers, times and dates, and the files, columns and limits that it reads.
+"""Which texts `ttm` takes as numbers, times and dates, and the files and columns that it reads.
 
 A number is -1 for a text that is none, and -2 for an empty one.
 """
@@ -8,12 +8,11 @@ import functools
 import re
 from dataclasses import dataclass
 
+from ..core.limits import LAST_TIME, MOST_NUMBER
+from ..core.times import clock_seconds
+
 NONE, EMPTY = -1, -2
-LARGEST = (1 << 32) - 1
-MOST_STOPS, MOST_TRIPS, MOST_STOP_TIMES, MOST_FOOTPATHS = 65_535, 1_000_000, 8_000_000, 4_000_000
-MOST_BYTES = 1 << 30
 WEEKDAYS = ("monday", "tuesday", "wednesday", "thursday", "friday", "saturday", "sunday")
-TIME = re.compile(r"([0-9]{1,3}):([0-5][0-9]):([0-5][0-9])")
 DATE = re.compile(r"[0-9]{8}")
 
 
@@ -51,7 +50,7 @@ def number(text: str) -> int:
     digits = trimmed.lstrip("0") or "0"
     if not (trimmed.isascii() and trimmed.isdigit() and len(digits) <= 10):
         return NONE
-    return int(digits) if int(digits) <= LARGEST else NONE
+    return int(digits) if int(digits) <= MOST_NUMBER else NONE
 
 
 @functools.lru_cache(maxsize=1 << 17)  # a feed's times, of which arrivals and departures have most in common
@@ -60,10 +59,8 @@ def time(text: str) -> int:
     trimmed = text.strip(" ")
     if not trimmed:
         return EMPTY
-    found = TIME.fullmatch(trimmed)
-    if found is None or int(found[1]) > 167:
-        return NONE
-    return int(found[1]) * 3600 + int(found[2]) * 60 + int(found[3])
+    seconds = clock_seconds(trimmed) if trimmed.count(":") == 2 else None
+    return NONE if seconds is None or seconds > LAST_TIME else seconds
 
 
 def date(text: str) -> int:
@@ -78,8 +75,3 @@ def date(text: str) -> int:
     except ValueError:
         return NONE
     return int(trimmed)
-
-
-def clock(seconds: int) -> str:
-    """Seconds as `ttm` reads a time."""
-    return f"{seconds // 3600:02}:{seconds // 60 % 60:02}:{seconds % 60:02}"

@@ -10,12 +10,12 @@ import numpy as np
 
 from ..core import progress
 from ..core.errors import InputError
+from ..core.limits import MOST_SECONDS
 from ..core.text import display_text, quantity
 from ..opening.paths import as_one_line, regular
 from ..records import refuse_alike
 from .layout import MatrixLayout, layout_of
 from .lines import (
-    MOST,
     Seconds,
     content,
     count_of_fields,
@@ -31,7 +31,7 @@ from .matrix import Matrix, Share, Sums
 
 BYTES_AT_ONCE = 1 << 20  # a line of a metropolis has a hundred thousand
 NO_MATRIX = "not a matrix: it begins neither with scenario,origin,access nor with scenario,origin,share,access_.."
-TRAVEL_TIMES = f"whole seconds up to {MOST}, or nothing"
+TRAVEL_TIMES = f"whole seconds up to {MOST_SECONDS}, or nothing"
 
 
 @dataclass(frozen=True)

@@ -7,14 +7,14 @@ import numpy as np
 import numpy.typing as npt
 
 from ..core.errors import InputError
+from ..core.limits import MOST_SECONDS, MOST_STOPS
 from ..opening.tables import parsed
 
-Seconds = npt.NDArray[np.float32]  # NaN where a stop isn't reached; whole seconds up to MOST are exact
+Seconds = npt.NDArray[np.float32]  # NaN where a stop isn't reached; whole seconds up to MOST_SECONDS are exact
 Bytes = npt.NDArray[np.uint8]
 COMMA, ZERO, QUOTE = ord(","), ord("0"), b'"'
-MOST = (1 << 24) - 1  # seconds
 MOST_DIGITS = 9
-MOST_COLUMNS = 65_535 + 11  # stops that `ttm` takes, and what stands before them
+MOST_COLUMNS = MOST_STOPS + 11  # stops that `ttm` takes, and what stands before them
 MOST_RECORD = 1 << 26  # bytes
 POWERS = [10**place for place in range(MOST_DIGITS)]
 
@@ -76,7 +76,7 @@ def count_of_fields(line: bytes, begin: int) -> int:
 
 def seconds_of(cells: bytes, count: int) -> Seconds | None:
     """The travel times of a line's cells, or None where they aren't this number of whole numbers or empty fields up to
-    MOST.
+    MOST_SECONDS.
     """
     if count == 0:
         return np.zeros(0, np.float32)
@@ -90,7 +90,7 @@ def seconds_of(cells: bytes, count: int) -> Seconds | None:
     if longest > MOST_DIGITS:
         return None
     values = values_of(digits, ends, lengths, longest)
-    if values.max() > MOST:
+    if values.max() > MOST_SECONDS:
         return None
     seconds: Seconds = values.astype(np.float32)
     seconds[lengths == 0] = np.nan
@@ -112,6 +112,6 @@ def first_bad(cells: bytes) -> tuple[int, str]:
     """The first of a line's cells that is no travel time, and where it stands."""
     texts = cells.decode("utf-8", "surrogateescape").split(",")
     for place, text in enumerate(texts):
-        if text and not (text.isascii() and text.isdigit() and int(text) <= MOST and len(text) <= MOST_DIGITS):
+        if text and not (text.isascii() and text.isdigit() and int(text) <= MOST_SECONDS and len(text) <= MOST_DIGITS):
             return place, text
     return len(texts), ""

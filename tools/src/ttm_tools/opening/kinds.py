@@ -4,16 +4,15 @@
 
 import datetime
 import difflib
-import re
 from dataclasses import dataclass
 from decimal import Decimal
 from typing import Any, Callable, Generic, Iterable, TypeVar
 
+from ..core.limits import LAST_TIME
 from ..core.text import quantity
+from ..core.times import clock_seconds
 
 Value = TypeVar("Value")
-CLOCK = re.compile(r"([0-9]{1,3}):([0-5][0-9])(?::([0-5][0-9]))?")
-LAST_TIME = 604_799  # 167:59:59, the last time that a feed can state
 
 
 class WrongItem(ValueError):
@@ -71,9 +70,8 @@ def texts_of(value: Any) -> list[str]:
 
 def seconds_of(value: Any) -> int:
     """Seconds after midnight."""
-    match = CLOCK.fullmatch(value.isoformat("seconds") if isinstance(value, datetime.time) else str(value))
-    seconds = 0 if match is None else sum(int(part or 0) * of for part, of in zip(match.groups(), (3600, 60, 1)))
-    if match is None or seconds > LAST_TIME:
+    seconds = clock_seconds(value.isoformat("seconds") if isinstance(value, datetime.time) else str(value))
+    if seconds is None or seconds > LAST_TIME:
         raise ValueError(value)
     return seconds
 

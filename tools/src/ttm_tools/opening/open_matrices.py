@@ -6,11 +6,10 @@ import numpy as np
 import numpy.typing as npt
 
 from ..core.errors import InputError
+from ..core.limits import MOST_LIMITS, MOST_NUMBER, MOST_SECONDS, MOST_STOPS
 
-MOST_PLACES = 65_535  # origins, or stops, that `ttm` takes
 LONGEST_NAME = 10_000  # bytes of an identifier
-MOST_SECONDS = (1 << 24) - 1
-SHARES, LIMITS = range(1, 101), range(0, 1 << 32)
+SHARES, LIMITS = range(1, 101), range(0, MOST_NUMBER + 1)
 
 
 def refuse_shapes(file: Any, path: str) -> None:
@@ -44,8 +43,13 @@ def limits_of(file: Any, path: str) -> tuple[int | None, ...]:
     if limits is None:
         return (None,)
     values = np.asarray(limits)
-    if values.ndim != 1 or values.dtype.kind not in "iu" or not 1 <= len(values) <= 8 or (np.diff(values) <= 0).any():
-        raise InputError(path, "limits aren't 1 to 8 whole numbers, ascending")
+    if (
+        values.ndim != 1
+        or values.dtype.kind not in "iu"
+        or not 1 <= len(values) <= MOST_LIMITS
+        or (np.diff(values) <= 0).any()
+    ):
+        raise InputError(path, f"limits aren't 1 to {MOST_LIMITS} whole numbers, ascending")
     if not all(int(value) in LIMITS for value in values):
         raise InputError(path, "limits aren't seconds")
     return tuple(map(int, values))
@@ -77,8 +81,8 @@ def length_of(lookups: Any, name: str, path: str) -> int:
     found = own_data(lookups, name, path)
     if found.ndim != 1 or found.dtype.kind not in "SO" or found.dtype.itemsize > LONGEST_NAME:
         raise InputError(path, f"lookup {name} is not a list of identifiers")
-    if len(found) > MOST_PLACES:
-        raise InputError(path, f"lookup {name} has {len(found):,} identifiers, and ttm takes {MOST_PLACES:,}")
+    if len(found) > MOST_STOPS:
+        raise InputError(path, f"lookup {name} has {len(found):,} identifiers, and ttm takes {MOST_STOPS:,}")
     return len(found)
 
 

@@ -7,9 +7,7 @@ from pathlib import Path
 from typing import Any
 
 from .paths import as_one_line, sized
-
-MOST_TOML = 4_000_000  # bytes
-MOST_JSON = 200_000_000
+from ..core.limits import MOST_JSON, MOST_TOML
 
 
 def read_text(path: str | Path, most: int, what: str) -> str:

@@ -14,12 +14,13 @@ import numpy as np
 
 from ..core.arrays import Narrow, Whole
 from ..core.errors import InputError
+from ..core.limits import MOST_STOPS
 from ..core.text import display_text
 from ..gtfs.call_numbers import CALLS, CallNumbers, CallReader, narrow
 from ..gtfs.calls import begins_of, calls_of
 from ..gtfs.columns import Codes, positions_of, values_of
 from ..gtfs.feeds import Feed, is_stop, read_feed, read_folder, refuse_planned
-from ..gtfs.fields import MOST_STOPS, date, number, time
+from ..gtfs.fields import date, number, time
 from ..gtfs.service_days import Days, MOST_DAYS, days_of, ordinals
 from ..gtfs.stops import Stops, place_of
 from ..opening.kinds import decimal

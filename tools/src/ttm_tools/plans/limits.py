@@ -7,9 +7,8 @@ import numpy as np
 
 from ..core.arrays import Whole
 from ..core.errors import InputError
-from ..gtfs.fields import MOST_STOP_TIMES, MOST_TRIPS
+from ..core.limits import MOST_EVENTS, MOST_RUNS, MOST_TRIPS
 from ..gtfs.service_days import runs_of_trips
-from ..prepare.make import MOST_RUNS
 from .base import Base
 from .days import runs_of
 from .state import State
@@ -22,7 +21,7 @@ def refuse_limits(path: str, base: Base, states: Sequence[State]) -> None:
     own = [trip for state in states for trip in state.own.values()]
     trips = len(base.trips) + len(own)
     events = base.records + sum(len(trip.stop) for trip in own)
-    for count, most, what in ((trips, MOST_TRIPS, "trips"), (events, MOST_STOP_TIMES, "stop times")):
+    for count, most, what in ((trips, MOST_TRIPS, "trips"), (events, MOST_EVENTS, "stop times")):
         if count > most:
             too_many = f"the feed of all scenarios would have {count:,} {what}, and ttm takes {most:,}"
             raise InputError(path, f"{too_many}: {FEWER}")
@@ -50,7 +49,7 @@ def most_of(counts: Whole, days: int) -> tuple[int, int, int]:
 
 
 def is_too_much(runs: int, calls: int) -> bool:
-    return runs > MOST_RUNS or calls > MOST_STOP_TIMES
+    return runs > MOST_RUNS or calls > MOST_EVENTS
 
 
 def sentences_on_days(base: Base, states: Sequence[State]) -> Iterator[str]:
@@ -61,7 +60,7 @@ def sentences_on_days(base: Base, states: Sequence[State]) -> Iterator[str]:
     (day, *most), (_, *around) = (most_of(counts, days) for days in (1, 3))
     who = "all scenarios together" if len(states) > 1 else "the scenario"
     what = f"{who}: at most {most[0]:,} runs with {most[1]:,} stop times on a day ({base.days.day(day)})"
-    taken = f"ttm takes {MOST_RUNS:,} and {MOST_STOP_TIMES:,}"
+    taken = f"ttm takes {MOST_RUNS:,} and {MOST_EVENTS:,}"
     if is_too_much(*most):
         yield f"{what}, and {taken}: {FEWER}"
     elif is_too_much(*around):

@@ -11,8 +11,8 @@ from typing import Sequence
 import numpy as np
 
 from ..core.arrays import Whole
+from ..core.times import as_clock
 from ..gtfs.columns import Column, clocks, coded, column_of
-from ..gtfs.fields import clock
 from ..gtfs.tables import Table, table_of
 from ..opening.kinds import whole
 from .base import Base, free
@@ -178,7 +178,7 @@ def new_headways(base: Base, own: Sequence[OwnTrip]) -> Table:
     records = table.rows()
     for new in own:
         for headway in new.trip.headways:
-            times = {"start_time": clock(headway.start), "end_time": clock(headway.end)}
+            times = {"start_time": as_clock(headway.start), "end_time": as_clock(headway.end)}
             rows.append({**records[headway.row], "trip_id": new.name, **times})
     return table_of("frequencies.txt", list(table.columns), rows)
 

@@ -5,8 +5,8 @@ from dataclasses import dataclass, field, replace
 import numpy as np
 
 from ..core.arrays import Mask, Whole
-from ..gtfs.fields import clock
-from ..opening.kinds import LAST_TIME
+from ..core.limits import LAST_TIME
+from ..core.times import as_clock
 from ..opening.toml_file import Entry
 from .base import Base, Headway, free
 
@@ -151,7 +151,7 @@ def in_range(entry: Entry, trip: Trip) -> Trip:
     begin = first if trip.headways else int(trip.arrive.min())
     end = last if trip.headways else int(trip.depart.max())
     if begin < 0 or end > LAST_TIME or last + int(trip.depart[-1] - trip.depart[0]) >= LAST_LABEL:
-        time = f"-{clock(-begin)}" if begin < 0 else clock(end)
+        time = f"-{as_clock(-begin)}" if begin < 0 else as_clock(end)
         message = f"trip {trip.label} would be under way at {time}"
         raise entry.fault(f"{message}; times go from 0:00:00 to 167:59:59", "do", str(entry.values.get("do")))
     if (trip.depart < trip.arrive).any() or (trip.arrive[1:] < trip.depart[:-1]).any():

@@ -12,8 +12,8 @@ import numpy as np
 
 from ..core.arrays import Mask
 from ..core.errors import InputError
+from ..core.limits import MOST_BYTES
 from ..gtfs.columns import one_of
-from ..gtfs.fields import MOST_BYTES
 from ..gtfs.tables import Table, joined, no_table, read_table, write_lines, write_table
 from ..records import names_of as columns_of, records
 from . import new_records as new

@@ -8,9 +8,10 @@ import numpy as np
 
 from ..core.arrays import Floats
 from ..core.errors import InputError, needs
+from ..core.limits import MOST_JSON
 from ..core.text import display_text, first_few, quantity, short_number
 from ..opening.paths import as_one_line, sized
-from ..opening.texts import MOST_JSON, read_json
+from ..opening.texts import read_json
 from ..records import number_of
 
 AREAS = {".gpkg": b"SQLite format 3", ".geojson": b"{", ".json": b"{"}  # what geopandas reads, and how it begins

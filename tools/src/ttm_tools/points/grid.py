@@ -13,13 +13,13 @@ import numpy.typing as npt
 
 from ..core.arrays import Floats
 from ..core.errors import InputError, needs
+from ..core.limits import MOST_STOPS
 from ..core.text import display_text, short_number
 from ..gtfs.projection import Projection
 from ..gtfs.stops import Stops
 from .features import AREAS, POLYGONS, RECORD, checked, numbers_of, numeric_columns, read_features
 from .table import Points, read_points
 
-MOST_CELLS = 65_535  # stops and points that `ttm` takes
 MOST_TRIED = 2_000_000  # squares of a bounding box
 OUTSIDE = "outside all cells"
 LEAST_OUTSIDE = 1e-6  # of a column's total; less is due to rounding
@@ -83,7 +83,7 @@ def grid_near(stops: Stops, side: float, metres: float) -> Grid:
         off = ((rows + 0.5) * side - up)[:, None] ** 2 + ((columns + 0.5) * side - right)[None, :] ** 2
         near = np.argwhere(off <= reach**2) + [rows[0], columns[0]]
         found = np.concatenate([found, near])
-        if len(found) > 2 * MOST_CELLS:
+        if len(found) > 2 * MOST_STOPS:
             found = np.unique(found, axis=0)
             refuse_cells(len(found))
     return whole(Grid(projection, side, south, west, np.unique(found, axis=0)))
@@ -139,8 +139,8 @@ def refuse_tried(count: float) -> None:
 
 
 def refuse_cells(count: int) -> None:
-    if count > MOST_CELLS:
-        raise InputError(PATH, f"more than {MOST_CELLS:,} cells, which is more than ttm takes: use larger cells")
+    if count > MOST_STOPS:
+        raise InputError(PATH, f"more than {MOST_STOPS:,} cells, which is more than ttm takes: use larger cells")
 
 
 def filled(grid: Grid, paths: Sequence[str]) -> FilledCells:

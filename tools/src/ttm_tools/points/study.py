@@ -16,6 +16,7 @@ import numpy.typing as npt
 from ..core.errors import InputError
 from ..core.filenames import file_names
 from ..core.files import atomic_folder, copy_file, require_empty
+from ..core.limits import MOST_FOOTPATHS, MOST_STOPS
 from ..core.text import display_text, first_few, quantity, short_number
 from ..gtfs.stops import Stops, read_stops
 from ..opening.paths import inside
@@ -26,7 +27,6 @@ from ..walks.counting import TooManyWalks
 from .areas import AREAS_FILE, write_areas
 from .table import Points
 
-MOST_STOPS, MOST_PAIRS = 65_535, 4_000_000  # that `ttm` takes
 FEED, POINTS, WORDS, LABELS, FOOTPATHS = "feed", "points.csv", "words.txt", "labels.csv", "footpaths.csv"
 SCENARIOS, NEW_STOPS = "scenarios", "new_stops.csv"  # of a plan, in its feed's folder
 UNREACHED = "without a stop in reach"
@@ -85,8 +85,8 @@ def make(options: PointsOptions, walker: WalkFinder) -> list[str]:
         study = PointStudy(study.points.only(places), study.file[places])
         refuse_places(len(stops.identifiers), study, helps)
         walks = walker(stops.followed_by(study.points.as_stops()), None)
-    if len(walks.seconds) > MOST_PAIRS:
-        what = f"{len(walks.seconds):,} walks are more than the {MOST_PAIRS:,} that ttm takes"
+    if len(walks.seconds) > MOST_FOOTPATHS:
+        what = f"{len(walks.seconds):,} walks are more than the {MOST_FOOTPATHS:,} that ttm takes"
         raise TooManyWalks(study.points.path, f"{what}: use a shorter --limit, or fewer points; {helps}")
     rounded = Rounded()
     with atomic_folder(options.out) as folder:

@@ -9,6 +9,7 @@ from typing import Callable, Iterable, Iterator, Sequence
 import numpy as np
 
 from ..core.arrays import Mask, Whole
+from ..core.limits import MOST_BYTES, MOST_EVENTS, MOST_FOOTPATHS, MOST_NUMBER, MOST_STOPS, MOST_TRIPS
 from ..gtfs import fields
 from ..gtfs.calls import calls_of
 from ..gtfs.columns import empty, one_of, positions_of, repeated, repeated_pairs, values_of
@@ -20,8 +21,8 @@ from .likely import renamed_columns
 ID = "it may not be empty"
 ONCE = "a record before has the same"
 STOP = "stops.txt has to name it, as a stop (location_type 0 or empty)"
-NUMBER = "a number is digits alone, 0 to 4294967295"
-OPEN_NUMBER = "it is empty or a number: digits alone, 0 to 4294967295"
+NUMBER = f"a number is digits alone, 0 to {MOST_NUMBER}"
+OPEN_NUMBER = f"it is empty or a number: digits alone, 0 to {MOST_NUMBER}"
 TIME = "a time is H:MM:SS, 0:00:00 to 167:59:59"
 DATE = "a date is YYYYMMDD"
 ENDS = "the first and the last stop time of a trip have an arrival_time or a departure_time"
@@ -149,7 +150,7 @@ def faults_in(feed: Feed, name: str) -> list[Fault]:
             return []
         allowed = "the file has to be there" + (", or calendar_dates.txt" if name == "calendar.txt" else "")
         return [Fault(table, "missing file", "", allowed, none, none, missing=True)]
-    if table.source is not None and table.source.stat().st_size > fields.MOST_BYTES:
+    if table.source is not None and table.source.stat().st_size > MOST_BYTES:
         return [Fault(table, TOO_LONG, "", "a file has at most 1,073,741,824 bytes", none, none)]
     lacking = lacking_in(table)
     if lacking:
@@ -165,7 +166,7 @@ def faults_in(feed: Feed, name: str) -> list[Fault]:
 
 
 def check_stops(_: Feed, checks: Checks) -> None:
-    checks.few(fields.MOST_STOPS)
+    checks.few(MOST_STOPS)
     checks.identifies("stop_id")
     checks.values("bad number", OPEN_NUMBER, number, "location_type", may_be_empty=True)
 
@@ -191,7 +192,7 @@ def check_calendar_dates(_: Feed, checks: Checks) -> None:
 
 
 def check_trips(feed: Feed, checks: Checks) -> None:
-    checks.few(fields.MOST_TRIPS)
+    checks.few(MOST_TRIPS)
     checks.filled("route_id")
     checks.named("route_id", "unknown route", names_in(feed, "routes.txt", "route_id"), "routes.txt has to name it")
     checks.filled("service_id")
@@ -205,7 +206,7 @@ def named_trips(feed: Feed, checks: Checks) -> None:
 
 def check_stop_times(feed: Feed, checks: Checks) -> None:
     table = checks.table
-    checks.few(fields.MOST_STOP_TIMES)
+    checks.few(MOST_EVENTS)
     named_trips(feed, checks)
     checks.named("stop_id", "unknown stop", stops_of(feed), STOP, but=empty(table["stop_id"]))
     sequence = values_of(table["stop_sequence"], number)
@@ -220,7 +221,7 @@ def check_frequencies(feed: Feed, checks: Checks) -> None:
     named_trips(feed, checks)
     checks.values("bad time", TIME, time, "start_time", "end_time")
     headways = values_of(checks.table["headway_secs"], number)
-    checks.add("headway_secs", "bad number", "a headway is whole seconds, 1 to 4294967295", headways < 1)
+    checks.add("headway_secs", "bad number", f"a headway is whole seconds, 1 to {MOST_NUMBER}", headways < 1)
 
 
 def check_transfers(feed: Feed, checks: Checks) -> None:
@@ -240,9 +241,9 @@ def too_many_footpaths(feed: Feed, table: Table) -> Iterator[Fault]:
     if not feed.has_columns("stops.txt"):
         return
     footpaths = np.where(used_transfers(table), footpaths_of(table, feed.tables["stops.txt"]), 0)
-    rows = np.flatnonzero((np.cumsum(footpaths) > fields.MOST_FOOTPATHS) & (footpaths > 0))
+    rows = np.flatnonzero((np.cumsum(footpaths) > MOST_FOOTPATHS) & (footpaths > 0))
     if len(rows):
-        allowed = f"at most {fields.MOST_FOOTPATHS:,} footpaths, one for each pair of stops of its two ends"
+        allowed = f"at most {MOST_FOOTPATHS:,} footpaths, one for each pair of stops of its two ends"
         yield Fault(table, TOO_MANY, "", allowed, rows, LAST + rows)
 
 

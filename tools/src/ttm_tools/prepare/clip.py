@@ -15,10 +15,11 @@ import numpy as np
 from ..core.arrays import Floats, Mask, Whole
 from ..core.errors import InputError, needs
 from ..core.text import display_text
+from ..core.times import as_clock
 from ..gtfs.calls import Calls, calls_of
 from ..gtfs.columns import begins_run, distinct, one_of, positions_of, values_of
 from ..gtfs.feeds import Feed, names_in, parents_of
-from ..gtfs.fields import FILES, clock, number, time
+from ..gtfs.fields import FILES, number, time
 from ..gtfs.service_days import on_days
 from ..gtfs.tables import Table
 from ..opening.paths import as_one_line
@@ -209,7 +210,7 @@ def write_open_times(feed: Feed, calls: Calls, stays: Mask) -> None:
     arrival, departure = calls.filled()
     table = feed.tables["stop_times.txt"]
     for name, values in (("arrival_time", arrival), ("departure_time", departure)):
-        table.put(name, calls.rows[open_ones], [clock(int(value)) for value in values[open_ones]])
+        table.put(name, calls.rows[open_ones], [as_clock(int(value)) for value in values[open_ones]])
 
 
 def shift_headways(feed: Feed, calls: Calls, stays: Mask, order: Sequence[str]) -> None:
@@ -230,7 +231,7 @@ def shift_headways(feed: Feed, calls: Calls, stays: Mask, order: Sequence[str]) 
         if len(late):
             record = int(table.records[late[0]])
             raise InputError("frequencies.txt", "is past 167:59:59 once calls go", record=record, column=name)
-        table.put(name, changed, [clock(int(time)) for time in times])
+        table.put(name, changed, [as_clock(int(time)) for time in times])
 
 
 def keep_trips(feed: Feed) -> None:

@@ -8,10 +8,11 @@ from typing import Callable, Sequence
 import numpy as np
 
 from ..core.text import display_text
+from ..core.times import as_clock
 from ..gtfs import fields
 from ..gtfs.columns import used, values_of
 from ..gtfs.feeds import Feed, stops_of
-from ..gtfs.fields import FILES, Layout, WEEKDAYS, clock, date, number, time
+from ..gtfs.fields import FILES, Layout, WEEKDAYS, date, number, time
 from ..gtfs.identifiers import KINDS, kind_of
 from ..gtfs.tables import Table
 from .likely import COMMA, PLACES, renamed_columns
@@ -43,7 +44,7 @@ def mended_time(text: str) -> str | None:
     found = LOOSE_TIME.fullmatch(text.strip())
     if not found or int(found[2]) > 59 or int(found[3] or 0) > 59:
         return None
-    return clock(int(found[1]) * 3600 + int(found[2]) * 60 + int(found[3] or 0))
+    return as_clock(int(found[1]) * 3600 + int(found[2]) * 60 + int(found[3] or 0))
 
 
 def mended_date(text: str) -> str | None:

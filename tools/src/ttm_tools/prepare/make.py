@@ -11,8 +11,8 @@ import numpy as np
 from ..core.columns import REPAIRS, names_of
 from ..core.errors import InputError
 from ..core.files import atomic_folder, require_empty
+from ..core.limits import MOST_EVENTS, MOST_RUNS
 from ..core.text import quantity
-from ..gtfs import fields
 from ..gtfs.columns import positions_of
 from ..gtfs.feeds import Feed, names_in, read_feed, refuse_planned, write_feed
 from ..gtfs.fields import FILES
@@ -26,7 +26,6 @@ from .merge import merge
 from .repair import repair
 from .report import Repaired, refuse
 
-MOST_RUNS = 1_000_000
 PREPARED = "prepared.csv"
 OF_DAYS = ("trips.txt", "stop_times.txt")  # of which fewer records are left for some days
 ORDER = {name: place for place, name in enumerate(FILES)}
@@ -120,6 +119,6 @@ def run_lines(feed: Feed, days: Sequence[datetime.date]) -> Iterator[str]:
     on = np.sum([on_days(feed, [day]) for day in days], axis=0, dtype=np.int64)
     total, events = int(on @ runs), int(on @ (runs * calls))
     sentence = f"runs from {days[0]} to {days[-1]}: {total:,} with {events:,} stop times"
-    most = f"{MOST_RUNS:,} and {fields.MOST_STOP_TIMES:,}"
-    few = total <= MOST_RUNS and events <= fields.MOST_STOP_TIMES
+    most = f"{MOST_RUNS:,} and {MOST_EVENTS:,}"
+    few = total <= MOST_RUNS and events <= MOST_EVENTS
     yield sentence if few else f"{sentence}, of which ttm takes {most}; use --back 0 --ahead 0, or a smaller region"

@@ -4,10 +4,11 @@ from typing import Sequence
 
 import numpy as np
 
+from ..core.times import as_clock
 from ..gtfs.calls import Calls, calls_of
 from ..gtfs.columns import one_of, values_of
 from ..gtfs.feeds import names_in
-from ..gtfs.fields import clock, number, time
+from ..gtfs.fields import number, time
 from ..gtfs.tables import Table
 from .check import faults_in
 from .repair import Repair, Rows
@@ -106,7 +107,7 @@ def a_day_later(table: Table, calls: Calls, places: slice) -> list[tuple[str, in
                 return None
             last = value
             if added and time(table.text(name, row)) >= 0:
-                moved.append((name, row, clock(value)))
+                moved.append((name, row, as_clock(value)))
     return moved
 
 
@@ -126,7 +127,7 @@ def mend_headways(repair: Repair, table: Table) -> None:
             continue
         if begin > start[row]:
             later.append(int(row))
-            begins.append(clock(begin))
+            begins.append(as_clock(begin))
         last = int(end[row])
     repair.put(table, "start_time", np.array(later, dtype=np.intp), begins, "headway")
     repair.leave_out(table, np.sort(np.array(gone, dtype=np.intp)), "start_time", "headway")

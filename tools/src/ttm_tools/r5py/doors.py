@@ -12,6 +12,7 @@ import numpy as np
 import numpy.typing as npt
 
 from ..core.files import remove
+from ..core.limits import MOST_FOOTPATHS, MOST_FOOT_SECONDS
 from ..core.text import display_text, first_few, quantity
 from ..core.threads import processors
 from ..points import study
@@ -25,7 +26,6 @@ from .long_walks import ALIGHTS, LongWalks, reached_directly
 from .network import Prepared, TransportNetwork
 from .places import FramePlaces, GRID
 from .refusals import NotAvailable
-from .split import LONGEST
 from .task import NEAR, RegionalTask
 
 Seconds = npt.NDArray[np.float64]  # NaN where a place isn't reached
@@ -140,7 +140,7 @@ def doors_of(
     doors = Doors(kept("doors", key, make) / "doors", key, int(pace.limit))
     for places, file in zip(files, (BEGINS, ENDS)):
         warn_of_unreached(places, doors.unreached(file))
-    return doors if doors.direct is None else replace(doors, walk=LONGEST)
+    return doors if doors.direct is None else replace(doors, walk=MOST_FOOT_SECONDS)
 
 
 def write_doors(folder: Path, walks: LongWalks, merges: bool) -> None:
@@ -195,7 +195,7 @@ def named_limits(task: RegionalTask, places: FramePlaces) -> Iterator[None]:
         yield
     except TooManyWalks:
         limit = datetime.timedelta(seconds=task.pace().limit)
-        what = f"{limit} gives more than the {study.MOST_PAIRS:,} walks that ttm takes"
+        what = f"{limit} gives more than the {MOST_FOOTPATHS:,} walks that ttm takes"
         raise NotAvailable("max_time_walking", what, "use less, such as 20 minutes, or fewer places") from None
     except study.TooManyPlaces as fault:
         argument = "point_grid_resolution" if places.name == GRID else places.name

@@ -1,7 +1,7 @@
 """A feed in which each stop is two: you board at the one, and alight at the other.
 
-`ttm` puts footpaths together to chains, and takes 4,000,000 of them in all. Where walks may take hours, there are more
-between the stops of a city alone. In a split feed no footpath ends where another begins, so there are no chains, and
+`ttm` chains footpaths, and limits their number (`MOST_FOOTPATHS`). If walks may take hours, the stops of a city alone
+have more. In a split feed no footpath ends where another begins, so there are no chains, and
 `ttm` gets just the walks that journeys need. A change between vehicles at a stop is a walk that takes its change time.
 """
 
@@ -13,8 +13,8 @@ import numpy as np
 
 from ..core.arrays import Mask, Whole
 from ..core.files import copy_file
+from ..core.limits import MOST_EVENTS, MOST_FOOTPATHS, MOST_FOOT_SECONDS, MOST_STOPS
 from ..gtfs.columns import Column, clocks, column_of, numbered
-from ..gtfs.fields import MOST_FOOTPATHS, MOST_STOPS, MOST_STOP_TIMES
 from ..gtfs.footpaths import Footpaths, NO_CHANGE
 from ..gtfs.tables import Table, write_table
 from ..gtfs.timetable import Timetable
@@ -24,7 +24,6 @@ from ..records import write_rows
 from ..walks.counting import TooManyWalks
 from .needed import ends_of_trips
 
-LONGEST = 7_200  # seconds of a walk that `ttm` takes
 REPLACED = ("stops.txt", "stop_times.txt", "transfers.txt")
 ALIGHT = " alight"
 
@@ -51,7 +50,7 @@ def split_of(timetable: Timetable, places: Sequence[str], nodes: int) -> Split:
     while not known.isdisjoint(split.twin(name) for name in known):
         split = Split(timetable.stops, split.ending + ALIGHT)
     count = len(timetable.all_stops.identifiers) + len(timetable.stops) + nodes
-    if count > MOST_STOPS or 2 * len(timetable.events.stop) > MOST_STOP_TIMES:
+    if count > MOST_STOPS or 2 * len(timetable.events.stop) > MOST_EVENTS:
         raise TooManyWalks(timetable.folder, "too many walks, and too large a feed to leave out those without use")
     return split
 
@@ -128,7 +127,7 @@ def refuse_many(path: Path, walks: Sequence[Footpaths]) -> None:
 
 def changes_at(changes: Whole) -> Footpaths:
     """The changes between vehicles as walks; where nobody changes there is none."""
-    if ((changes > LONGEST) & (changes < NO_CHANGE)).any():
+    if ((changes > MOST_FOOT_SECONDS) & (changes < NO_CHANGE)).any():
         raise TooManyWalks("transfers.txt", "too many walks, and a change that takes more than two hours")
-    stop = np.flatnonzero(changes <= LONGEST)
+    stop = np.flatnonzero(changes <= MOST_FOOT_SECONDS)
     return Footpaths(stop, stop, changes[stop])

@@ -4,6 +4,7 @@ import datetime
 from dataclasses import dataclass
 from typing import Any, Iterable, Sequence
 
+from ..core.times import as_minute
 from ..walks import Pace
 from .modes import TransportMode, modes_of, only_walks, vehicles_of
 from .refusals import NotAvailable
@@ -28,9 +29,7 @@ class DepartureTimes:
     @property
     def window(self) -> tuple[str, str]:
         """The first and the last departure."""
-        minutes = self.first, self.first + self.count - 1
-        first, last = (f"{minute // 60:02}:{minute % 60:02}" for minute in minutes)
-        return first, last
+        return as_minute(self.first), as_minute(self.first + self.count - 1)
 
     def at(self, minute: int) -> datetime.datetime:
         """One of the departures."""

@@ -5,12 +5,11 @@ import re
 from dataclasses import MISSING, dataclass, field
 from typing import Any, Sequence
 
-from ..dates import as_ttm_reads, day_of
+from ..core.times import as_ttm_reads, day_of, is_minute
 from ..opening import kinds
 from ..opening.kinds import Kind, WrongItem, is_number, taken_if
 from ..opening.toml_file import Entry
 
-CLOCK = re.compile(r"([01][0-9]|2[0-3]):[0-5][0-9]")
 WINDOW_NAME = re.compile(r"[\w-]{1,40}")
 MOST_DATES, MOST_WINDOWS = 31, 96
 SEVERAL_DATES = f"1 to {MOST_DATES} dates in brackets, ascending"
@@ -75,7 +74,7 @@ def days_in(value: Any) -> tuple[str, ...]:
 def minute_in(value: Any) -> str:
     """A minute of the day, from a time of TOML or a text."""
     text = value.strftime("%H:%M") if isinstance(value, datetime.time) and not value.second else str(value)
-    if not CLOCK.fullmatch(text):
+    if not is_minute(text):
         raise ValueError(value)
     return text
 

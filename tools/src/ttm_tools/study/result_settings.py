@@ -2,6 +2,7 @@
 
 from dataclasses import dataclass
 
+from ..core.limits import MOST_NUMBER
 from ..measures.measure_list import DECAYS
 from ..opening.kinds import TEXT, ascending, number, one_of, whole
 from .kinds import TEXTS, flag, setting, several
@@ -61,7 +62,7 @@ class ResultSettings:
         whole(1, 100, "percent"), "the percentile of tables, maps and page; without it, the median or the first", "50"
     )
     within: int | None = setting(
-        whole(0, 4294967295, "seconds"), "the limit of tables, maps and page; without it, the last of [run]", "1800"
+        whole(0, MOST_NUMBER, "seconds"), "the limit of tables, maps and page; without it, the last of [run]", "1800"
     )
     cutoff: float | None = setting(number(0, 10000, "minutes"), "the same in minutes, instead of within", "30")
     page: bool = flag("page.html, to view and to send", True)

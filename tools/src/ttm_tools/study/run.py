@@ -5,7 +5,7 @@ import itertools
 from pathlib import Path
 from typing import Any, Sequence
 
-from ..dates import day_of
+from ..core.times import day_of
 from ..engine import Run
 from ..matrices import BASE
 from ..records import records

@@ -6,6 +6,16 @@ from dataclasses import dataclass, field, is_dataclass
 from pathlib import Path
 from typing import Any, get_type_hints
 
+from ..core.limits import (
+    DETOUR,
+    MOST_CUTOFF_MINUTES,
+    MOST_DAYS,
+    MOST_FOOT_SECONDS,
+    MOST_NUMBER,
+    MOST_RIDES,
+    MOST_TRIES,
+    WALKING_SPEED,
+)
 from ..opening.kinds import TEXT, ascending, number, whole
 from .kinds import BOX, DATE, DATES, FILE, FILES, MINUTE, TEXTS, WINDOWS, Window, flag, needed, setting, several
 from .result_settings import ResultSettings
@@ -55,23 +65,23 @@ class RunSettings:
         "several windows, instead of from and to: a matrix for each",
         '[{ name = "peak", from = "07:00", to = "08:59" }]',
     )
-    trips: int = setting(whole(1, 8), "the maximum number of vehicles of a journey", "4", 4)
-    walk: int = setting(whole(0, 7200, "seconds"), "the longest walk; 0 for none", "600", 600)
+    trips: int = setting(whole(1, MOST_RIDES), "the maximum number of vehicles of a journey", "4", 4)
+    walk: int = setting(whole(0, MOST_FOOT_SECONDS, "seconds"), "the longest walk; 0 for none", "600", 600)
     shares: tuple[int, ...] = setting(
         ascending(1, 100, "percent"), "the percentiles of the travel times", "[25, 50, 75]", (50,)
     )
     limits: tuple[int, ...] = setting(
-        ascending(0, 4294967295, "seconds"), "limits within which access counts", "[1800]", (1800,)
+        ascending(0, MOST_NUMBER, "seconds"), "limits within which access counts", "[1800]", (1800,)
     )
     cutoffs: tuple[float, ...] | None = setting(
-        ascending(0, 10000, "minutes", False), "the same in minutes, instead of limits", "[30]"
+        ascending(0, MOST_CUTOFF_MINUTES, "minutes", False), "the same in minutes, instead of limits", "[30]"
     )
     origins: str | None = setting(
         FILE, "a file with the column stop_id: where journeys begin; without it, all stops, or points", '"few.csv"'
     )
-    back: int = setting(whole(0, 6, "days"), "service days before the date that count", "1", 1)
-    ahead: int = setting(whole(0, 6, "days"), "service days after the date that count", "1", 1)
-    tries: int = setting(whole(1, 8), "how many times a row is attempted", "1", 1)
+    back: int = setting(whole(0, MOST_DAYS, "days"), "service days before the date that count", "1", 1)
+    ahead: int = setting(whole(0, MOST_DAYS, "days"), "service days after the date that count", "1", 1)
+    tries: int = setting(whole(1, MOST_TRIES), "how many times a row is attempted", "1", 1)
 
 
 @dataclass(frozen=True)
@@ -79,9 +89,11 @@ class WalkSettings:
     """Walks between stops, and to points."""
 
     none: bool = flag("only the walks of the feed's transfers")
-    limit: int | None = setting(whole(1, 7200, "seconds"), "the longest walk; without it, walk of [run]", "600")
-    speed: float = setting(number(0.01, 100, "m/s"), "the walking speed", "1.33", 1.33)
-    detour: float = setting(number(1, 100), "length of a walk, as a multiple of the straight line", "1.3", 1.3)
+    limit: int | None = setting(
+        whole(1, MOST_FOOT_SECONDS, "seconds"), "the longest walk; without it, walk of [run]", "600"
+    )
+    speed: float = setting(number(0.01, 100, "m/s"), "the walking speed", f"{WALKING_SPEED}", WALKING_SPEED)
+    detour: float = setting(number(1, 100), "length of a walk, as a multiple of the straight line", f"{DETOUR}", DETOUR)
     streets: str | None = setting(
         FILE, "a file of OpenStreetMap: walks along its ways; without it, straight lines", '"town.osm.pbf"'
     )

@@ -12,6 +12,7 @@ import numpy as np
 from ..core.console import say
 from ..core.errors import InputError
 from ..core.files import sha256_of_file
+from ..core.limits import MOST_NUMBER
 from ..core.text import display_text, first_few, quantity
 from ..engine import Run, run as run_ttm
 from ..matrices import Matrix, open_matrix
@@ -57,7 +58,7 @@ def verify(folder: Path, seed: int | None, workers: int) -> None:
 def verify_rows(study: Folder, notes: dict[str, Any], runs: dict[str, Run], seed: int | None) -> None:
     """Computes a drawn tenth of the rows again, by the runs of their matrices, and refuses the first that differs."""
     origins = origins_in(str(runs[MATRIX].files["origins"]))
-    seed = random.SystemRandom().randrange(1 << 32) if seed is None else seed
+    seed = random.SystemRandom().randrange(MOST_NUMBER + 1) if seed is None else seed
     count = -(-len(origins) // OF_ALL)
     places = sorted(random.Random(seed).sample(range(len(origins)), count))
     drawn = [origins[place] for place in places]

@@ -14,6 +14,7 @@ import numpy as np
 
 from ..core.arrays import Floats
 from ..core.errors import InputError
+from ..core.limits import DETOUR, WALKING_SPEED
 from ..core.text import display_text
 from ..gtfs.projection import Projection
 from ..gtfs.stops import Stops
@@ -35,8 +36,8 @@ DECIMALS = 6  # of degrees, some tenths of a metre
 class Walking:
     """How one walks on from a stop."""
 
-    speed: float = 1.33  # metres a second
-    detour: float = 1.3  # metres of way for a metre of straight line
+    speed: float = WALKING_SPEED  # metres a second
+    detour: float = DETOUR  # metres of way for a metre of straight line
     most: float = 600.0  # seconds
 
 

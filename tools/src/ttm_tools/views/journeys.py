@@ -5,6 +5,7 @@ from dataclasses import dataclass
 from typing import Iterator, Mapping, Sequence
 
 from ..core.text import display_text, quantity
+from ..core.times import as_clock
 from ..gtfs.stops import has_file, in_folder
 from ..gtfs.timetable import DAY, Runs, Timetable
 from ..measures.journeys import Leg
@@ -37,7 +38,7 @@ class ExplainOptions:
         """A time on the axis, by the clock of the date."""
         seconds_of_day = seconds - DAY * self.back
         sign, seconds_of_day = ("-", -seconds_of_day) if seconds_of_day < 0 else ("", seconds_of_day)
-        return f"{sign}{seconds_of_day // 3600:02}:{seconds_of_day // 60 % 60:02}:{seconds_of_day % 60:02}"
+        return f"{sign}{as_clock(seconds_of_day)}"
 
     def stop(self, place: int) -> str:
         return self.timetable.all_stops.name_of(self.timetable.stops[place])

@@ -8,7 +8,7 @@ import numpy as np
 from ..core.arrays import Whole
 from ..core.columns import SERVICE, SERVICE_OF_STOPS, names_of
 from ..core.text import display_text
-from ..gtfs.fields import clock
+from ..core.times import as_clock
 from ..gtfs.stops import in_folder
 from ..gtfs.timetable import Timetable
 from ..measures.columns import header
@@ -95,7 +95,7 @@ def stops_of(day: Day, groups: Groups) -> dict[str, Whole]:
 
 
 def period_shown(period: Period) -> str:
-    return f"{clock(period.start)[:5]} to {clock(period.end)[:5]}"
+    return f"{as_clock(period.start)[:5]} to {as_clock(period.end)[:5]}"
 
 
 def texts_of(service: Service) -> list[str]:
@@ -104,7 +104,7 @@ def texts_of(service: Service) -> list[str]:
 
 def text_of(number: float, is_time: bool = False, decimals: int = 4, **_: Any) -> str:
     if is_time:
-        return "" if np.isnan(number) else clock(int(number))
+        return "" if np.isnan(number) else as_clock(int(number))
     return str(number) if isinstance(number, int) else significant(round(number, decimals))
 
 

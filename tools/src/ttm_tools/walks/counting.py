@@ -5,10 +5,10 @@ import numpy.typing as npt
 
 from ..core.arrays import Floats
 from ..core.errors import InputError
+from ..core.limits import MOST_FOOTPATHS
 from ..gtfs.columns import begins_run
 
 Places = npt.NDArray[np.int64]
-MOST_PAIRS = 4_000_000  # walks that `ttm` takes
 Ways = tuple[Places, Places, Floats]  # from where, to where, metres
 
 
@@ -31,7 +31,7 @@ class WaysFound:
             a, b, metres = a[kept], b[kept], metres[kept]
         self.ways.append((a, b, metres))
         self.count += len(a)
-        if self.count * self.directions > 2 * MOST_PAIRS:
+        if self.count * self.directions > 2 * MOST_FOOTPATHS:
             self.all()
 
     def all(self) -> Ways:
@@ -39,8 +39,8 @@ class WaysFound:
         none = (np.zeros(0, np.int64), np.zeros(0, np.int64), np.zeros(0))
         shortest = least(*(np.concatenate(columns) for columns in zip(none, *self.ways)))
         self.ways, self.count = [shortest], len(shortest[0])
-        if self.count * self.directions > MOST_PAIRS:
-            text = f"more than the {MOST_PAIRS:,} walks that ttm takes: use a shorter --limit, or fewer places"
+        if self.count * self.directions > MOST_FOOTPATHS:
+            text = f"more than the {MOST_FOOTPATHS:,} walks that ttm takes: use a shorter --limit, or fewer places"
             raise TooManyWalks(self.path, text)
         return shortest
 

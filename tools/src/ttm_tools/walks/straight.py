@@ -15,6 +15,7 @@ import numpy.typing as npt
 
 from ..core.arrays import Floats
 from ..core.errors import InputError
+from ..core.limits import DETOUR, WALKING_SPEED
 from ..core.text import display_text
 from ..gtfs.columns import coded
 from ..gtfs.stops import EARTH, Stops
@@ -31,8 +32,8 @@ class Pace:
     """How far and how fast one walks."""
 
     limit: float = 600.0  # seconds
-    speed: float = 1.33  # metres a second
-    detour: float = 1.3  # metres of way for a metre of straight line
+    speed: float = WALKING_SPEED  # metres a second
+    detour: float = DETOUR  # metres of way for a metre of straight line
 
     @property
     def metres(self) -> float:

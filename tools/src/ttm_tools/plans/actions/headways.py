@@ -8,7 +8,7 @@ import numpy as np
 
 from ...core.arrays import Mask
 from ...core.text import quantity
-from ...gtfs.fields import clock
+from ...core.times import as_clock
 from ...opening.kinds import TIME, whole
 from ...opening.toml_file import Entry
 from ..base import Headway
@@ -25,7 +25,7 @@ def headway(state: State, entry: Entry) -> list[str]:
     """In each direction, departures from the start on, strictly before the end; or some added between others."""
     start, end = time_of(entry, "from"), time_of(entry, "to")
     if end <= start:
-        raise entry.fault(f"isn't after from, {clock(start)}", "to", clock(end))
+        raise entry.fault(f"isn't after from, {as_clock(start)}", "to", as_clock(end))
     by_route: dict[str, list[Trip]] = {}
     for trip in chosen(state, entry):
         by_route.setdefault(trip.route, []).append(trip)
@@ -36,7 +36,7 @@ def headway(state: State, entry: Entry) -> list[str]:
         return [line for group in groups for line in thinned(state, entry, group, times, end)]
     sentences = [line for group in groups for line in oftener(state, entry, group, start, end)]
     if not state.changes:
-        raise entry.fault(f"adds no departure between {clock(start)} and {clock(end)}", "times")
+        raise entry.fault(f"adds no departure between {as_clock(start)} and {as_clock(end)}", "times")
     return sentences
 
 
@@ -64,7 +64,7 @@ def thinned(state: State, entry: Entry, trips: Sequence[Trip], times: range, end
     count = sum(departures_in(trip, times.start, end) for trip in inside)
     sentence = f"route {typical.route}, {ends}: {quantity(count, 'departure')} replaced by {len(times):,}"
     calls = quantity(len(typical.stop), "call")
-    return [f"{sentence}, copies of trip {typical.label} ({calls}, {clock(typical.seconds)})"]
+    return [f"{sentence}, copies of trip {typical.label} ({calls}, {as_clock(typical.seconds)})"]
 
 
 def departures_in(trip: Trip, start: int, end: int) -> int:

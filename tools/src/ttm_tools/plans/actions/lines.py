@@ -7,7 +7,7 @@ import numpy as np
 
 from ...core.arrays import Whole
 from ...core.text import display_text, quantity
-from ...gtfs.fields import clock
+from ...core.times import as_clock
 from ...gtfs.projection import metres_between
 from ...opening.kinds import FLAG, TIME, decimal, whole, wholes
 from ...opening.toml_file import Entry
@@ -48,7 +48,7 @@ def add_line(state: State, entry: Entry) -> list[str]:
             state.add(in_range(entry, trip))
     length = int(run.sum()) + dwell * (len(way) - 2)
     departures = f"{quantity(len(times), 'departure')} from each end"
-    sentence = f"route {route}: {quantity(len(way), 'stop')} in {clock(length)}; {departures}"
+    sentence = f"route {route}: {quantity(len(way), 'stop')} in {as_clock(length)}; {departures}"
     return [sentence, *([f"route {route}: agency {display_text(agency)}"] if agency else [])]
 
 
@@ -66,7 +66,7 @@ def departures_of(entry: Entry) -> list[int]:
         period.only([*PERIOD])
         first, last, every = (period.read(key, kind) for key, kind in PERIOD.items())
         if last < first:
-            raise period.fault(f"is before first, {clock(first)}", "last", clock(last))
+            raise period.fault(f"is before first, {as_clock(first)}", "last", as_clock(last))
         refuse_many(period, len(range(first, last + 1, every)), "every")
         times.update(range(first, last + 1, every))
     return sorted(times)

@@ -5,8 +5,9 @@ from dataclasses import replace
 import numpy as np
 
 from ...core.arrays import Mask, Whole
+from ...core.limits import LAST_TIME
 from ...core.text import quantity
-from ...opening.kinds import LAST_TIME, near, whole
+from ...opening.kinds import near, whole
 from ...opening.toml_file import Entry
 from ..base import NO_ROW
 from ..choice import chosen, routes_of, stop_named, stop_shown, stops_named

@@ -15,6 +15,7 @@ from urllib.parse import urlsplit
 import numpy as np
 
 from ...core.errors import MissingDependencyError
+from ...core.limits import DETOUR, WALKING_SPEED
 from ...core.text import display_text
 from ...matrices import Share
 from .content import Content
@@ -43,7 +44,7 @@ class Frame:
     sentences: list[str]  # what a reader needs to know of what is shown
     minutes: int  # at which the slider stands first
     walk: int = 600  # seconds that one walks on from a stop at most
-    pace: float = 1.33 / 1.3  # metres a second as the crow flies
+    pace: float = WALKING_SPEED / DETOUR  # metres a second as the crow flies
     tiles: str | None = None  # where a map is fetched from that is drawn below
     attribution: str = ""
     leaflet: str = LEAFLET

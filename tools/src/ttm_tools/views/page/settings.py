@@ -2,6 +2,7 @@
 
 from dataclasses import dataclass, field
 
+from ...core.limits import DETOUR, WALKING_SPEED
 from ...walks import NEAR
 
 LEAFLET = "/usr/share/javascript/leaflet"
@@ -32,7 +33,7 @@ class PageSettings:
     within: int | None = None  # seconds, the limit with which the page opens; without it, the first of the matrix
     nearest: list[float] = field(default_factory=list)  # how many of the nearest opportunities are looked for
     walk: int = 600  # seconds that one walks on from a stop at most
-    speed: float = 1.33  # metres a second
-    detour: float = 1.3  # metres of way for a metre of straight line
+    speed: float = WALKING_SPEED  # metres a second
+    detour: float = DETOUR  # metres of way for a metre of straight line
     streets: str | None = None  # a file of OpenStreetMap, along whose ways one walks on
     near: float = NEAR  # the greatest distance of a stop from a way, metres
