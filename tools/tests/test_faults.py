@@ -34,7 +34,7 @@ def test_an_error_is_the_same_behind_a_pipe(fault: BaseException) -> None:
     again = pickle.loads(pickle.dumps(fault))
     assert (type(again), str(again), again.args, vars(again)) == (type(fault), str(fault), fault.args, vars(fault))
     if isinstance(fault, InputError):
-        assert again.file == fault.file and again.record == fault.record and again.status == 1
+        assert again.file == fault.file and again.record == fault.record and again.exit_status == 1
 
 
 def test_importing_changes_no_limit_of_the_process(tmp_path: Path) -> None:

@@ -53,8 +53,8 @@ def test_what_a_killed_run_left_is_removed_by_the_next(room: Room) -> None:
 SLOW = """
 import sys, time
 sys.path.insert(0, sys.argv[1])
-from ttm_tools import files
-files.unwind_on_signals()
+from ttm_tools.core import files, signals
+signals.unwind_on_signals()
 with files.atomic_path(sys.argv[2]) as made:
     made.write_text("half")
     print("begun", flush=True)
@@ -79,14 +79,15 @@ WAITING = """
 import sys, time
 sys.path.insert(0, sys.argv[1])
 import ttm_tools.gtfs.stops
-from ttm_tools import cli, files
+from ttm_tools import cli
+from ttm_tools.core import signals
 
 def wait(*_):
     print("begun", flush=True)
     time.sleep(600)
 
 ttm_tools.gtfs.stops.read_stops = wait
-files.unwind_on_signals()
+signals.unwind_on_signals()
 sys.exit(cli.main(["walks", sys.argv[2]]))
 """
 

@@ -274,14 +274,15 @@ WAITING = """
 import sys, time
 sys.path.insert(0, sys.argv[1])
 import ttm_tools.prepare.make
-from ttm_tools import cli, files
+from ttm_tools import cli
+from ttm_tools.core.signals import unwind_on_signals
 
 def wait(*_):
     print("begun", flush=True)
     time.sleep(600)
 
 ttm_tools.prepare.make.write_feed = wait
-files.unwind_on_signals()
+unwind_on_signals()
 sys.exit(cli.main(["prepare", "--repair", "--out", *sys.argv[2:]]))
 """
 
