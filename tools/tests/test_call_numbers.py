@@ -70,7 +70,7 @@ def test_a_timetable_of_such_numbers_is_that_of_the_table(tmp_path: Path, seed: 
 
 def test_columns_grow_piece_by_piece(monkeypatch: pytest.MonkeyPatch) -> None:
     monkeypatch.setattr(growing, "BLOCK", 4)
-    none, made = growing.Growing(np.int8).whole(), growing.Growing(np.int8)
+    none, made = growing.GrowableArray(np.int8).whole(), growing.GrowableArray(np.int8)
     assert none.dtype == np.int8 and none.tolist() == []
     for piece in ([], [1, 2, 3], [4, 5, 6, 7, 8, 9]):
         made.take(np.array(piece, np.int8))

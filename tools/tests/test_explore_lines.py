@@ -15,11 +15,11 @@ from drawn_plans import DrawnPlan
 from exploring import canned, explored, village
 from helpers import LONGEST_WAIT
 
+from ttm_tools.core.toml_file import Entry, LineNumbers
 from ttm_tools.explore.changes import scenario_text
 from ttm_tools.explore.lines import FeedLines
 from ttm_tools.explore.planning import written
 from ttm_tools.gtfs.stops import read_stops
-from ttm_tools.opening.toml_file import Entry, LineNumbers
 from ttm_tools.plans.base import Base, read_taken_base
 from ttm_tools.views.page.lines import page_lines
 

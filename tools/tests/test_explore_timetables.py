@@ -9,6 +9,7 @@ import pytest
 
 from drawn_plans import DATE, DrawnPlan
 
+from ttm_tools.core.toml_file import Entry, LineNumbers
 from ttm_tools.explore.changes import scenario_text
 from ttm_tools.explore.lines import FeedLines
 from ttm_tools.explore.planning import written
@@ -20,7 +21,6 @@ from ttm_tools.gtfs.timetable import Runs, Timetable, read_edits, read_timetable
 from ttm_tools.measures import search_network
 from ttm_tools.measures.journeys import durations
 from ttm_tools.measures.search_network import Schedule
-from ttm_tools.opening.toml_file import Entry, LineNumbers
 from ttm_tools.plans.base import read_taken_base
 
 WALK, DAYS = 600, (1, 1)

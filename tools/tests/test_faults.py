@@ -42,9 +42,9 @@ def test_importing_changes_no_limit_of_the_process(tmp_path: Path) -> None:
     (tmp_path / "a.csv").write_text(f"stop_id,name\nA,{'x' * ((1 << 20) - 2)}\n")
     program = (
         "import csv, sys; sys.path.insert(0, sys.argv[1])\n"
-        "import ttm_tools, ttm_tools.records, ttm_tools.matrices, ttm_tools.cli, ttm_tools.gtfs.feeds\n"
-        "print(csv.field_size_limit(), [len(fields[1]) for _, fields in ttm_tools.records.records(sys.argv[2])])\n"
-        "print(csv.field_size_limit(77), len(list(ttm_tools.records.records(sys.argv[2]))), csv.field_size_limit())\n"
+        "import ttm_tools.matrices, ttm_tools.cli, ttm_tools.gtfs.feeds, ttm_tools.core.tables as tables\n"
+        "print(csv.field_size_limit(), [len(fields[1]) for _, fields in tables.records(sys.argv[2])])\n"
+        "print(csv.field_size_limit(77), len(list(tables.records(sys.argv[2]))), csv.field_size_limit())\n"
     )
     words = [sys.executable, "-c", program, str(Path(LAUNCHER).parent / "src"), str(tmp_path / "a.csv")]
     ran = subprocess.run(words, capture_output=True, text=True)

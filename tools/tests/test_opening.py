@@ -12,10 +12,10 @@ import pytest
 
 from helpers import LAUNCHER, STOP_TIMES, Room, Town, town_matrix
 from ttm_tools import cli
+from ttm_tools.core import zips
 from ttm_tools.core.errors import InputError
+from ttm_tools.core.tables import records
 from ttm_tools.gtfs import feeds
-from ttm_tools.opening import zips
-from ttm_tools.records import records
 
 FEED = {
     "stops.txt": "stop_id,stop_name,stop_lat,stop_lon\nA,Alpha,50,7\nB,Beta,50.01,7\n",

@@ -16,10 +16,10 @@ import numpy as np
 from .core.errors import ArgumentError, InputError, MissingDependencyError
 from .core.files import output
 from .core.folders import scratch
+from .core.tables import RoundingCounter, write_rows
 from .core.times import as_ttm_reads
 from .matrices import BASE, Matrix, Seconds, Sums, TODAY, open_matrix
 from .plans.nearness import new_stops_in, sentences_on_nearer
-from .records import Rounded, write_rows
 
 FAULT = re.compile(r"ttm: (?:(?P<file>.+?): )?(?:record (?P<record>[0-9]+): )?(?P<what>[^:]*)")
 INSTALLED = Path(sysconfig.get_path("scripts")) / "ttm"  # where pip puts the wheel's
@@ -222,7 +222,7 @@ COLUMNS = {  # of the files that are written of what is given, by their options
 }
 
 
-def file_of(folder: Path, option: str, given: Any, rounded: Rounded) -> Pathlike:
+def file_of(folder: Path, option: str, given: Any, rounded: RoundingCounter) -> Pathlike:
     """A file as it is, or one of stops, of a number for each stop, rounded to the nearest whole one, or of walks, whose
     seconds are rounded up.
     """
@@ -234,7 +234,7 @@ def file_of(folder: Path, option: str, given: Any, rounded: Rounded) -> Pathlike
     else:
         lines = enumerate(given.items() if option == "opportunities" else given, 2)
         rows = [
-            [*ends, rounded.whole(str(number), option, record, header[-1], up=option == "footpaths")]
+            [*ends, rounded.to_int(str(number), option, record, header[-1], up=option == "footpaths")]
             for record, (*ends, number) in lines
         ]
     with open(path, "wb") as file:
@@ -242,7 +242,7 @@ def file_of(folder: Path, option: str, given: Any, rounded: Rounded) -> Pathlike
     return path
 
 
-def files_of(folder: Path, rounded: Rounded, **given: Any) -> dict[str, Pathlike]:
+def files_of(folder: Path, rounded: RoundingCounter, **given: Any) -> dict[str, Pathlike]:
     """The files of what is given, by the names of their options."""
     return {option: file_of(folder, option, value, rounded) for option, value in given.items() if value is not None}
 
@@ -274,7 +274,7 @@ def matrix(
     number for each stop; footpaths a file or walks between two stops with their seconds. Faults of the inputs are
     raised as `EngineFault`, with file and record.
     """
-    rounded = Rounded()
+    rounded = RoundingCounter()
     with scratch("matrix") as folder:
         named = {"origins": origins, "opportunities": opportunities, "destinations": destinations}
         files = files_of(folder, rounded, **named, footpaths=footpaths)

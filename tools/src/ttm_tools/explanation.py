@@ -15,6 +15,8 @@ from .core.arrays import Whole
 from .core.console import say
 from .core.errors import InputError
 from .core.folders import scratch
+from .core.reading import regular
+from .core.tables import RoundingCounter
 from .core.text import display_text
 from .core.times import minutes_of
 from .engine import EngineFault, Pathlike, Run, files_of, nearer_by_plan, program_at, refusal_of
@@ -24,8 +26,6 @@ from .gtfs.timetable import DAY, Timetable, read_edits, read_timetable, runs_of
 from .matrices import BASE, Matrix, TODAY, open_matrix
 from .measures.journeys import Search, cell, durations, journey
 from .measures.search_network import Schedule
-from .opening.paths import regular
-from .records import Rounded
 from .views.journeys import ExplainOptions, Found
 
 
@@ -96,7 +96,7 @@ def read_both(
     origins, destinations = (list(dict.fromkeys(pair[place] for pair in pairs)) for place in (0, 1))
     with scratch("explain") as folder:
         path = folder / "matrix.csv"
-        own = files_of(folder, Rounded(), origins=origins, destinations=destinations)
+        own = files_of(folder, RoundingCounter(), origins=origins, destinations=destinations)
         with running(replace(task, files={**task.files, **own}), path, program):
             timetable = read_timetable(stops)
         return timetable, cells_of(open_matrix(str(path)), names, task.shares[0], pairs)

@@ -14,10 +14,10 @@ from typing import Iterable, Iterator, Mapping, Sequence
 
 from .core.errors import ArgumentError
 from .core.files import remove
+from .core.tables import RoundingCounter
 from .engine import EngineFault, Pathlike, Result, Run, files_of, program_at, refusal_of, result_of
 from .matrices import open_matrix
 from .process_pool import PLACEHOLDER_WINDOW, ProcessPool, ask_command
-from .records import Rounded
 
 
 class Network:
@@ -82,7 +82,7 @@ class Network:
     ) -> None:
         if workers < 1:
             raise ArgumentError(f"workers={workers}: at least one process is needed")
-        executable, self.rounded = program_at(program), Rounded()
+        executable, self.rounded = program_at(program), RoundingCounter()
         self.folder = Path(tempfile.mkdtemp(prefix=f"ttm-tools-network.{os.getpid()}."))
         try:
             given_files = files_of(self.folder, self.rounded, footpaths=footpaths)
@@ -159,7 +159,7 @@ class Network:
         InputError
             An opportunity is negative or too large.
         """
-        rounded, numbers = Rounded(), {"trips": trips, "workers": workers, "tries": tries}
+        rounded, numbers = RoundingCounter(), {"trips": trips, "workers": workers, "tries": tries}
         options: dict[str, object] = {"from": window[0], "to": window[1], **numbers}
         options |= {"share": ",".join(map(str, shares)), "within": ",".join(map(str, limits))}
         with self.question_folder() as folder:

@@ -10,12 +10,12 @@ from typing import BinaryIO, Iterator, Sequence, TypeVar
 
 from .core.errors import InputError
 from .core.files import atomic_folder
+from .core.reading import as_one_line, regular
+from .core.tables import rows, write_rows
 from .core.text import display_text, first_few, quantity
 from .gtfs.stops import in_folder, kind_of
 from .matrices.layout import MatrixLayout, layout_of
 from .matrices.lines import content, count_of_fields, fields_of, head_of, read_record, records_of, refuse_wide
-from .opening.paths import as_one_line, regular
-from .records import rows, write_rows
 
 Item = TypeVar("Item")
 BYTES_AT_ONCE = 1 << 20

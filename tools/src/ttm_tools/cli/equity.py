@@ -91,9 +91,9 @@ def run(args: argparse.Namespace) -> None:
 
 def further(args: argparse.Namespace, table: "AccessTable", people: "Counts", kinds: "Sequence[AccessKind]") -> None:
     """Writes one of the further measures."""
+    from ..core.tables import rows
     from ..core.text import display_text
     from ..measures.opportunities import identifier_of
-    from ..records import rows
     from ..views.fairness import FairnessOptions, lines_of, write_fairness
 
     rank = None

@@ -85,8 +85,8 @@ def run(args: argparse.Namespace) -> None:
 def write_table(args: argparse.Namespace, run: "Run") -> None:
     """Writes the table of the journeys of many pairs."""
     from ..core.columns import JOURNEYS, names_of
+    from ..core.tables import rows, write_rows
     from ..explanation import all_found
-    from ..records import rows, write_rows
     from ..views.itineraries import lines_of
 
     pairs = list(dict.fromkeys((one, other) for _, (one, other) in rows(args.pairs, ["origin", "destination"])))

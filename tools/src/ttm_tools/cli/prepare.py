@@ -107,11 +107,11 @@ def run(args: argparse.Namespace) -> int:
 
 def check_feeds(args: argparse.Namespace) -> int:
     from ..core.columns import ERRORS, names_of
+    from ..core.tables import write_rows
     from ..gtfs.feeds import read_feed
     from ..prepare import report
     from ..prepare.check import check
     from ..prepare.losses import sentences
-    from ..records import write_rows
 
     rows: list[list[object]] = []
     for path in args.feeds:

@@ -52,9 +52,9 @@ def run(args: argparse.Namespace) -> None:
     if args.table and args.streets:
         raise ArgumentError("--table and --streets are two sources of walks: choose one")
     needs("numpy")
+    from ..core.tables import write_rows
     from ..gtfs.stops import read_stops
     from ..plans.nearness import new_stops_in, sentences_on_nearer
-    from ..records import write_rows
     from ..walks import Pace, footpaths_of
 
     out = file_of(args)

@@ -8,10 +8,10 @@ from pathlib import Path
 from ..core.errors import ArgumentError
 from ..core.files import copy_file, writing_to
 from ..core.folders import scratch
+from ..core.tables import write_rows
 from ..core.text import quantity
 from ..gtfs.stops import Stops, read_stops
 from ..points import grid, study
-from ..records import write_rows
 from ..walks import NEAR, Pace, Walks, summary, walks_of
 from .options import ExploreOptions
 from .point import FEED, HEADER, Point, WALKS, Walk, laid_out

@@ -10,10 +10,10 @@ from pathlib import Path
 
 import numpy as np
 
+from ..core.tables import column_positions, records, write_rows
 from ..gtfs.stops import Stops, read_stops
 from ..points.study import spread, stops_with
 from ..points.table import Points
-from ..records import places_of, records, write_rows
 from ..walks import NEAR, Pace
 from ..walks.osm import Streets
 from ..walks.straight import distances, points_of, straight_walks
@@ -111,7 +111,7 @@ def write_walks(path: Path, footpaths: str | None, name: str, walks: list[Walk])
     """The walks of a file, and those from the point."""
     lines = iter([(1, HEADER)]) if footpaths is None else records(footpaths)
     _, header = next(lines, (1, HEADER))
-    places = places_of(header, footpaths or path, HEADER)
+    places = column_positions(header, footpaths or path, HEADER)
     chosen = [places[column] for column in HEADER]
     own = (spread([name, stop, str(seconds)], chosen, len(header)) for stop, seconds in walks)
     with open(path, "wb") as out:

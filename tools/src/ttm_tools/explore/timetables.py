@@ -10,7 +10,7 @@ import numpy as np
 
 from ..core.arrays import Mask, Whole
 from ..gtfs.call_numbers import CALLS, CallNumbers
-from ..gtfs.columns import Codes, coded, where
+from ..gtfs.columns import Codes, coded, match_values
 from ..gtfs.feeds import Feed
 from ..gtfs.fields import number
 from ..gtfs.footpaths import Footpaths, closed, direct_walks
@@ -119,5 +119,5 @@ def allowed(table: Table, name: str, rows: Codes) -> Mask:
     """What records of stop_times.txt say of boarding or alighting: it is allowed where there is no record."""
     found = np.ones(len(rows), dtype=np.bool_)
     stated = np.flatnonzero(rows >= 0)
-    found[stated] = where(table[name].at(rows[stated]), lambda text: number(text) != NOT_ALLOWED)
+    found[stated] = match_values(table[name].at(rows[stated]), lambda text: number(text) != NOT_ALLOWED)
     return found

@@ -12,11 +12,11 @@ import numpy as np
 import numpy.typing as npt
 
 from ..core.arrays import Narrow, Whole
-from ..records import names_of
+from ..core.tables import names_of
 from .calls import Calls
 from .columns import Codes, Texts, column_of, constant, empty, positions_of, times_of, values_of
 from .fields import number
-from .growing import Growing
+from .growing import GrowableArray
 from .reading import Columns, ODD, known_codes, ways_to_read
 from .tables import Table, unnumbered
 
@@ -95,9 +95,9 @@ class Pieces:
     """Some columns of what records state of calls, and other columns of their file, piece by piece."""
 
     def __init__(self, names: Sequence[str], others: Sequence[str]) -> None:
-        self.columns = {name: Growing(np.int32) for name in names}
+        self.columns = {name: GrowableArray(np.int32) for name in names}
         self.known = {name: dict[str, int]() for name in others}
-        self.codes = {name: Growing(np.int8) for name in others}
+        self.codes = {name: GrowableArray(np.int8) for name in others}
 
     def take(self, stated: Stated, piece: Mapping[str, Texts]) -> None:
         for name, column in self.columns.items():
@@ -107,7 +107,7 @@ class Pieces:
 
     def stated(self) -> Stated:
         """The records of all pieces; a column that isn't kept is empty."""
-        return Stated(*(self.columns.get(name, Growing(np.int32)).whole() for name in STATED))
+        return Stated(*(self.columns.get(name, GrowableArray(np.int32)).whole() for name in STATED))
 
     def others(self) -> Columns:
         return {name: column_of(list(self.known[name]), codes.whole()) for name, codes in self.codes.items()}

@@ -8,7 +8,7 @@ import numpy as np
 
 from ..core.arrays import Mask, Whole
 from . import fields
-from .columns import begins_run, empty, positions_of, times_of, values_of
+from .columns import empty, is_group_start, positions_of, times_of, values_of
 from .fields import number
 from .tables import Table
 
@@ -29,7 +29,7 @@ class Calls:
 
     @cached_property
     def is_first(self) -> Mask:
-        return begins_run(self.trip)
+        return is_group_start(self.trip)
 
     @cached_property
     def is_last(self) -> Mask:

@@ -11,8 +11,8 @@ import numpy.typing as npt
 
 from ..core.arrays import Floats, Mask, Whole
 from ..core.errors import InputError
+from ..core.tables import number_of
 from ..core.times import as_clock
-from ..records import number_of
 from .fields import EMPTY, time
 
 Codes = npt.NDArray[Any]  # whole numbers of whatever width
@@ -144,7 +144,7 @@ def numbers_of(column: Column, path: object, name: str) -> Floats:
     return np.asarray(found[column.codes], dtype=np.float64)
 
 
-def where(column: Texts, holds: Callable[[str], bool]) -> Mask:
+def match_values(column: Texts, holds: Callable[[str], bool]) -> Mask:
     """Which records have a text of which something holds."""
     found: Mask = np.array([holds(text) for text in column.categories] or [False], dtype=np.bool_)[column.codes]
     return found
@@ -152,11 +152,11 @@ def where(column: Texts, holds: Callable[[str], bool]) -> Mask:
 
 def one_of(column: Texts, texts: Iterable[str]) -> Mask:
     """Which records have one of some texts."""
-    return where(column, frozenset(texts).__contains__)
+    return match_values(column, frozenset(texts).__contains__)
 
 
 def empty(column: Texts) -> Mask:
-    return where(column, lambda text: not text)
+    return match_values(column, lambda text: not text)
 
 
 def repeated(codes: Codes) -> Mask:
@@ -170,11 +170,11 @@ def repeated_pairs(first: Codes, second: Whole) -> Mask:
     """Which records have a pair of values that one before them has."""
     order = np.lexsort((second, first))
     found = np.zeros(len(first), dtype=np.bool_)
-    found[order] = ~begins_run(first[order], second[order])
+    found[order] = ~is_group_start(first[order], second[order])
     return found
 
 
-def begins_run(*columns: Codes) -> Mask:
+def is_group_start(*columns: Codes) -> Mask:
     """Which records don't have the values of the one before them."""
     begins = np.ones(len(columns[0]), dtype=np.bool_)
     begins[1:] = False

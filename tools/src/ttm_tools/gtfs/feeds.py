@@ -10,11 +10,11 @@ import numpy as np
 from ..core.arrays import Mask, Whole
 from ..core.errors import InputError
 from ..core.files import copy_file
-from ..opening.paths import inside
-from ..opening.zips import Unread, members_of, refuse_size, unpack_member
-from ..records import names_of
+from ..core.reading import inside
+from ..core.tables import names_of
+from ..core.zips import Unread, members_of, refuse_size, unpack_member
 from .call_numbers import CALLS
-from .columns import Texts, distinct, empty, one_of, values_of, where
+from .columns import Texts, distinct, empty, match_values, one_of, values_of
 from .fields import EMPTY, FILES, number
 from .reading import columns_of, is_long
 from .stops import has_file, in_folder
@@ -59,7 +59,7 @@ def calls_near(path: Path, stops: set[str]) -> Table:
     trips = set[str]()
 
     def note(piece: Mapping[str, Texts]) -> Mask:
-        called = where(piece["stop_id"], lambda stop: stop in known or stop.strip() in known)
+        called = match_values(piece["stop_id"], lambda stop: stop in known or stop.strip() in known)
         trips.update(distinct(piece["trip_id"], called))
         return np.zeros(len(called), dtype=np.bool_)
 

@@ -6,7 +6,7 @@ from typing import Mapping, Sequence
 import numpy as np
 
 from ..core.arrays import Mask, Whole
-from .columns import Column, begins_run, texts_of, values_of
+from .columns import Column, is_group_start, texts_of, values_of
 from .feeds import used_transfers
 from .fields import number
 from .reading import columns
@@ -101,7 +101,7 @@ def least(walks: Footpaths, count: int) -> tuple[Footpaths, Whole]:
     """The shortest walk between each two stops, by their numbers, and its place among all; of several the first."""
     pairs = walks.begin * count + walks.end
     order = np.lexsort((walks.seconds, pairs))
-    chosen = order[begins_run(pairs[order])]
+    chosen = order[is_group_start(pairs[order])]
     return walks.of(chosen), chosen
 
 
@@ -110,7 +110,7 @@ def closed(direct: Footpaths, limit: int, begins: Mask) -> Footpaths:
     firsts = np.searchsorted(direct.begin, np.arange(len(begins) + 1))
     own = direct.of(begins[direct.begin])
     longer = np.cumsum(firsts[own.end + 1] - firsts[own.end])
-    ends = np.flatnonzero(np.append(begins_run(own.begin), True)[1:]) + 1  # of a stop's
+    ends = np.flatnonzero(np.append(is_group_start(own.begin), True)[1:]) + 1  # of a stop's
     pieces = [0, *ends[np.diff(longer[ends - 1] // AT_ONCE, append=-1) != 0].tolist()]
     pieces_closed = [over_chains(own.of(np.arange(a, b)), direct, firsts, limit) for a, b in zip(pieces, pieces[1:])]
     return joined([own.of(np.arange(0)), *pieces_closed])

@@ -12,7 +12,7 @@ Numbers = npt.NDArray[Any]
 BLOCK = 1 << 18  # numbers by which the array grows in addition to a piece, so that the system moves it seldom
 
 
-class Growing:
+class GrowableArray:
     """A column of numbers. A piece may be wider than those before it."""
 
     def __init__(self, kind: npt.DTypeLike) -> None:

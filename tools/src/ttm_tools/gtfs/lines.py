@@ -7,9 +7,9 @@ import numpy.typing as npt
 
 from ..core.arrays import Floats
 from ..core.errors import InputError
+from ..core.tables import rows
 from ..core.text import display_text
-from ..records import rows
-from .columns import Codes, begins_run, numbers_of, positions_of
+from .columns import Codes, is_group_start, numbers_of, positions_of
 from .projection import Projection
 from .reading import columns
 from .stops import Stops, has_file, in_folder
@@ -78,7 +78,7 @@ def unique_rows(table: npt.NDArray[np.int32]) -> npt.NDArray[np.int32]:
     """The rows of a table, each once, quicker than numpy's own where there are many."""
     order = np.lexsort(table.T)
     table = table[order]
-    return table[begins_run(*table.T)]
+    return table[is_group_start(*table.T)]
 
 
 @dataclass(frozen=True)

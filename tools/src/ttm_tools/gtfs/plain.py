@@ -12,9 +12,9 @@ from typing import BinaryIO, Iterator, Sequence
 import numpy as np
 import numpy.typing as npt
 
-from ..opening.tables import looked_at
-from ..records import places_of, records
-from .columns import Codes, Column, begins_run, column_of
+from ..core.reading import checked_table
+from ..core.tables import column_positions, records
+from .columns import Codes, Column, column_of, is_group_start
 
 BLOCK = 1 << 22  # bytes that are read at once: they fit into a processor's cache
 LONGEST = 256  # bytes of a field
@@ -52,10 +52,10 @@ class Piece:
 def plain_pieces(path: str | Path, needed: Sequence[str], size: int = BLOCK) -> Iterator[dict[str, Piece]]:
     """The needed columns of a file, a block of whole lines at a time, which takes fifteen times its size in memory."""
     _, header = next(records(path), (1, list[str]()))
-    places = places_of(header, path, needed)
+    places = column_positions(header, path, needed)
     if not header:
         raise NotPlain  # no record, but perhaps a byte-order mark or empty lines
-    with open(looked_at(path), "rb") as file:
+    with open(checked_table(path), "rb") as file:
         for number, block in enumerate(line_blocks(file, size)):
             fields = fields_of(block, len(header))
             yield {name: fields.column(places[name], int(number == 0)) for name in needed}
@@ -121,7 +121,7 @@ def fields_of(block: bytes, count: int) -> Fields:
 
 def distinct(columns: Sequence[Words]) -> tuple[Places, Places]:
     """The first row of each different text, and of each row the number of its text, in the order in which they come."""
-    new = begins_run(*columns)
+    new = is_group_start(*columns)
     rows = np.flatnonzero(new)  # others have the text of the row before them
     first = firsts_of([word[rows] for word in columns])
     is_first = first == np.arange(len(rows))

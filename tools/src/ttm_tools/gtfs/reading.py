@@ -14,7 +14,7 @@ import numpy.typing as npt
 
 from ..core import progress
 from ..core.arrays import Mask, Whole
-from ..records import places_of, records, rows
+from ..core.tables import column_positions, records, rows
 from .columns import Column, Texts, column_of
 from .plain import BLOCK, Piece, plain_pieces, together
 
@@ -72,7 +72,7 @@ def chunks(path: str | Path, needed: Sequence[str], rows_at_once: int) -> Iterat
     how = {"dtype": "category", "keep_default_na": False, "index_col": False, "chunksize": rows_at_once}
     how |= {"encoding": "utf-8-sig", "encoding_errors": "surrogateescape", "low_memory": False}
     _, header = next(records(path), (1, list[str]()))
-    places = places_of(header, path, needed)
+    places = column_positions(header, path, needed)
     heads = {str(number): name for name, number in places.items() if name in needed}
     names = [str(number) for number in range(len(header))]
     with pandas.read_csv(path, names=names, header=0, usecols=sorted(heads), **how) as read:

@@ -11,8 +11,8 @@ import numpy.typing as npt
 
 from ..core.arrays import Floats
 from ..core.errors import InputError
+from ..core.tables import number_of, rows
 from ..core.text import display_text
-from ..records import number_of, rows
 from . import fields
 
 Area = Sequence[Sequence[Floats]]  # polygons, each an outer ring and its holes: rows of longitude and latitude

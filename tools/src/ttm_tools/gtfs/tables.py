@@ -12,7 +12,8 @@ import numpy as np
 import numpy.typing as npt
 
 from ..core.arrays import Mask, Whole
-from ..records import field as quoted, fields_as_texts, joined as lines_of, names_of
+from ..core.lines import field as quoted, fields_as_texts, join_lines as lines_of
+from ..core.tables import names_of
 from .columns import Column, behind, coded, column_of, constant, texts_at, texts_of
 from .fields import Layout
 from .reading import columns

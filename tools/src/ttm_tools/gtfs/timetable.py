@@ -12,10 +12,10 @@ from typing import Callable, Sequence
 import numpy as np
 
 from ..core.arrays import Mask, Whole
-from ..records import rows
+from ..core.tables import rows
 from .call_numbers import CallNumbers
 from .calls import begins_of, calls_of
-from .columns import Codes, one_of, positions_of, times_of, values_of, where
+from .columns import Codes, match_values, one_of, positions_of, times_of, values_of
 from .feeds import Feed, read_files
 from .fields import number
 from .service_days import services_on
@@ -89,7 +89,7 @@ def read_timetable(all_stops: Stops) -> Timetable:
 
 def narrow_events(calls: CallNumbers, table: Table) -> Events:
     """The events of some calls, with the columns of their file that say where one may board and alight."""
-    allowed = [where(table[name], lambda text: number(text) != NOT_ALLOWED) for name in ALLOWED]
+    allowed = [match_values(table[name], lambda text: number(text) != NOT_ALLOWED) for name in ALLOWED]
     board, alight = allowed if isinstance(calls.rows, range) else (column[calls.rows] for column in allowed)
     return Events(calls.begins, calls.stop, calls.arrive, calls.depart, board, alight)
 

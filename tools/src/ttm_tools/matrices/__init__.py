@@ -4,13 +4,13 @@ makes the latter.
 The room is called `matrices`, since `ttm_tools.matrix` is the function that runs `ttm`.
 """
 
-from ..opening.paths import as_one_line, regular
+from ..core.reading import as_one_line, regular
 from .beside import Beside
 from .capped import capped
 from .csv_matrix import CsvMatrix
 from .layout import layout_of
 from .lines import Seconds
-from .matrix import BASE, TODAY, Matrix, Pair, Share, Sums, has_all, lacking, pair_of
+from .matrix import BASE, Matrix, Pair, Share, Sums, TODAY, has_all, lacking, pair_of
 from .open_matrix import OpenMatrix, is_open_matrix, write_open_matrix
 
 __all__ = [

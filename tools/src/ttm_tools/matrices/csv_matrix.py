@@ -11,9 +11,9 @@ import numpy as np
 from ..core import progress
 from ..core.errors import InputError
 from ..core.limits import MOST_SECONDS
+from ..core.reading import as_one_line, regular
+from ..core.tables import refuse_alike
 from ..core.text import display_text, quantity
-from ..opening.paths import as_one_line, regular
-from ..records import refuse_alike
 from .layout import MatrixLayout, layout_of
 from .lines import (
     Seconds,

@@ -8,7 +8,7 @@ import numpy.typing as npt
 
 from ..core.errors import InputError
 from ..core.limits import MOST_SECONDS, MOST_STOPS
-from ..opening.tables import parsed
+from ..core.reading import csv_records
 
 Seconds = npt.NDArray[np.float32]  # NaN where a stop isn't reached; whole seconds up to MOST_SECONDS are exact
 Bytes = npt.NDArray[np.uint8]
@@ -49,7 +49,7 @@ def content(record: bytes) -> bytes:
 def fields_of(record: bytes) -> list[str]:
     """All fields of a record as text."""
     text = io.StringIO(record.decode("utf-8", "surrogateescape"), newline="")
-    return next((fields for fields in parsed(text) if fields), [])
+    return next((fields for fields in csv_records(text) if fields), [])
 
 
 def head_of(line: bytes, count: int) -> tuple[list[str], int]:

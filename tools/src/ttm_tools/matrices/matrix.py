@@ -10,7 +10,7 @@ import numpy.typing as npt
 
 from ..core.errors import InputError
 from ..core.text import display_text, first_few, quantity
-from ..opening.kinds import near
+from ..core.toml_values import near
 from .layout import MatrixLayout
 from .lines import Seconds
 

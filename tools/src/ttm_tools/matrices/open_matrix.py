@@ -16,13 +16,13 @@ import numpy.typing as npt
 from ..core import progress
 from ..core.errors import InputError, needs
 from ..core.files import atomic_path
+from ..core.reading import as_one_line, regular
 from ..core.threads import map_in_order, processors
-from ..opening.open_matrices import SHARES, limits_of, looked_at, refuse_shapes, refuse_twice
-from ..opening.paths import as_one_line, regular
 from .chunks import LEVEL, packed, rows_of
 from .layout import MatrixLayout
 from .lines import Seconds
 from .matrix import Matrix, Share, Sums, lacking
+from .omx_checks import SHARES, checked_cells, limits_of, refuse_shapes, refuse_twice
 
 SIGNATURE = b"\x89HDF\r\n\x1a\n"
 CELLS_OF_A_CHUNK = 1 << 18
@@ -200,7 +200,7 @@ class OpenMatrix(Matrix):
     def rows(self, scenario: str, share: Share, begin: int, end: int) -> Seconds:
         name = self.names[scenario, share]
         with as_one_line(self.path, f"matrix {name} can't be read"):
-            return looked_at(rows_of(self.file["data"][name], begin, end), self.path, name)
+            return checked_cells(rows_of(self.file["data"][name], begin, end), self.path, name)
 
 
 def is_open_matrix(path: str) -> bool:

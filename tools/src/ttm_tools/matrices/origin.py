@@ -3,7 +3,7 @@
 from pathlib import Path
 
 from ..core.errors import InputError
-from ..opening.texts import read_json
+from ..core.reading import read_json
 
 NOTES = "study.json"
 

@@ -11,10 +11,10 @@ import numpy as np
 from ..core.arrays import Floats
 from ..core.columns import ACCESS, NEAREST, names_of
 from ..core.errors import InputError
+from ..core.tables import number_of, records, rows
 from ..core.text import display_text, first_few, quantity
 from ..matrices import BASE, TODAY
 from ..matrices.matrix import LEFT_OUT, sentences_on_lacking
-from ..records import number_of, records, rows
 from .opportunities import Counts
 
 COLUMNS, OF_TIMES = names_of(ACCESS), names_of(NEAREST)

@@ -8,8 +8,8 @@ import numpy as np
 
 from ..core.arrays import Floats
 from ..core.errors import InputError
+from ..core.tables import column_positions, names_of, number_of, records, refuse_alike, rows
 from ..core.text import display_text, first_few
-from ..records import names_of, number_of, places_of, records, refuse_alike, rows
 
 IDENTIFIERS = ("stop_id", "id")  # the column that names a stop or a point: the first of these that is there
 # columns that say where and what it is
@@ -57,7 +57,7 @@ def called(column: str, path: str) -> str:
 def columns_of(path: str) -> list[str]:
     """The columns of numbers of a file: all but the identifier, names and places; no two of them are called alike."""
     _, header = next(records(path), (1, list[str]()))
-    names = [name for name in places_of(header, path, []) if name and name not in NO_COUNTS]
+    names = [name for name in column_positions(header, path, []) if name and name not in NO_COUNTS]
     refuse_alike(path, header, names)
     columns = [name for name in names if name not in IDENTIFIERS]
     if not columns:

@@ -8,7 +8,7 @@ from dataclasses import dataclass
 from typing import TYPE_CHECKING, Callable
 
 if TYPE_CHECKING:
-    from ..opening.toml_file import Entry
+    from ..core.toml_file import Entry
     from .state import State
 
 CHOICE = ("route", "direction", "pattern", "service")  # the keys that choose trips

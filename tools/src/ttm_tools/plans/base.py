@@ -16,6 +16,8 @@ from ..core.arrays import Narrow, Whole
 from ..core.errors import InputError
 from ..core.limits import MOST_STOPS
 from ..core.text import display_text
+from ..core.toml_file import Entry
+from ..core.toml_values import decimal
 from ..gtfs.call_numbers import CALLS, CallNumbers, CallReader, narrow
 from ..gtfs.calls import begins_of, calls_of
 from ..gtfs.columns import Codes, positions_of, values_of
@@ -23,8 +25,6 @@ from ..gtfs.feeds import Feed, is_stop, read_feed, read_folder, refuse_planned
 from ..gtfs.fields import date, number, time
 from ..gtfs.service_days import Days, MOST_DAYS, days_of, ordinals
 from ..gtfs.stops import Stops, place_of
-from ..opening.kinds import decimal
-from ..opening.toml_file import Entry
 from ..prepare.check import check
 from ..prepare.likely import unclosed
 from ..prepare.report import refuse

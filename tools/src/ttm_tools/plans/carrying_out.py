@@ -2,10 +2,10 @@
 
 from dataclasses import dataclass
 
+from ..core.toml_file import Entry
+from ..core.toml_values import near
 from .action_list import ACTIONS
 from .base import Base
-from ..opening.kinds import near
-from ..opening.toml_file import Entry
 from .plan_file import PlannedScenario
 from .state import Change, State
 

@@ -3,8 +3,8 @@
 from typing import Sequence
 
 from ..core.text import display_text
-from ..opening.kinds import near, whole
-from ..opening.toml_file import Entry
+from ..core.toml_file import Entry
+from ..core.toml_values import near, whole
 from .state import State, Trip
 
 

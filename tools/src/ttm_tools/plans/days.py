@@ -6,8 +6,8 @@ from typing import Sequence
 import numpy as np
 
 from ..core.arrays import Mask
+from ..core.toml_file import Entry
 from ..gtfs.fields import WEEKDAYS
-from ..opening.toml_file import Entry
 from .base import Base, free
 
 EVERY = {"daily": WEEKDAYS, "weekdays": WEEKDAYS[:5], "weekend": WEEKDAYS[5:]}

@@ -5,9 +5,9 @@ from pathlib import Path
 
 from ..core.errors import InputError
 from ..core.files import atomic_folder, require_empty
+from ..core.reading import as_one_line
 from ..core.text import as_text
-from ..opening.kinds import near
-from ..opening.paths import as_one_line
+from ..core.toml_values import near
 from .base import read_base
 from .carrying_out import Finished, carried_out
 from .limits import refuse_limits, sentences_on_days

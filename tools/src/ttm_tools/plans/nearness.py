@@ -3,10 +3,10 @@
 import os
 from typing import Iterator
 
+from ..core.tables import rows
 from ..core.text import display_text, quantity
 from ..gtfs.nearest import reached_from
 from ..gtfs.stops import read_stops
-from ..records import rows
 
 NEW_STOPS = "new_stops.csv"
 Leaving = dict[int, list[tuple[int, int]]]  # of each stop the stops that one walks to, and the seconds

@@ -12,9 +12,9 @@ import numpy as np
 
 from ..core.arrays import Whole
 from ..core.times import as_clock
+from ..core.toml_values import whole
 from ..gtfs.columns import Column, clocks, coded, column_of
 from ..gtfs.tables import Table, table_of
-from ..opening.kinds import whole
 from .base import Base, free
 from .shapes import Shapes
 from .state import State, Trip

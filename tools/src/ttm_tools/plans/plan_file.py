@@ -3,7 +3,7 @@
 import re
 from dataclasses import dataclass, field
 
-from ..opening.toml_file import Entry, read_entry
+from ..core.toml_file import Entry, read_entry
 
 NAME = re.compile(r"[^\s.@#/\\\"',](?:[^@#/\\\"',\x00-\x1f\x7f]*[^\s@#/\\\"',\x00-\x1f\x7f])?")
 TAKEN = ("base", "today")  # names that scenarios of a plan can't have

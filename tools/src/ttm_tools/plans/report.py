@@ -3,8 +3,8 @@
 from pathlib import Path
 from typing import Iterator, Sequence
 
+from ..core.tables import write_rows
 from ..core.text import first_few
-from ..records import write_rows
 from .carrying_out import Done, Finished
 from .writing import Written, used_stops
 

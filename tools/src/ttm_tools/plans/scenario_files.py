@@ -6,7 +6,7 @@ from typing import Iterator
 import numpy as np
 
 from ..core.errors import InputError
-from ..records import write_rows
+from ..core.tables import write_rows
 from .carrying_out import Finished
 from .new_records import own_routes
 from .plan_file import TAKEN

@@ -8,8 +8,8 @@ from pathlib import Path
 
 import numpy as np
 
+from ..core.tables import number_of
 from ..gtfs.tables import Table, read_table, table_of
-from ..records import number_of
 from .base import Base, free
 from .state import Trip
 

@@ -7,7 +7,7 @@ import numpy as np
 from ..core.arrays import Mask, Whole
 from ..core.limits import LAST_TIME
 from ..core.times import as_clock
-from ..opening.toml_file import Entry
+from ..core.toml_file import Entry
 from .base import Base, Headway, free
 
 LAST_LABEL = 2_000_000  # seconds from which on `ttm` takes no times of a day

@@ -13,9 +13,9 @@ import numpy as np
 from ..core.arrays import Mask
 from ..core.errors import InputError
 from ..core.limits import MOST_BYTES
+from ..core.tables import names_of as columns_of, records
 from ..gtfs.columns import one_of
 from ..gtfs.tables import Table, joined, no_table, read_table, write_lines, write_table
-from ..records import names_of as columns_of, records
 from . import new_records as new
 from .base import Base
 from .carrying_out import Finished

@@ -8,11 +8,10 @@ import numpy as np
 
 from ..core.arrays import Floats
 from ..core.errors import InputError
+from ..core.reading import as_one_line, read_json
 from ..core.text import display_text
 from ..gtfs.projection import Projection
 from ..gtfs.stops import Area, Stops
-from ..opening.paths import as_one_line
-from ..opening.texts import read_json
 
 AREAS_FILE = "areas.geojson"  # next to a feed's points
 DECIMALS = 7  # of degrees, about a hundredth of a metre

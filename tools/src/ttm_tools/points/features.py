@@ -9,10 +9,9 @@ import numpy as np
 from ..core.arrays import Floats
 from ..core.errors import InputError, needs
 from ..core.limits import MOST_JSON
+from ..core.reading import as_one_line, read_json, sized
+from ..core.tables import number_of
 from ..core.text import display_text, first_few, quantity, short_number
-from ..opening.paths import as_one_line, sized
-from ..opening.texts import read_json
-from ..records import number_of
 
 AREAS = {".gpkg": b"SQLite format 3", ".geojson": b"{", ".json": b"{"}  # what geopandas reads, and how it begins
 BYTE_ORDER = b"\xef\xbb\xbf"

@@ -17,11 +17,11 @@ from ..core.errors import InputError
 from ..core.filenames import file_names
 from ..core.files import atomic_folder, copy_file, require_empty
 from ..core.limits import MOST_FOOTPATHS, MOST_STOPS
+from ..core.reading import inside
+from ..core.tables import RoundingCounter, column_positions, records, write_rows
 from ..core.text import display_text, first_few, quantity, short_number
 from ..gtfs.stops import Stops, read_stops
-from ..opening.paths import inside
 from ..parts import write_stops
-from ..records import Rounded, places_of, records, write_rows
 from ..walks import Walks, summary as walks_summary
 from ..walks.counting import TooManyWalks
 from .areas import AREAS_FILE, write_areas
@@ -88,7 +88,7 @@ def make(options: PointsOptions, walker: WalkFinder) -> list[str]:
     if len(walks.seconds) > MOST_FOOTPATHS:
         what = f"{len(walks.seconds):,} walks are more than the {MOST_FOOTPATHS:,} that ttm takes"
         raise TooManyWalks(study.points.path, f"{what}: use a shorter --limit, or fewer points; {helps}")
-    rounded = Rounded()
+    rounded = RoundingCounter()
     with atomic_folder(options.out) as folder:
         write_feed(folder / FEED, options.feed, study.points)
         write_files(folder, options, study, walks, rounded)
@@ -184,10 +184,10 @@ def stops_with(path: Path, points: Points) -> tuple[list[str], Iterator[list[str
     """The header and the records of stops.txt with the points behind the feed's own."""
     lines = records(path)
     _, header = next(lines, (1, list[str]()))
-    there = places_of(header, path, ["stop_id"])
+    there = column_positions(header, path, ["stop_id"])
     wide = header + [name for name in PLACE if name not in there]
     own = (spread(fields[: len(header)], range(len(header)), len(wide)) for _, fields in lines)
-    places = places_of(wide, path, [])
+    places = column_positions(wide, path, [])
     chosen = [places[name] for name in ("stop_id", *PLACE)]
     return wide, itertools.chain(own, (spread(line, chosen, len(wide)) for line in lines_of(points)))
 
@@ -219,7 +219,9 @@ def has_heights(points: Points) -> bool:
     return bool((sides[:, 0] != sides[:, 1])[~np.isnan(sides[:, 1])].any())
 
 
-def write_files(folder: Path, options: PointsOptions, study: PointStudy, walks: Walks, rounded: Rounded) -> None:
+def write_files(
+    folder: Path, options: PointsOptions, study: PointStudy, walks: Walks, rounded: RoundingCounter
+) -> None:
     labels, files = study.points.labels, list[tuple[str, list[str], Iterable[Sequence[object]]]]()
     files.append((FOOTPATHS, ["from_stop_id", "to_stop_id", "seconds"], walks.rows()))
     for column, name in file_names(study.points.columns).items():
@@ -237,13 +239,15 @@ def write_files(folder: Path, options: PointsOptions, study: PointStudy, walks: 
         out.write(arguments_of(options).encode("utf-8", "surrogateescape"))
 
 
-def opportunities(options: PointsOptions, study: PointStudy, column: str, rounded: Rounded) -> Iterator[list[object]]:
+def opportunities(
+    options: PointsOptions, study: PointStudy, column: str, rounded: RoundingCounter
+) -> Iterator[list[object]]:
     """The points of the files that have a column, each with its number made whole."""
     place, points = study.points.columns.index(column), study.points
     kept = np.flatnonzero(np.array([column in file.columns for file in options.files])[study.file])
     for point in kept.tolist():
         number = repr(float(points.numbers[point, place]))
-        yield [points.identifiers[point], rounded.whole(number, points.path, point + 2, column, up=False)]
+        yield [points.identifiers[point], rounded.to_int(number, points.path, point + 2, column, up=False)]
 
 
 def sentences_on_rounded(points: Points) -> Iterator[str]:

@@ -11,9 +11,9 @@ import numpy.typing as npt
 
 from ..core.arrays import Floats
 from ..core.errors import InputError
+from ..core.tables import column_positions, number_of, records, refuse_alike, rows
 from ..core.text import display_text
 from ..gtfs.stops import Area, Stops
-from ..records import number_of, places_of, records, refuse_alike, rows
 from .areas import KINDS, area_of
 from .features import AREAS, MOST_POINTS, NUMBER, Range, numeric_columns, read_frame, text_of, valid
 
@@ -133,7 +133,7 @@ def read_table(path: str, called: Columns) -> Points:
     """The points of a CSV file; a column in which no field is a number has labels."""
     _, header = next(records(path), (1, list[str]()))
     needed = called.identifier, called.latitude, called.longitude
-    others = [name for name in places_of(header, path, needed) if name and name not in needed + WANTED]
+    others = [name for name in column_positions(header, path, needed) if name and name not in needed + WANTED]
     refuse_alike(path, header, [*needed, *others])
     columns = number_columns(path, others)
     labels = {name: list[str]() for name in others if name not in columns}

@@ -14,17 +14,16 @@ import numpy as np
 
 from ..core.arrays import Floats, Mask, Whole
 from ..core.errors import InputError, needs
+from ..core.reading import as_one_line, read_json
+from ..core.tables import rows
 from ..core.text import display_text
 from ..core.times import as_clock
 from ..gtfs.calls import Calls, calls_of
-from ..gtfs.columns import begins_run, distinct, one_of, positions_of, values_of
+from ..gtfs.columns import distinct, is_group_start, one_of, positions_of, values_of
 from ..gtfs.feeds import Feed, names_in, parents_of
 from ..gtfs.fields import FILES, number, time
 from ..gtfs.service_days import on_days
 from ..gtfs.tables import Table
-from ..opening.paths import as_one_line
-from ..opening.texts import read_json
-from ..records import rows
 from .likely import places_of
 from .references import leave_out_references, there
 
@@ -219,7 +218,7 @@ def shift_headways(feed: Feed, calls: Calls, stays: Mask, order: Sequence[str]) 
     if not len(table):
         return
     departure, firsts, staying = calls.filled()[1], np.flatnonzero(calls.is_first), np.flatnonzero(stays)
-    own = staying[begins_run(calls.trip[staying])]
+    own = staying[is_group_start(calls.trip[staying])]
     starts = firsts[np.searchsorted(calls.trip[firsts], calls.trip[own])]
     moved = np.zeros(len(order) + 1, dtype=np.int64)
     moved[calls.trip[own]] = departure[own] - departure[starts]

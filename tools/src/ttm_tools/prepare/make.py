@@ -12,12 +12,12 @@ from ..core.columns import REPAIRS, names_of
 from ..core.errors import InputError
 from ..core.files import atomic_folder, require_empty
 from ..core.limits import MOST_EVENTS, MOST_RUNS
+from ..core.tables import write_rows
 from ..core.text import quantity
 from ..gtfs.columns import positions_of
 from ..gtfs.feeds import Feed, names_in, read_feed, refuse_planned, write_feed
 from ..gtfs.fields import FILES
 from ..gtfs.service_days import on_days, runs_of_trips
-from ..records import write_rows
 from .check import check
 from .clip import Clip, clip, near
 from .likely import of_days, unclosed

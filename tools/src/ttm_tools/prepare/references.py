@@ -6,12 +6,12 @@ import numpy as np
 
 from ..core.arrays import Mask
 from ..core.errors import InputError
+from ..core.tables import names_of
 from ..core.text import quantity
 from ..gtfs.columns import one_of, used
 from ..gtfs.feeds import Feed
 from ..gtfs.identifiers import NAMING, TRANSLATED, ZONES, kind_of
 from ..gtfs.tables import Table, read_table
-from ..records import names_of
 
 GIVEN = {  # what is left out of a feed, and where it was given
     "stop": ("stops.txt", "stop_id"),

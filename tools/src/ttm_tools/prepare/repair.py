@@ -8,12 +8,12 @@ import numpy as np
 import numpy.typing as npt
 
 from ..core.arrays import Mask
+from ..core.tables import names_of
 from ..gtfs.columns import one_of, texts_at
 from ..gtfs.feeds import Feed
 from ..gtfs.fields import FILES
 from ..gtfs.identifiers import NAMING
 from ..gtfs.tables import Table, read_table
-from ..records import names_of
 from .report import Repaired
 from .rules import OF_FIELDS, RULES
 

@@ -11,17 +11,17 @@ from typing import Iterator, Sequence
 import numpy as np
 import numpy.typing as npt
 
+from ..core.cache import cached_entry, key_of
 from ..core.files import remove
 from ..core.limits import MOST_FOOTPATHS, MOST_FOOT_SECONDS
+from ..core.tables import rows, write_rows
 from ..core.text import display_text, first_few, quantity
 from ..core.threads import processors
 from ..points import study
-from ..records import rows, write_rows
 from ..walks import points_of
 from ..walks.counting import TooManyWalks
 from ..walks.streets import street_walks
 from ..walks.ways import Ways
-from .cache import kept, key_of
 from .long_walks import ALIGHTS, LongWalks, reached_directly
 from .network import Prepared, TransportNetwork
 from .places import FramePlaces, GRID
@@ -137,7 +137,7 @@ def doors_of(
             write_doors(folder / "doors", walks, merges)
         write_unreached(folder / "doors")
 
-    doors = Doors(kept("doors", key, make) / "doors", key, int(pace.limit))
+    doors = Doors(cached_entry("doors", key, make) / "doors", key, int(pace.limit))
     for places, file in zip(files, (BEGINS, ENDS)):
         warn_of_unreached(places, doors.unreached(file))
     return doors if doors.direct is None else replace(doors, walk=MOST_FOOT_SECONDS)

@@ -7,8 +7,8 @@ import numpy as np
 from shapely.geometry import LineString
 
 from ..core.arrays import Floats
+from ..core.tables import rows
 from ..measures.journeys import Leg
-from ..records import rows
 from ..walks import distances, points_of
 from ..walks.ways import Ways, degrees_of
 from .journeys import BACK, Journey, JourneySearch

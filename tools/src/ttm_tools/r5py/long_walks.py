@@ -10,13 +10,13 @@ from typing import Sequence
 import numpy as np
 import numpy.typing as npt
 
+from ..core.tables import write_rows
 from ..gtfs.footpaths import Footpaths, direct_walks, joined
 from ..gtfs.stops import Stops, read_stops
 from ..gtfs.timetable import Timetable, read_timetable
 from ..parts import write_stops
 from ..points.study import FEED, FOOTPATHS, PointStudy, prefixes_of, study_of
 from ..points.table import Points
-from ..records import write_rows
 from ..walks import Pace
 from ..walks.osm import Streets
 from ..walks.streets import Endpoints, SnappedStops, snap_stops

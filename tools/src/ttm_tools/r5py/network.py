@@ -10,15 +10,15 @@ from typing import Any, Iterable
 
 import numpy as np
 
+from ..core.cache import cached_entry, key_of, sum_of_source
 from ..core.errors import needs
 from ..core.folders import scratch
+from ..core.tables import rows
 from ..engine import Pathlike
 from ..network import Network
 from ..prepare.clip import Clip
 from ..prepare.make import PREPARED, PrepareOptions, make
-from ..records import rows
 from ..walks.osm import Streets, read_streets
-from .cache import kept, key_of, sum_of_source
 from .modes import ElevationCostFunction, TransportMode, VEHICLES, mode_of
 from .places import DEGREES
 from .refusals import NotAvailable
@@ -158,7 +158,7 @@ def streets_of(path: str, key: str) -> Streets:
         fields = {name: getattr(found, name) for name in Streets.__dataclass_fields__ if name != "path"}
         np.savez(folder / "streets.npz", **fields)
 
-    with np.load(kept("streets", key, read) / "streets.npz") as stored:
+    with np.load(cached_entry("streets", key, read) / "streets.npz") as stored:
         return Streets(path, **{name: stored[name] for name in stored.files})
 
 
@@ -178,7 +178,7 @@ def made_feed(key: str, paths: list[str], clip: Clip, repair: bool, allow_errors
         mended = next(rows(str(folder / FEED / PREPARED), ["file"]), None) is not None
         (folder / TOLD).write_text("".join(f"{line}\n" for line in text[:-1]) if mended else "", encoding="utf-8")
 
-    entry = kept("feeds", key, prepare)
+    entry = cached_entry("feeds", key, prepare)
     text = (entry / TOLD).read_text(encoding="utf-8")
     if text:
         warnings.warn(f"{', '.join(paths)} repaired:\n{text}", stacklevel=4)

@@ -14,13 +14,13 @@ import numpy as np
 from ..core.arrays import Mask, Whole
 from ..core.files import copy_file
 from ..core.limits import MOST_EVENTS, MOST_FOOTPATHS, MOST_FOOT_SECONDS, MOST_STOPS
+from ..core.tables import write_rows
 from ..gtfs.columns import Column, clocks, column_of, numbered
 from ..gtfs.footpaths import Footpaths, NO_CHANGE
 from ..gtfs.tables import Table, write_table
 from ..gtfs.timetable import Timetable
 from ..points.study import stops_with
 from ..points.table import Points
-from ..records import write_rows
 from ..walks.counting import TooManyWalks
 from .needed import ends_of_trips
 

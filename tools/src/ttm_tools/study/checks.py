@@ -5,6 +5,7 @@ from pathlib import Path
 from typing import Collection, Sequence
 
 from ..core.errors import InputError
+from ..core.tables import rows
 from ..core.text import display_text
 from ..gtfs.feeds import read_feed
 from ..measures.opportunities import called, columns_of, numbers_of
@@ -13,7 +14,6 @@ from ..points import read_points
 from ..prepare import likely
 from ..prepare.check import check
 from ..prepare.losses import Hints, refuse_day
-from ..records import rows
 from .counted import refuse_unknown, unknown_in
 from .settings import Study
 from .stages import room

@@ -12,11 +12,11 @@ import numpy as np
 from ..core.arrays import Floats
 from ..core.errors import InputError
 from ..core.files import sha256_of_file
+from ..core.tables import RoundingCounter, names_of, rows as table_rows, write_rows
 from ..core.text import display_text, first_few, quantity, short_number
 from ..measures.opportunities import Counts, OWN_NAME, called, columns_of, identifier_of, read_counts
 from ..parts import origins_in
 from ..points import read_points
-from ..records import Rounded, names_of, rows as table_rows, write_rows
 from .settings import Study
 from .sources import Sources
 from .stages import Record, Stage
@@ -179,9 +179,9 @@ def opportunities_stage(study: Path, counted: Record, column: str) -> Stage:
     def make() -> list[str]:
         stated = list(table_rows(path, ["stop_id", column]))
         numbers = np.array([float(number) for _, (_, number) in stated])
-        scale, rounded = scale_of(numbers), Rounded()
+        scale, rounded = scale_of(numbers), RoundingCounter()
         counts = {
-            stop: rounded.whole(times(number, scale), path, record, column, up=False)
+            stop: rounded.to_int(times(number, scale), path, record, column, up=False)
             for record, (stop, number) in stated
             if number != "0"
         }

@@ -8,11 +8,11 @@ from pathlib import Path
 
 from ..core.errors import InputError
 from ..core.files import atomic_folder, copy_file
+from ..core.reading import inside
 from ..core.text import quantity
 from ..engine import Run
 from ..gtfs.feeds import refuse_planned
 from ..matrices import BASE, TODAY
-from ..opening.paths import inside
 from ..parts import origins_in, origins_of_feed, write_stops
 from ..plans import make as plans
 from ..points import study as points

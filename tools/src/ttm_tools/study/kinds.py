@@ -5,10 +5,10 @@ import re
 from dataclasses import MISSING, dataclass, field
 from typing import Any, Sequence
 
+from ..core import toml_values
 from ..core.times import as_ttm_reads, day_of, is_minute
-from ..opening import kinds
-from ..opening.kinds import Kind, WrongItem, is_number, taken_if
-from ..opening.toml_file import Entry
+from ..core.toml_file import Entry
+from ..core.toml_values import Kind, WrongItem, is_number, taken_if
 
 WINDOW_NAME = re.compile(r"[\w-]{1,40}")
 MOST_DATES, MOST_WINDOWS = 31, 96
@@ -41,11 +41,11 @@ def needed(kind: Kind[Any], what: str, example: str, instead: str | None = None)
 
 
 def flag(what: str, default: bool = False) -> Any:
-    return setting(kinds.FLAG, what, str(not default).lower(), default)
+    return setting(toml_values.FLAG, what, str(not default).lower(), default)
 
 
 def texts_or_none(value: Any) -> tuple[str, ...]:
-    return tuple(kinds.texts_of(value)) if value != [] else ()
+    return tuple(toml_values.texts_of(value)) if value != [] else ()
 
 
 def day_in(value: Any) -> str:
@@ -102,7 +102,7 @@ def is_box(value: Any) -> bool:
     return bool(-180 <= west <= 180 and -180 <= east <= 180 and -90 <= south <= north <= 90)
 
 
-FILE = Kind("a path, relative to this file's folder", "is not text", kinds.NAME.convert)
+FILE = Kind("a path, relative to this file's folder", "is not text", toml_values.NAME.convert)
 NO_TEXTS = "is neither text nor a list of texts"
 FILES = Kind("paths in brackets, relative to this file's folder", NO_TEXTS, texts_or_none, is_shown=False)
 TEXTS = Kind("texts in brackets", NO_TEXTS, texts_or_none, is_shown=False)

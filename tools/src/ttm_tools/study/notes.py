@@ -9,8 +9,7 @@ from typing import Any, Sequence
 
 from .. import __version__
 from ..core.errors import InputError
-from ..opening.paths import regular
-from ..opening.texts import read_json
+from ..core.reading import read_json, regular
 from .results import StudyMatrix
 from .stages import Record, as_text, logged, sum_of_tools, write_settled
 from .ttm import facts_of

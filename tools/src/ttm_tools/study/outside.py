@@ -10,10 +10,10 @@ from dataclasses import replace
 import numpy as np
 
 from ..core.arrays import Floats
+from ..core.tables import rows
 from ..core.text import display_text, short_number
 from ..measures.access_table import AccessTable
 from ..measures.opportunities import Counts
-from ..records import rows
 from .settings import Study
 from .walking import GRID, OUTSIDE, OUTSIDE_COLUMNS
 

@@ -6,11 +6,11 @@ import itertools
 from pathlib import Path
 from typing import Iterator, Sequence
 
+from ..core.tables import records as records_in
 from ..core.text import display_text
 from ..measures.access_table import read_access
 from ..points.grid import OUTSIDE
 from ..points.study import UNREACHED
-from ..records import records as records_in
 from .counted import NOT_COUNTED
 from .document import Document
 from .maps import AREAS, maps_of

@@ -5,10 +5,10 @@ import itertools
 from pathlib import Path
 from typing import Any, Sequence
 
+from ..core.tables import records
 from ..core.times import day_of
 from ..engine import Run
 from ..matrices import BASE
-from ..records import records
 from .settings import Study
 
 

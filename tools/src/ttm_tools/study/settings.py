@@ -16,7 +16,7 @@ from ..core.limits import (
     MOST_TRIES,
     WALKING_SPEED,
 )
-from ..opening.kinds import TEXT, ascending, number, whole
+from ..core.toml_values import TEXT, ascending, number, whole
 from .kinds import BOX, DATE, DATES, FILE, FILES, MINUTE, TEXTS, WINDOWS, Window, flag, needed, setting, several
 from .result_settings import ResultSettings
 

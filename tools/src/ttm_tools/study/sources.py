@@ -6,7 +6,7 @@ from typing import Any, Callable, Iterable, Mapping, Sequence
 
 from ..core.errors import InputError
 from ..core.files import sha256_of_file
-from ..opening.paths import regular
+from ..core.reading import regular
 from .stages import Stage, files_in
 
 Signature = tuple[int, int, int]  # inode, bytes, and when it was written

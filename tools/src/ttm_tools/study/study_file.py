@@ -7,10 +7,10 @@ from dataclasses import MISSING, fields, replace
 from pathlib import Path
 from typing import Any, TypeVar
 
+from ..core.toml_file import Entry, LineNumbers, read_entry
 from ..measures.measure_list import DECAYS
-from ..opening.toml_file import Entry, LineNumbers, read_entry
 from .kinds import FILE, FILES
-from .settings import NAMES, NEEDED, TABLES, About, Study
+from .settings import About, NAMES, NEEDED, Study, TABLES
 
 Settings = TypeVar("Settings")
 

@@ -13,11 +13,11 @@ from ..core.console import say
 from ..core.errors import InputError
 from ..core.files import sha256_of_file
 from ..core.limits import MOST_NUMBER
+from ..core.reading import as_one_line
 from ..core.text import display_text, first_few, quantity
 from ..engine import Run, run as run_ttm
 from ..matrices import Matrix, open_matrix
 from ..matrices.csv_matrix import CsvMatrix
-from ..opening.paths import as_one_line
 from ..parts import origins_in, parts_of, write_stops
 from .counted import scale_in
 from .cutting import PARTS

@@ -3,11 +3,11 @@
 from dataclasses import replace
 from typing import Protocol
 
+from ..core.tables import write_rows
 from ..core.text import quantity, short_number
 from ..gtfs.stops import read_stops
 from ..plans.nearness import sentences_on_nearer
 from ..points import grid as grids, read_points, study as points
-from ..records import write_rows
 from ..walks import Pace, footpaths_of, walks_of
 from .settings import Study
 from .sources import Sources

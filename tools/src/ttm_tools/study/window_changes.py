@@ -7,11 +7,11 @@ import numpy as np
 
 from ..core.arrays import Floats
 from ..core.columns import WINDOWS as WINDOW_COLUMNS, WINDOW_CHANGES, names_of
+from ..core.tables import write_rows
 from ..measures.access_table import AccessKind, AccessTable
 from ..measures.comparison import Sides, sides_of
 from ..measures.equity import mean
 from ..measures.opportunities import Counts
-from ..records import write_rows
 from .settings import DayWindow
 
 LEAST = 5e-7  # a change of access below it is none: tables have six decimals

@@ -10,10 +10,10 @@ import numpy as np
 from ..core.columns import WINDOWS as WINDOW_COLUMNS, names_of
 from ..core.filenames import file_names
 from ..core.files import atomic_folder, output
+from ..core.tables import records as records_in, write_rows
 from ..core.text import display_text, quantity
 from ..measures.access_table import AccessKind, AccessTable
 from ..measures.opportunities import Counts, columns_of, read_counts
-from ..records import records as records_in, write_rows
 from ..views import equity
 from ..views.access import ACCESS, Measured, NEAREST, decimal, long_rows
 from ..views.picture_files import write_picture

@@ -8,9 +8,9 @@ import numpy as np
 
 from ..core.arrays import Floats
 from ..core.errors import InputError
+from ..core.tables import write_rows
 from ..core.text import display_text
 from ..matrices import Matrix, Share
-from ..records import write_rows
 
 LONG, WIDE = "long", "wide"
 ACCESS, NEAREST = ("cutoff", "accessibility"), ("nearest", "seconds")  # the last two columns of the long form

@@ -7,11 +7,12 @@ import numpy as np
 import numpy.typing as npt
 
 from ..core.columns import compared
+from ..core.lines import Numerals, Texts, field, fields_as_texts, join_lines, texts_of
+from ..core.tables import write_rows
 from ..core.text import display_text, quantity
 from ..gtfs.stops import Stops
 from ..matrices import Pair, Sums
 from ..measures.comparison import Changes, Comparison, KINDS, order_of, order_of_origins, sides_of, sorted_origins
-from ..records import Numerals, Texts, field, fields_as_texts, joined, texts_of, write_rows
 
 LINES_AT_ONCE = 200_000
 
@@ -53,7 +54,7 @@ def write_pairs(out: BinaryIO, pair: Pair, changes: Changes, stops: Stops | None
         sign = texts_of([b"", b"-"])[(after < before).astype(np.intp)]
         ends = [origins[changes.origin[chosen]], destinations[changes.destination[chosen]], kinds[changes.kind[chosen]]]
         numbers = [seconds.of(before), seconds.of(after), sign, change.of(np.abs(after - before))]
-        out.write(joined([*ends, *numbers], len(chosen)))
+        out.write(join_lines([*ends, *numbers], len(chosen)))
 
 
 def chosen_origins(first: Sums, second: Sums, counts: npt.NDArray[np.int64], choice: OriginChoice) -> list[int]:

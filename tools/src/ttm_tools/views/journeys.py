@@ -4,12 +4,12 @@ import itertools
 from dataclasses import dataclass
 from typing import Iterator, Mapping, Sequence
 
+from ..core.tables import rows
 from ..core.text import display_text, quantity
 from ..core.times import as_clock
 from ..gtfs.stops import has_file, in_folder
 from ..gtfs.timetable import DAY, Runs, Timetable
 from ..measures.journeys import Leg
-from ..records import rows
 
 GAP = "   "
 

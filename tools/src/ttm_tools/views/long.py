@@ -12,10 +12,11 @@ import numpy.typing as npt
 from ..core import progress
 from ..core.errors import InputError, MissingDependencyError
 from ..core.files import atomic_path
+from ..core.lines import Numerals, Texts, field, fields_as_texts, join_lines, texts_of
+from ..core.tables import with_gaps
 from ..core.text import display_text
 from ..gtfs.stops import Stops
 from ..matrices import Matrix, Seconds, Share, lacking
-from ..records import Numerals, Texts, field, fields_as_texts, joined, texts_of, with_gaps
 
 CELLS_AT_ONCE = 1_000_000
 MEDIAN = 50  # percent
@@ -153,7 +154,7 @@ def lines_of(head: bytes, times: Sequence[Seconds], around: Sequence[Any], numer
     numbers: list[bytes | Texts] = []
     for seconds in times:
         numbers += [b",", numerals.of(seconds)]
-    return joined([head, destinations, *numbers, fields, after], len(destinations))
+    return join_lines([head, destinations, *numbers, fields, after], len(destinations))
 
 
 def access_header(matrix: Matrix, stops: Stops | None) -> list[str]:

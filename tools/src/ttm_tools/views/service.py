@@ -7,13 +7,13 @@ import numpy as np
 
 from ..core.arrays import Whole
 from ..core.columns import SERVICE, SERVICE_OF_STOPS, names_of
+from ..core.tables import rows, write_rows
 from ..core.text import display_text
 from ..core.times import as_clock
 from ..gtfs.stops import in_folder
 from ..gtfs.timetable import Timetable
 from ..measures.columns import header
 from ..measures.service import Period, Service, ServiceRuns, departures_by_stop, headway_stops, service_of
-from ..records import rows, write_rows
 from .equity import significant
 from .journeys import routes_called
 

@@ -2,8 +2,8 @@
 
 from typing import BinaryIO, Sequence
 
+from ..core.tables import write_rows
 from ..core.text import display_text, markdown
-from ..records import write_rows
 
 CSV, MARKDOWN = "csv", "markdown"
 WORDS = 5  # columns, which come first

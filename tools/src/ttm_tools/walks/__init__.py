@@ -1,9 +1,9 @@
 """Walks between the stops of a feed, or places among them: straight lines, and ways along streets."""
 
 from ..core.errors import needs
+from ..core.tables import RoundingCounter
 from ..core.text import quantity
 from ..gtfs.stops import Stops
-from ..records import Rounded
 from .straight import Pace, Walks, distances, points_of, read_walks, straight_walks
 
 NEAR = 100.0  # metres to a street
@@ -28,7 +28,7 @@ def footpaths_of(
 ) -> tuple[list[tuple[str, str, int]], str]:
     """The footpaths of a table, or else the walks between all stops; and what is reported of them."""
     if table:
-        rounded = Rounded()
+        rounded = RoundingCounter()
         rows = read_walks(table, stops, rounded)
         sentence = f"{quantity(rounded.count, 'time')} with decimals rounded up"
     else:

@@ -6,7 +6,7 @@ import numpy.typing as npt
 from ..core.arrays import Floats
 from ..core.errors import InputError
 from ..core.limits import MOST_FOOTPATHS
-from ..gtfs.columns import begins_run
+from ..gtfs.columns import is_group_start
 
 Places = npt.NDArray[np.int64]
 Ways = tuple[Places, Places, Floats]  # from where, to where, metres
@@ -49,5 +49,5 @@ def least(a: Places, b: Places, metres: Floats) -> Ways:
     """Of several ways from one place to another the shortest."""
     order = np.lexsort((metres, b, a))
     a, b, metres = a[order], b[order], metres[order]
-    first = begins_run(a, b)
+    first = is_group_start(a, b)
     return a[first], b[first], metres[first]

@@ -15,8 +15,8 @@ import numpy.typing as npt
 
 from ..core.arrays import Floats
 from ..core.errors import InputError, needs
-from ..gtfs.columns import begins_run
-from ..opening.paths import as_one_line, regular
+from ..core.reading import as_one_line, regular
+from ..gtfs.columns import is_group_start
 
 Flags = npt.NDArray[np.bool_]
 Numbers = npt.NDArray[np.int64]
@@ -122,7 +122,7 @@ def each_once(begin: Numbers, end: Numbers, forward: Flags, backward: Flags) -> 
     up, down = np.where(turned, backward, forward), np.where(turned, forward, backward)
     order = np.lexsort((high, low))
     low, high = low[order], high[order]
-    first = np.flatnonzero(begins_run(low, high))
+    first = np.flatnonzero(is_group_start(low, high))
     if not len(first):
         return low, high, up, down
     up, down = (np.logical_or.reduceat(there[order], first) for there in (up, down))

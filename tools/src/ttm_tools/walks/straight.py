@@ -16,10 +16,10 @@ import numpy.typing as npt
 from ..core.arrays import Floats
 from ..core.errors import InputError
 from ..core.limits import DETOUR, WALKING_SPEED
+from ..core.tables import RoundingCounter, rows
 from ..core.text import display_text
 from ..gtfs.columns import coded
 from ..gtfs.stops import EARTH, Stops
-from ..records import Rounded, rows
 from .counting import Places, Ways, WaysFound
 
 SIDE = 1 << 21  # cubes along an axis
@@ -218,7 +218,7 @@ def straight_walks(stops: Stops, pace: Pace, first: int | None = None) -> Walks:
     return Walks(stops.identifiers, chosen[a[order]], chosen[b[order]], seconds[order], lost)
 
 
-def read_walks(path: str, stops: Stops, rounded: Rounded) -> list[tuple[str, str, int]]:
+def read_walks(path: str, stops: Stops, rounded: RoundingCounter) -> list[tuple[str, str, int]]:
     """The footpaths of a table with from_stop_id, to_stop_id and seconds, as an engine of streets writes it."""
     found = []
     for number, (a, b, seconds) in rows(path, ["from_stop_id", "to_stop_id", "seconds"]):
@@ -227,5 +227,5 @@ def read_walks(path: str, stops: Stops, rounded: Rounded) -> list[tuple[str, str
                 raise InputError(
                     path, f"is not a stop of {stops.path}", record=number, column=column, value=display_text(stop)
                 )
-        found.append((a, b, rounded.whole(seconds, path, number, "seconds", up=True)))
+        found.append((a, b, rounded.to_int(seconds, path, number, "seconds", up=True)))
     return found

@@ -12,7 +12,7 @@ from typing import Any
 import numpy as np
 
 from ..core.arrays import Floats
-from ..gtfs.columns import begins_run
+from ..gtfs.columns import is_group_start
 from .counting import Places, least
 from .osm import Streets
 from .straight import Pace, distances, points_of, ranges
@@ -160,7 +160,7 @@ def build_graph(streets: Streets, snaps: Snaps) -> Graph:
     # stays, too.
     order = np.lexsort((snaps.fraction, snaps.edge))
     edge = snaps.edge[order]
-    is_first = np.append(begins_run(edge), True)
+    is_first = np.append(is_group_start(edge), True)
     previous = np.concatenate([[0], order[:-1]])[: len(order)] + count
     before = np.where(is_first[:-1], streets.begin[edge], previous)
     last = np.flatnonzero(is_first[1:])

@@ -9,8 +9,8 @@ import numpy as np
 from ...core.arrays import Mask
 from ...core.text import quantity
 from ...core.times import as_clock
-from ...opening.kinds import TIME, whole
-from ...opening.toml_file import Entry
+from ...core.toml_file import Entry
+from ...core.toml_values import TIME, whole
 from ..base import Headway
 from ..choice import chosen, directions_of, pattern_of, stop_shown
 from ..days import runs_of, service_of, service_on

@@ -8,9 +8,9 @@ import numpy as np
 from ...core.arrays import Whole
 from ...core.text import display_text, quantity
 from ...core.times import as_clock
+from ...core.toml_file import Entry
+from ...core.toml_values import FLAG, TIME, decimal, whole, wholes
 from ...gtfs.projection import metres_between
-from ...opening.kinds import FLAG, TIME, decimal, whole, wholes
-from ...opening.toml_file import Entry
 from ..base import NO_ROW
 from ..choice import chosen, stop_named, stop_shown, stops_named
 from ..days import service_named

@@ -7,8 +7,8 @@ import numpy as np
 from ...core.arrays import Mask, Whole
 from ...core.limits import LAST_TIME
 from ...core.text import quantity
-from ...opening.kinds import near, whole
-from ...opening.toml_file import Entry
+from ...core.toml_file import Entry
+from ...core.toml_values import near, whole
 from ..base import NO_ROW
 from ..choice import chosen, routes_of, stop_named, stop_shown, stops_named
 from ..state import State, Trip, in_range

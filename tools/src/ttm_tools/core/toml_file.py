@@ -1,14 +1,16 @@
-"""A TOML file as tables whose values know their lines, so an error names the line, what is allowed, and the nearest
-right name.
+"""TOML files as tables whose values know their lines.
+
+An error names the line, what is allowed, and the most similar key. tomllib reports no lines, so the statements of the
+file are located here.
 """
 
 import re
 from dataclasses import dataclass, field
 from typing import Any, Iterable, Iterator, Sequence
 
-from ..core.errors import InputError
-from .kinds import Kind, NAME, TEXT, TEXTS, Value, WrongItem, as_written, near
-from .texts import read_toml
+from .errors import InputError
+from .reading import read_toml
+from .toml_values import Kind, NAME, TEXT, TEXTS, Value, WrongItem, as_written, near
 
 TOKENS = re.compile(
     r'"""(?:\\.|[^\\])*?"""|\'\'\'.*?\'\'\'|"(?:\\.|[^"\\\n])*"|\'[^\'\n]*\'|#[^\n]*|[\[\]{}\n]|[^\[\]{}\n#"\']+',
@@ -18,9 +20,7 @@ TOKENS = re.compile(
 
 @dataclass
 class LineNumbers:
-    """On which line a table begins, its keys and the items of its lists stand, and the tables in it begin, those of a
-    list one after another.
-    """
+    """The lines of a table, its keys, the items of its lists, and its inner tables (a list of tables has several)."""
 
     line: int
     keys: dict[str, int] = field(default_factory=dict)
@@ -34,7 +34,7 @@ class LineNumbers:
 
 @dataclass(frozen=True)
 class Entry:
-    """A table: what it says, and on which lines."""
+    """A table with its values and their lines."""
 
     path: str
     values: dict[str, Any]
@@ -43,7 +43,7 @@ class Entry:
     def fault(
         self, what: str, key: str | None = None, value: str | None = None, allowed: str | None = None
     ) -> InputError:
-        """What is wrong with a value, or with the whole table."""
+        """Return an error about a value, or about the whole table."""
         line = self.lines.line if key is None else self.lines.keys.get(key, self.lines.line)
         return InputError(f"{self.path}: line {line}", what, column=key, value=value, allowed=allowed)
 
@@ -54,7 +54,7 @@ class Entry:
         return InputError(f"{self.path}: line {line}", what, column=key, value=value, allowed=wrong.allowed)
 
     def only(self, keys: Sequence[str]) -> None:
-        """Refuses a key that isn't one of these."""
+        """Raise an error for a key that is not in the list."""
         for key in self.values:
             if key not in keys:
                 raise self.fault(f"isn't known{near(key, keys)}", key, allowed=", ".join(keys))
@@ -63,7 +63,7 @@ class Entry:
         return key in self.values
 
     def one_of(self, *keys: str) -> str:
-        """Which one of some keys is there."""
+        """Return the key that is present; exactly one of them must be."""
         found = [key for key in keys if key in self.values]
         if not found:
             raise self.fault("needed", " or ".join(keys))
@@ -77,7 +77,7 @@ class Entry:
         return self.values[key]
 
     def read(self, key: str, kind: Kind[Value], default: Value | None = None) -> Value:
-        """A value of a kind, which is needed where there is no default."""
+        """Return a value of a kind, or the default; without a default the value is needed."""
         value = self.get(key) if default is None else self.values.get(key, default)
         try:
             return kind.convert(self.inner(key) if kind.of_tables else value)
@@ -91,7 +91,7 @@ class Entry:
             raise self.fault(what, key, shown, allowed) from None
 
     def text(self, key: str, default: str | None = None) -> str:
-        """A text, which isn't empty where the default isn't."""
+        """Return a text. It may be empty only if the default is."""
         return self.read(key, TEXT if default == "" else NAME, default)
 
     def texts(self, key: str) -> list[str]:
@@ -109,13 +109,13 @@ class Entry:
         return [Entry(self.path, item, self.lines.inner(key, number)) for number, item in enumerate(value)]
 
     def known(self, key: str, value: str, names: Iterable[str], what: str) -> None:
-        """Refuses a value that isn't one of some names."""
+        """Raise an error for a value that is not one of the names."""
         if value not in names:
             raise self.fault(f"{what}{near(value, names)}", key, value)
 
 
 def statements(text: str) -> Iterator[tuple[int, str]]:
-    """The statements of a TOML file, each with the line on which it begins."""
+    """Yield the statements of a TOML file with their first lines."""
     line, begin, depth, statement = 1, 1, 0, ""
     for token in TOKENS.findall(text):
         depth += (token in ("[", "{")) - (token in ("]", "}"))
@@ -135,7 +135,7 @@ def key_of(statement: str) -> str:
 
 
 def lines_of_items(line: int, statement: str) -> list[int]:
-    """The lines of the items of a list, which a statement that begins on a line gives to a key."""
+    """Return the line of each item of the list that a statement assigns; the statement begins on `line`."""
     lines, depth, is_awaited = list[int](), 0, False
     for token in TOKENS.findall(statement.partition("=")[2]):
         is_closed = token in ("]", "}")
@@ -172,6 +172,6 @@ def lines_of(text: str) -> LineNumbers:
 
 
 def read_entry(path: str) -> tuple[str, Entry]:
-    """The text of a file, and all of it as a table."""
+    """Read a file; returns its text, and its contents as a table."""
     text, values = read_toml(path)
     return text, Entry(path, values, lines_of(text))

@@ -1,5 +1,6 @@
-"""Kinds of values of a TOML file: each says what is allowed and what an error says of any other value, and converts it.
-`Entry.read` checks them, for plans and studies alike.
+"""Kinds of values in TOML files: what is allowed, the message for any other value, and the conversion.
+
+`toml_file.Entry.read` applies them, for plans and for studies.
 """
 
 import datetime
@@ -8,15 +9,15 @@ from dataclasses import dataclass
 from decimal import Decimal
 from typing import Any, Callable, Generic, Iterable, TypeVar
 
-from ..core.limits import LAST_TIME
-from ..core.text import quantity
-from ..core.times import clock_seconds
+from .limits import LAST_TIME
+from .text import quantity
+from .times import clock_seconds
 
 Value = TypeVar("Value")
 
 
 class WrongItem(ValueError):
-    """What is wrong with one item of a list, and what is allowed there; the first item has the number 0."""
+    """One item of a list is wrong: its number, from 0 on, and what is allowed there."""
 
     def __init__(self, number: int, what: str, allowed: str) -> None:
         super().__init__(what)
@@ -25,22 +26,24 @@ class WrongItem(ValueError):
 
 @dataclass(frozen=True)
 class Kind(Generic[Value]):
+    """A kind of values."""
+
     allowed: str
-    wrong: str  # what an error says of any other value
-    convert: Callable[[Any], Value]  # raises a ValueError for any other value, for an item of a list a `WrongItem`
-    names: tuple[str, ...] = ()  # all that are allowed, of which an error shows the nearest
-    is_shown: bool = True  # whether an error shows the value
-    of_tables: bool = False  # whether it converts the tables of a list
+    wrong: str  # the message for any other value
+    convert: Callable[[Any], Value]  # raises a ValueError, or a `WrongItem` for an item of a list
+    names: tuple[str, ...] = ()  # the allowed values, if they can be listed; an error shows the nearest
+    is_shown: bool = True  # in the message
+    of_tables: bool = False  # the value is a list of tables
 
 
 def near(name: str, names: Iterable[str]) -> str:
-    """The nearest of some names, as an error shows it; nothing where none is near."""
+    """Return the end of an error message that names the most similar name, or "" if none is similar."""
     found = difflib.get_close_matches(name, list(names), 1, 0.5)
     return f"; the nearest is {found[0]!r}" if found else ""
 
 
 def as_written(value: Any) -> str:
-    """A value as its file has it."""
+    """Return a value as TOML writes it."""
     if isinstance(value, list):
         return "[" + ", ".join(repr(item) if isinstance(item, str) else str(item) for item in value) + "]"
     return str(value)
@@ -51,7 +54,7 @@ def is_number(value: object) -> bool:
 
 
 def taken_if(fits: Callable[[Any], bool]) -> Callable[[Any], Any]:
-    """The conversion of values that are used as they are."""
+    """Return a conversion that returns values unchanged if they fit, and raises a `ValueError` otherwise."""
 
     def convert(value: Any) -> Any:
         if not fits(value):
@@ -69,7 +72,7 @@ def texts_of(value: Any) -> list[str]:
 
 
 def seconds_of(value: Any) -> int:
-    """Seconds after midnight."""
+    """Return the seconds from midnight to a time."""
     seconds = clock_seconds(value.isoformat("seconds") if isinstance(value, datetime.time) else str(value))
     if seconds is None or seconds > LAST_TIME:
         raise ValueError(value)
@@ -82,7 +85,7 @@ def whole(least: int, most: int, unit: str = "") -> Kind[int]:
 
 
 def wholes(count: int, most: int) -> Kind[list[int]]:
-    """This many whole numbers from 0 on."""
+    """A list of exactly `count` integers from 0 on."""
     allowed = f"{quantity(count, 'whole number')} in brackets, 0 to {most:,}"
     one = whole(0, most).convert
     return Kind(allowed, "is invalid", taken_if(lambda value: type(value) is list and len([*map(one, value)]) == count))
@@ -95,14 +98,14 @@ def number(least: float, most: float, unit: str = "") -> Kind[float]:
 
 
 def decimal(least: str, most: str) -> Kind[Decimal]:
-    """A number with at most six decimals."""
+    """A number with at most six decimal places."""
     allowed, low, high = f"a number from {least} to {most}, with at most six decimals", Decimal(least), Decimal(most)
     convert = taken_if(lambda value: is_number(value) and low <= value <= high and value == round(value, 6))
     return Kind(allowed, "is invalid", lambda value: Decimal(convert(value)))
 
 
 def ascending(least: float, most: float, unit: str, is_whole: bool = True, count: int = 8) -> Kind[tuple[float, ...]]:
-    """One to this many numbers of a range, each greater than the one before it."""
+    """A list of one to `count` numbers in a range, ascending."""
     allowed = f"1 to {count} {'whole ' * is_whole}numbers in brackets, {least:g} to {most:,.10g} {unit}, ascending"
     one: Kind[int] | Kind[float] = whole(int(least), int(most)) if is_whole else number(least, most)
 

@@ -1,4 +1,4 @@
-"""Zip files: members are counted and measured before one of them is unpacked, and only what is read is unpacked."""
+"""Zip files: the sizes of all members are checked first, and a member is unpacked only when it is needed."""
 
 import os
 import shutil
@@ -8,16 +8,16 @@ from collections.abc import Mapping
 from pathlib import Path
 from typing import Iterable
 
-from ..core.errors import InputError
-from ..core.files import writing_to
-from .paths import as_one_line, regular
+from .errors import InputError
+from .files import writing_to
+from .reading import as_one_line, regular
 
 MOST_UNPACKED = 8_000_000_000  # bytes
 BYTES_AT_ONCE = 1 << 20
 
 
 def members_of(path: Path) -> dict[str, int]:
-    """The files in a zip file, with their sizes when unpacked."""
+    """Return the files in a zip file with their unpacked sizes."""
     regular(path)
     with as_one_line(path, "can't be unzipped"), zipfile.ZipFile(path) as packed:
         found = [(info.filename, info.file_size) for info in packed.infolist() if not info.is_dir()]
@@ -30,7 +30,7 @@ def members_of(path: Path) -> dict[str, int]:
 
 
 def refuse_size(path: Path, sizes: Iterable[int], room: Path) -> None:
-    """Refuses members that have more bytes than a feed has, or than the disk takes."""
+    """Raise an `InputError` if members are larger than any feed, or than the free space on the disk."""
     total, there = sum(sizes), room
     while not there.exists():
         there = there.parent
@@ -42,6 +42,7 @@ def refuse_size(path: Path, sizes: Iterable[int], room: Path) -> None:
 
 
 def unpack_member(path: Path, member: str, target: Path) -> Path:
+    """Unpack one member, and return its path."""
     target.parent.mkdir(exist_ok=True)
     with as_one_line(path, f"{os.path.basename(member)} can't be unzipped"):
         with zipfile.ZipFile(path) as packed, packed.open(member) as source:
@@ -51,7 +52,7 @@ def unpack_member(path: Path, member: str, target: Path) -> Path:
 
 
 class Unread(UserDict[str, Path]):
-    """Members that nothing reads yet, by their names: each is unpacked when it is needed."""
+    """Paths of members by name; a member is unpacked when its path is first asked for."""
 
     def __init__(self, path: Path, members: Mapping[str, str], room: Path) -> None:
         self.path, self.packed = path, dict[str, str]()

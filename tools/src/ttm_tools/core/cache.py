@@ -1,7 +1,7 @@
-"""What was made once is kept in a folder of the user: prepared feeds, streets, and walks between points and stops.
+"""The user's cache: prepared feeds, streets, and walks between points and stops.
 
-The folder is the one that TTM_CACHE names, else `ttm-tools` in XDG_CACHE_HOME or ~/.cache. Each entry is a folder whose
-name is the checksum of all that it was made from. It may be removed at any time.
+It lies in the folder that TTM_CACHE names, else in `ttm-tools` of XDG_CACHE_HOME or ~/.cache. Each entry is a folder
+named by the checksum of everything it depends on. Entries may be removed at any time.
 """
 
 import hashlib
@@ -11,23 +11,23 @@ from pathlib import Path
 from typing import Callable, Iterable
 
 from .. import __version__
-from ..core.files import aside_name, remove, remove_leavings, sha256_of_file
-from ..core.locks import lock_file, locked
-from ..opening.paths import regular
+from .files import aside_name, remove, remove_leavings, sha256_of_file
+from .locks import lock_file, locked
+from .reading import regular
 
-FORM = "1"  # changes where what is kept has another form
-MAKING = threading.RLock()  # one entry of this process at a time
+FORM = "1"  # part of every key: increase it when the format of entries changes
+MAKING = threading.RLock()  # a process makes one entry at a time
 
 
 def cache_folder() -> Path:
-    """The folder of all entries."""
+    """Return the folder of the cache."""
     named = os.environ.get("TTM_CACHE")
     home = os.environ.get("XDG_CACHE_HOME") or os.path.join(os.path.expanduser("~"), ".cache")
     return Path(named) if named else Path(home) / "ttm-tools"
 
 
 def key_of(*parts: object) -> str:
-    """The checksum of what an entry is made from."""
+    """Return the checksum of what an entry depends on."""
     digest = hashlib.sha256()
     for part in (FORM, __version__, *parts):
         text = part if isinstance(part, bytes) else str(part).encode("utf-8", "surrogateescape")
@@ -36,7 +36,7 @@ def key_of(*parts: object) -> str:
 
 
 def sum_of_source(path: str) -> str:
-    """The checksum of a file, or of a folder's files and their names."""
+    """Return the checksum of a file, or of the names and contents of a folder's files."""
     if not os.path.isdir(path):
         regular(path)
         return sha256_of_file(path)
@@ -44,15 +44,15 @@ def sum_of_source(path: str) -> str:
     return key_of(*[text for file in files for text in (file.relative_to(path), sha256_of_file(file))])
 
 
-def kept(kind: str, key: str, make: Callable[[Path], None]) -> Path:
-    """The entry of this key; where it isn't there, it is made in a folder aside and named when it is whole."""
+def cached_entry(kind: str, key: str, make: Callable[[Path], None]) -> Path:
+    """Return the entry of a key; a missing one is made in a temporary folder, and renamed when it is complete."""
     room = cache_folder() / kind
     entry = room / key
     if entry.is_dir():
         return entry
     room.mkdir(parents=True, exist_ok=True)
     with MAKING, locked(entry, lock_file(entry, entry.name), waits=True) as has_lock:
-        if entry.is_dir():  # another process has made it meanwhile
+        if entry.is_dir():  # another process made it in the meantime
             return entry
         if has_lock:
             remove_leavings(entry)
@@ -64,7 +64,7 @@ def kept(kind: str, key: str, make: Callable[[Path], None]) -> Path:
             try:
                 os.replace(aside, entry)
             except OSError:
-                if not entry.is_dir():  # else another process has made it, on a disk without locks
+                if not entry.is_dir():  # on a disk without locks another process may have made it
                     raise
         finally:
             remove(aside)

@@ -1,4 +1,4 @@
-"""Open Matrix files: the kinds and shapes of all that is in one, on opening, and cells when they are read."""
+"""Checks of Open Matrix files: types and shapes when a file is opened, cells when they are read."""
 
 from typing import Any
 
@@ -13,7 +13,7 @@ SHARES, LIMITS = range(1, 101), range(0, MOST_NUMBER + 1)
 
 
 def refuse_shapes(file: Any, path: str) -> None:
-    """Refuses a file whose lists, matrices or sums are of other kinds or shapes than an Open Matrix file has."""
+    """Raise an `InputError` if lookups, matrices or access have other types or shapes than `ttm-tools omx` writes."""
     for group in ("data", "lookup", "access"):
         if group not in file:
             raise InputError(path, f"no group {group}: is it an Open Matrix file that ttm-tools omx wrote?")
@@ -38,7 +38,7 @@ def refuse_shapes(file: Any, path: str) -> None:
 
 
 def limits_of(file: Any, path: str) -> tuple[int | None, ...]:
-    """The limits of access in seconds, ascending; None alone where the file names none."""
+    """Return the cutoffs of access in seconds, ascending, or (None,) if the file has none."""
     limits = file.attrs.get("limits")
     if limits is None:
         return (None,)
@@ -56,7 +56,7 @@ def limits_of(file: Any, path: str) -> tuple[int | None, ...]:
 
 
 def refuse_link(group: Any, name: str, path: str) -> None:
-    """Refuses what lies elsewhere, in another file or under another name."""
+    """Raise an `InputError` for a link to another file or another name."""
     import h5py
 
     if not isinstance(group.get(name, getlink=True), h5py.HardLink):
@@ -64,7 +64,7 @@ def refuse_link(group: Any, name: str, path: str) -> None:
 
 
 def own_data(group: Any, name: str, path: str) -> Any:
-    """A set of data whose bytes are in the file itself."""
+    """Return a dataset that is stored in the file itself."""
     refuse_link(group, name, path)
     found = group[name]
     if not hasattr(found, "shape") or found.shape is None:
@@ -75,7 +75,7 @@ def own_data(group: Any, name: str, path: str) -> Any:
 
 
 def length_of(lookups: Any, name: str, path: str) -> int:
-    """How many identifiers a list has, each of which fits in memory."""
+    """Return the length of a lookup after checking its type, so that reading it takes bounded memory."""
     if name not in lookups:
         raise InputError(path, f"no lookup {name}: is it an Open Matrix file that ttm-tools omx wrote?")
     found = own_data(lookups, name, path)
@@ -87,7 +87,7 @@ def length_of(lookups: Any, name: str, path: str) -> int:
 
 
 def refuse_twice(names: list[str], what: str, path: str) -> None:
-    """Refuses an identifier that is empty or there twice."""
+    """Raise an `InputError` for an empty or repeated identifier."""
     seen = set[str]()
     for place, name in enumerate(names, 1):
         if not name or name in seen:
@@ -95,8 +95,8 @@ def refuse_twice(names: list[str], what: str, path: str) -> None:
         seen.add(name)
 
 
-def looked_at(cells: npt.NDArray[np.float32], path: str, name: str) -> npt.NDArray[np.float32]:
-    """Cells that are whole seconds, or NaN."""
+def checked_cells(cells: npt.NDArray[np.float32], path: str, name: str) -> npt.NDArray[np.float32]:
+    """Return cells after checking that they are whole seconds or NaN."""
     with np.errstate(invalid="ignore"):
         bad = ~((cells >= 0) & (cells <= MOST_SECONDS) & (cells == np.floor(cells)) | np.isnan(cells))
     if bad.any():
