@@ -14,7 +14,7 @@ from shared import DATE, Study, kilobytes, stops_of, there, write_origins
 
 sys.path.insert(0, str(ROOT / "tools" / "src"))
 from ttm_tools import Network  # noqa: E402
-from ttm_tools.conversation import Conversation  # noqa: E402
+from ttm_tools.engine.conversation import Conversation  # noqa: E402
 
 ONE_MINUTE = ["--from", "07:00", "--to", "07:00"]
 FIRST = 100  # questions before the memory is first measured

@@ -212,7 +212,7 @@ def test_wheel_is_installed_by_pip(of: Packages) -> None:
     assert of.output(venv / "bin/ttm") == example()
     assert (venv / "share/ttm/PROVED").read_text() == of.share("doc/ttm/PROVED")
     assert "usage: ttm-tools" in of.output(venv / "bin/ttm-tools", "--help")
-    found = "import ttm_tools.engine as it; print(it.program_at(None))"
+    found = "import ttm_tools.engine.arguments as it; print(it.program_at(None))"
     assert of.output(venv / "bin/python", "-c", found) == f"{venv}/bin/ttm\n"
 
 

@@ -11,8 +11,11 @@ import pytest
 import ttm_tools
 from asking import standing_in
 from helpers import Room
+from ttm_tools.compat.v2 import run
+from ttm_tools.matrices.result import Result
 from ttm_tools.core.errors import ArgumentError, MissingDependencyError
-from ttm_tools.engine import EngineFault, Result, Run, program_at, refusal_of, run
+from ttm_tools.engine.arguments import EngineArguments, program_at
+from ttm_tools.engine.refusals import EngineError, refusal_of
 
 PAGE = Path(__file__).resolve().parents[2] / "docs" / "howto" / "python.md"
 
@@ -30,7 +33,7 @@ def test_each_block_of_the_page_runs(room: Room, program: str, monkeypatch: pyte
 
 
 def test_the_words_of_a_run() -> None:
-    arguments = Run(
+    arguments = EngineArguments(
         "feed", "20260504", ("08:00", "08:59"), shares=(25, 50), limits=(900,), scenarios=["cut.csv"]
     ).arguments()
     expected = "--feed feed --date 20260504 --from 08:00 --to 08:59 --trips 4 --walk 600 --workers 1 --tries 1"
@@ -49,7 +52,7 @@ def test_the_words_of_a_run() -> None:
     ],
 )
 def test_a_fault_line_names_file_and_record(line: str, file: str, record: int | None) -> None:
-    fault = EngineFault(line, 2)
+    fault = EngineError(line, 2)
     assert (fault.file, fault.record, fault.line) == (file, record, line)
 
 
@@ -73,14 +76,14 @@ def test_a_fault_line_names_file_and_record(line: str, file: str, record: int | 
 def test_a_fault_has_what_the_report_explains(
     message: str, option: str | None, column: str | None, value: str | None, allowed: str | None
 ) -> None:
-    fault = EngineFault(message, 2)
+    fault = EngineError(message, 2)
     assert (fault.option, fault.column, fault.value, fault.allowed) == (option, column, value, allowed)
     assert fault.line == message.splitlines()[0] and fault.explanation == message.splitlines()[1:]
     assert value is None or str(fault).endswith(f"{column} {value!r} bad date; allowed: {allowed}")
 
 
 def test_a_refusal_says_the_option_its_value_and_what_is_allowed(program: str, room: Room) -> None:
-    with pytest.raises(EngineFault) as raised:
+    with pytest.raises(EngineError) as raised:
         ttm_tools.matrix(room.folder, "20260504", ("8:00", "08:00"), program=program)
     allowed = "a time of day is HH:MM, 00:00 to 23:59"
     assert (raised.value.option, raised.value.value, raised.value.allowed) == ("--from", "8:00", allowed)
@@ -89,7 +92,7 @@ def test_a_refusal_says_the_option_its_value_and_what_is_allowed(program: str, r
 
 @pytest.mark.parametrize("date", ["20260504", "2026-05-04", datetime.date(2026, 5, 4)])
 def test_dates_are_taken_as_people_write_them(date: str | datetime.date) -> None:
-    assert Run("feed", date, ("08:00", "08:59")).arguments()[3] == "20260504"
+    assert EngineArguments("feed", date, ("08:00", "08:59")).arguments()[3] == "20260504"
 
 
 def test_without_a_name_the_scenario_is_that_others_are_compared_with() -> None:
@@ -100,7 +103,7 @@ def test_without_a_name_the_scenario_is_that_others_are_compared_with() -> None:
 
 
 def test_all_public_names_are_found_by_tab() -> None:
-    assert {"ArgumentError", "matrix", "EngineFault"} <= set(dir(ttm_tools))
+    assert {"ArgumentError", "matrix", "EngineError"} <= set(dir(ttm_tools))
     assert ttm_tools.ArgumentError is ArgumentError
 
 
@@ -108,9 +111,9 @@ def test_a_run_that_fails_leaves_no_matrix(room: Room) -> None:
     program = room.folder / "ttm"
     program.write_text("#!/bin/sh\necho half\necho 'ttm: stops.txt: missing file' >&2\nexit 2\n")
     program.chmod(program.stat().st_mode | stat.S_IXUSR)
-    with pytest.raises(EngineFault) as raised:
-        run(Run("feed", "20260504", ("08:00", "08:00")), room.path("matrix.csv"), program)
-    assert (str(raised.value), raised.value.ended) == ("stops.txt: missing file", 2)
+    with pytest.raises(EngineError) as raised:
+        run(EngineArguments("feed", "20260504", ("08:00", "08:00")), room.path("matrix.csv"), program)
+    assert (str(raised.value), raised.value.status) == ("stops.txt: missing file", 2)
     assert room.names() == {"ttm"}
 
 
@@ -150,5 +153,32 @@ def test_what_ttm_warns_of_is_a_warning(room: Room) -> None:
     program.write_text(f'#!/bin/sh\n{twice}printf "{matrix}"\n')
     program.chmod(0o755)
     with pytest.warns(UserWarning) as caught:
-        run(Run("feed", "20260504", ("08:00", "08:00")), room.path("m.csv"), program)
+        run(EngineArguments("feed", "20260504", ("08:00", "08:00")), room.path("m.csv"), program)
     assert [str(item.message) for item in caught] == [line.removeprefix("warning: ")]
+
+
+@pytest.mark.parametrize(
+    "old, new",
+    [
+        ("BadInput", "InputError"),
+        ("EngineFault", "EngineError"),
+        ("Run", "EngineArguments"),
+        ("WrongWords", "ArgumentError"),
+    ],
+)
+def test_old_names_stay_for_one_version(old: str, new: str) -> None:
+    with pytest.warns(
+        DeprecationWarning, match=f"^ttm_tools.{old} is deprecated and will be removed: use ttm_tools.{new}$"
+    ):
+        assert getattr(ttm_tools, old) is getattr(ttm_tools, new)
+
+
+def test_old_names_of_the_engine_stay_for_one_version() -> None:
+    with pytest.warns(DeprecationWarning, match=r"^ttm_tools\.engine\.run is .*: use ttm_tools\.compat\.v2\.run$"):
+        assert ttm_tools.engine.run is run
+    with pytest.warns(DeprecationWarning):
+        assert ttm_tools.engine.Run is EngineArguments
+    with pytest.warns(DeprecationWarning, match="use status"):
+        assert EngineError("ttm: bad date", 2).ended == 2
+    with pytest.raises(AttributeError):
+        ttm_tools.engine.nothing

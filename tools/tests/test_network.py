@@ -51,9 +51,9 @@ def test_one_process_answers_question_after_question(room: Room) -> None:
 def test_a_fault_of_a_question_is_raised_and_the_next_is_answered_by_the_same_process(room: Room) -> None:
     with canned_network(room) as network:
         process = cell(network, EIGHT, "process")
-        with pytest.raises(ttm_tools.EngineFault) as raised:
+        with pytest.raises(ttm_tools.EngineError) as raised:
             network.matrix(EIGHT, origins=["fault"])
-        assert (raised.value.file, raised.value.record, raised.value.ended) == ("origins", 2, 2)
+        assert (raised.value.file, raised.value.record, raised.value.status) == ("origins", 2, 2)
         assert cell(network, EIGHT, "process") == process
 
 
@@ -71,9 +71,9 @@ def test_a_process_that_dies_says_its_last_line_and_the_next_question_begins_ano
 ) -> None:
     with canned_network(room) as network:
         process = cell(network, EIGHT, "process")
-        with pytest.raises(ttm_tools.EngineFault) as raised:
+        with pytest.raises(ttm_tools.EngineError) as raised:
             network.matrix(EIGHT, origins=[origin])
-        assert (raised.value.line, raised.value.ended) == (line, ended)
+        assert (raised.value.line, raised.value.status) == (line, ended)
         wait_until_gone(int(process))
         assert cell(network, EIGHT, "process") != process
         assert cell(network, NINE) == 540
@@ -83,7 +83,7 @@ def test_a_process_that_is_killed_between_questions_is_told_and_replaced(room: R
     with canned_network(room) as network:
         process = int(cell(network, EIGHT, "process"))
         os.kill(process, signal.SIGTERM)
-        with pytest.raises(ttm_tools.EngineFault, match="ended by SIGTERM"):
+        with pytest.raises(ttm_tools.EngineError, match="ended by SIGTERM"):
             network.matrix(EIGHT)
         assert cell(network, NINE) == 540
 
@@ -91,9 +91,9 @@ def test_a_process_that_is_killed_between_questions_is_told_and_replaced(room: R
 def test_what_is_wrong_with_the_network_is_raised_by_each_question(room: Room) -> None:
     with canned_network(room, walk=7) as network:
         for _ in range(2):
-            with pytest.raises(ttm_tools.EngineFault) as raised:
+            with pytest.raises(ttm_tools.EngineError) as raised:
                 network.matrix(EIGHT)
-            assert (raised.value.line, raised.value.ended, raised.value.option) == ("ttm: bad walk", 2, "--walk")
+            assert (raised.value.line, raised.value.status, raised.value.option) == ("ttm: bad walk", 2, "--walk")
 
 
 def test_threads_get_their_own_answers(room: Room) -> None:
@@ -249,9 +249,9 @@ def test_a_program_that_is_killed_says_so_and_the_next_question_begins_another(
         whole = network.matrix(EIGHT).array()
         (process,) = processes(network)
         os.kill(process, number)
-        with pytest.raises(ttm_tools.EngineFault, match=f"ended by {number.name}") as raised:
+        with pytest.raises(ttm_tools.EngineError, match=f"ended by {number.name}") as raised:
             network.matrix(EIGHT)
-        assert raised.value.ended == 128 + number
+        assert raised.value.status == 128 + number
         np.testing.assert_array_equal(network.matrix(EIGHT).array(), whole)
         assert processes(network) != [process]
 
@@ -276,9 +276,9 @@ def test_a_question_out_of_bounds_is_refused_and_the_next_is_answered(room: Room
     write_town(room)
     with ttm_tools.Network(room.folder, "20260504", program=program) as network:
         for origins in ("x" * 70_000, room.path("nothing.csv")):
-            with pytest.raises(ttm_tools.EngineFault):
+            with pytest.raises(ttm_tools.EngineError):
                 network.matrix(EIGHT, origins=origins)
-        with pytest.raises(ttm_tools.EngineFault, match="UTF-8"):
+        with pytest.raises(ttm_tools.EngineError, match="UTF-8"):
             network.matrix(EIGHT, origins=os.fsdecode(b"\xff.csv"))
         assert network.matrix(EIGHT, origins=["A"]).array().tolist() == [[0, 600, 1800]]
         assert len(processes(network)) == 1
@@ -304,11 +304,11 @@ def test_faults_of_questions_are_those_of_runs(room: Room, program: str) -> None
     with ttm_tools.Network(room.folder, "20260504", program=program) as network:
         for faulty in FAULTS:
             faulty = {name: room.path(value) if value == "nothing.csv" else value for name, value in faulty.items()}
-            with pytest.raises(ttm_tools.EngineFault) as run:
+            with pytest.raises(ttm_tools.EngineError) as run:
                 ttm_tools.matrix(room.folder, "20260504", EIGHT, program=program, **faulty)
-            with pytest.raises(ttm_tools.EngineFault) as raised:
+            with pytest.raises(ttm_tools.EngineError) as raised:
                 network.matrix(EIGHT, **faulty)
-            assert (raised.value.line, raised.value.ended) == (run.value.line, run.value.ended)
+            assert (raised.value.line, raised.value.status) == (run.value.line, run.value.status)
             assert network.matrix(EIGHT, origins=["A"]).array().tolist() == [[0, 600, 1800]]
 
 
@@ -316,9 +316,9 @@ def test_a_feed_that_is_refused_is_told_as_by_a_run(room: Room, program: str) ->
     write_town(room)
     room.write("trips.txt", "route_id,service_id,trip_id", [["R9", "M", "T1"]])
     with ttm_tools.Network(room.folder, "20260504", program=program) as network:
-        with pytest.raises(ttm_tools.EngineFault) as raised:
+        with pytest.raises(ttm_tools.EngineError) as raised:
             network.matrix(EIGHT)
-    assert (raised.value.file, raised.value.record, raised.value.ended) == ("trips.txt", 2, 2)
+    assert (raised.value.file, raised.value.record, raised.value.status) == ("trips.txt", 2, 2)
     assert raised.value.column == "route_id"
 
 

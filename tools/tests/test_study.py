@@ -16,7 +16,8 @@ import pytest
 from helpers import CALENDAR, STOP_TIMES, Room
 from ttm_tools.core.errors import InputError
 from ttm_tools.core.files import sha256_of_file
-from ttm_tools.engine import Run
+from ttm_tools.engine.arguments import EngineArguments
+from ttm_tools.engine.refusals import error_line
 from ttm_tools.study import result_list
 from ttm_tools.study.cutting import Costs, Part, costs_of, parts_for, shape_of, study_key
 from ttm_tools.study.elsewhere import Means
@@ -28,7 +29,7 @@ from ttm_tools.study.stages import Folder
 from ttm_tools.study.study_file import read_study
 from ttm_tools.study.task import write_task
 from ttm_tools.study.template import template
-from ttm_tools.study.ttm import fault_of, toolchain_of, version_of
+from ttm_tools.study.ttm import toolchain_of, version_of
 from ttm_tools.study.work import make_study
 
 for _package in ("h5py", "pandas", "matplotlib"):
@@ -444,13 +445,13 @@ def test_one_part_is_computed_where_the_folder_says_so(place: Place, monkeypatch
     assert [item.key for item in known] == [
         json.loads((folder / f"parts/000{n}/key").read_text())["key"] for n in range(1, 5)
     ]
-    write_task(Run(**inputs["words"]), known, key_of_study(folder), version_of(os.environ["TTM_PROGRAM"]))
+    write_task(EngineArguments(**inputs["words"]), known, key_of_study(folder), version_of(os.environ["TTM_PROGRAM"]))
     assert place.ran(*arguments) == ("", "", 0)
     (part / "key").unlink()
     (part / "matrix.csv").unlink()
     assert place.ran(*arguments) == ("", "", 0)
     assert {name: (part / name).read_bytes() for name in wanted} == wanted
-    write_task(Run(**inputs["words"]), known, key_of_study(folder), ["ttm 0.0.1"])
+    write_task(EngineArguments(**inputs["words"]), known, key_of_study(folder), ["ttm 0.0.1"])
     (part / "key").unlink()
     _, said, status = place.ran(*arguments)
     assert (status, "and the study's ttm is another one" in said, (part / "told.txt").exists()) == (1, True, True)
@@ -488,9 +489,9 @@ ttm: rows done: 2 of 3, 66 percent, about 0:00:00 left
     ],
 )
 def test_a_fault_is_told_with_what_explains_it_and_without_the_report(facts: str, fault: str) -> None:
-    assert fault_of(f"{facts}{fault}".encode(), 2) == "; ".join(fault.splitlines())
+    assert error_line(f"{facts}{fault}".encode(), 2) == "; ".join(fault.splitlines())
 
 
 def test_a_run_that_says_nothing_of_its_end_is_told_by_its_last_line_or_its_status() -> None:
-    assert fault_of(FACTS.encode(), -9) == "ttm: rows done: 2 of 3, 66 percent, about 0:00:00 left"
-    assert fault_of(b"\n", -9) == "ttm ended with status -9 and printed nothing"
+    assert error_line(FACTS.encode(), -9) == "ttm: rows done: 2 of 3, 66 percent, about 0:00:00 left"
+    assert error_line(b"\n", -9) == "ttm ended with status -9 and printed nothing"

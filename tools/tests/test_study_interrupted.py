@@ -15,7 +15,7 @@ import pytest
 from helpers import LAUNCHER, Room, as_in_a_terminal, wait_until
 from test_study import STUDY, Place, place  # noqa: F401
 from ttm_tools.core.signals import Interrupted
-from ttm_tools.engine import Run
+from ttm_tools.engine.arguments import EngineArguments
 from ttm_tools.study.cutting import Part
 from ttm_tools.study.running import Pool, run_parts, tell_ending
 
@@ -80,7 +80,7 @@ def test_the_parts_that_run_at_ctrl_c_are_kept(room: Room, monkeypatch: pytest.M
     when_told(monkeypatch, (room.folder / "go").touch)
     interrupt_when(lambda: len(list(room.folder.glob("running.*"))) == 2)
     with pytest.raises(Interrupted):
-        run_parts(Run("feed", "20260504", ("08:00", "08:00")), parts, 2, 1)
+        run_parts(EngineArguments("feed", "20260504", ("08:00", "08:00")), parts, 2, 1)
     assert [part.is_done() for part in parts] == [True, True, False]
     assert b"interrupted: waiting for 2 running parts, which will be kept" in room.captured.readouterr()[1]
     assert signal.getsignal(signal.SIGINT) is signal.default_int_handler
@@ -91,7 +91,7 @@ def test_a_second_ctrl_c_ends_the_parts_that_run(room: Room, monkeypatch: pytest
     when_told(monkeypatch, printed.set)
     interrupt_when(lambda: len(list(room.folder.glob("running.*"))) == 2, printed.is_set)
     with pytest.raises(KeyboardInterrupt):
-        run_parts(Run("feed", "20260504", ("08:00", "08:00")), parts, 2, 1)
+        run_parts(EngineArguments("feed", "20260504", ("08:00", "08:00")), parts, 2, 1)
     assert not any(part.is_done() for part in parts)
     assert not list(room.folder.glob("parts/*/.part.*"))
 
@@ -174,5 +174,5 @@ def test_parts_that_go_on_are_told_where_there_is_no_terminal(
     monkeypatch: pytest.MonkeyPatch, capsys: pytest.CaptureFixture[str]
 ) -> None:
     monkeypatch.setattr("ttm_tools.study.running.SECONDS_BETWEEN_LINES", -1.0)
-    pool = Pool(Run("feed", "20260504", ("08:00", "08:00")), [], 1, 1)
+    pool = Pool(EngineArguments("feed", "20260504", ("08:00", "08:00")), [], 1, 1)
     assert pool.over() == [] and capsys.readouterr().err == "parts: 0 running, 0 waiting\n"

@@ -17,7 +17,7 @@ from test_study import NO_MAPS, STOPS, STUDY, Place
 from ttm_tools.core.errors import InputError
 from ttm_tools.core.filenames import file_names
 from ttm_tools.core.files import atomic_folder, sha256_of_file
-from ttm_tools.engine import Run
+from ttm_tools.engine.arguments import EngineArguments
 from ttm_tools.study import counted, inputs as study_inputs, stages
 from ttm_tools.study.cutting import Part
 from ttm_tools.study.hosts import command
@@ -71,7 +71,9 @@ def test_a_part_runs_no_module_that_lies_in_the_folder_of_the_study(tmp_path: Pa
     study, mark = tmp_path / "study", tmp_path / "ran"
     (study / "parts").mkdir(parents=True)
     plant(study, mark)
-    run = Run("feed", "2026-05-04", ("08:00", "08:00"), files={"origins": "origins.csv"}, program="/bin/false")
+    run = EngineArguments(
+        "feed", "2026-05-04", ("08:00", "08:00"), files={"origins": "origins.csv"}, program="/bin/false"
+    )
     write_task(run, [Part(1, ["A"], "key", study=study)], "key", ["ttm 0.1.0"])
     ran = subprocess.run(["sh", study / SCRIPT, "1"], cwd=study, capture_output=True, text=True)
     assert not mark.exists(), mark.read_text()

@@ -18,9 +18,9 @@ import pytest
 from asking import canned, script, standing_in
 from helpers import CALENDAR, read
 from test_study import STUDY, Place, bare, killed_after, place  # noqa: F401
-from ttm_tools.conversation import Answer
 from ttm_tools.core.signals import Interrupted
-from ttm_tools.engine import Run
+from ttm_tools.engine.arguments import EngineArguments
+from ttm_tools.engine.conversation import Answer
 from ttm_tools.matrices import open_matrix
 from ttm_tools.measures.access_table import AccessKind, AccessTable
 from ttm_tools.measures.opportunities import Counts
@@ -274,7 +274,9 @@ def test_a_date_that_does_not_fit_is_named_with_its_own_line(bare: Place) -> Non
 
 def test_the_network_has_the_words_of_its_day_and_a_question_its_own() -> None:
     files = {"footpaths": "f.csv", "origins": "o.csv", "opportunities": "p.csv"}
-    run = Run("feed", "20260504", ("08:00", "08:04"), 3, 500, (25,), (600,), ("cut.csv",), 2, 1, 0, 1, files)
+    run = EngineArguments(
+        "feed", "20260504", ("08:00", "08:04"), 3, 500, (25,), (600,), ("cut.csv",), 2, 1, 0, 1, files
+    )
     kept = kept_arguments(run)
     assert kept[-1] == "cut.csv" and "o.csv" not in kept and kept[kept.index("--footpaths") + 1] == "f.csv"
     assert kept[kept.index("--back") + 1] == "0" and kept[kept.index("--walk") + 1] == "500"
@@ -289,7 +291,7 @@ def test_a_part_that_a_network_refuses_is_named_and_the_others_are_kept(
     tmp_path: Path, monkeypatch: pytest.MonkeyPatch
 ) -> None:
     monkeypatch.setenv("TTM_PROGRAM", canned(tmp_path))
-    run = Run("feed", "20260504", ("00:05", "00:06"))
+    run = EngineArguments("feed", "20260504", ("00:05", "00:06"))
     with standing_in(tmp_path), KeptNetwork(run, tmp_path) as network:
         os.mkdir("stages")
         parts = parts_for(["A", "fault", "end", "B"], 4, "key")
@@ -305,7 +307,7 @@ def test_a_part_that_a_network_refuses_is_named_and_the_others_are_kept(
 
 def test_the_first_ctrl_c_keeps_the_parts_that_are_asked_for(tmp_path: Path, monkeypatch: pytest.MonkeyPatch) -> None:
     monkeypatch.setenv("TTM_PROGRAM", canned(tmp_path))
-    run = Run("feed", "20260504", ("00:05", "00:06"))
+    run = EngineArguments("feed", "20260504", ("00:05", "00:06"))
     with standing_in(tmp_path), KeptNetwork(run, tmp_path) as network:
         os.mkdir("stages")
         parts = parts_for(["slow", "B"], 2, "key")

@@ -7,30 +7,38 @@ from importlib import import_module
 from typing import TYPE_CHECKING
 
 if TYPE_CHECKING:
+    from .compat.network import Network
+    from .compat.v2 import matrix
     from .core.errors import ArgumentError, InputError, MissingDependencyError
-    from .engine import EngineFault, Result, Run, matrix
-    from .network import Network
+    from .engine.arguments import EngineArguments
+    from .engine.refusals import EngineError
+    from .matrices.result import Result
 
 __version__ = "0.1.0"
 MODULES = {
     "ArgumentError": "core.errors",
-    "EngineFault": "engine",
+    "EngineArguments": "engine.arguments",
+    "EngineError": "engine.refusals",
     "InputError": "core.errors",
     "MissingDependencyError": "core.errors",
-    "Network": "network",
-    "Result": "engine",
-    "Run": "engine",
-    "matrix": "engine",
+    "Network": "compat.network",
+    "Result": "matrices.result",
+    "matrix": "compat.v2",
 }
-RENAMED = {"BadInput": "InputError", "WrongWords": "ArgumentError"}  # removed in the next version
+RENAMED = {  # removed in the next version
+    "BadInput": "InputError",
+    "EngineFault": "EngineError",
+    "Run": "EngineArguments",
+    "WrongWords": "ArgumentError",
+}
 __all__ = [
     "ArgumentError",
-    "EngineFault",
+    "EngineArguments",
+    "EngineError",
     "InputError",
     "MissingDependencyError",
     "Network",
     "Result",
-    "Run",
     "matrix",
 ]
 

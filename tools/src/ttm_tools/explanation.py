@@ -5,11 +5,9 @@ import datetime
 import functools
 import math
 import os
-import subprocess
-import tempfile
 from dataclasses import replace
 from pathlib import Path
-from typing import IO, Iterator, Sequence
+from typing import Iterator, Sequence
 
 from .core.arrays import Whole
 from .core.console import say
@@ -19,18 +17,21 @@ from .core.reading import regular
 from .core.tables import RoundingCounter
 from .core.text import display_text
 from .core.times import minutes_of
-from .engine import EngineFault, Pathlike, Run, files_of, nearer_by_plan, program_at, refusal_of
+from .engine.arguments import EngineArguments, Pathlike, program_at
+from .engine.inputs import write_inputs
+from .engine.process import EngineProcess
 from .gtfs.footpaths import Footpaths, read_walks
 from .gtfs.stops import Stops, read_stops
 from .gtfs.timetable import DAY, Timetable, read_edits, read_timetable, runs_of
 from .matrices import BASE, Matrix, TODAY, open_matrix
 from .measures.journeys import Search, cell, durations, journey
 from .measures.search_network import Schedule
+from .plans.nearness import nearer_by_plan
 from .views.journeys import ExplainOptions, Found
 
 
 def all_found(
-    task: Run,
+    task: EngineArguments,
     date: datetime.date,
     pairs: Sequence[tuple[str, str]],
     *,
@@ -46,7 +47,7 @@ def all_found(
             raise InputError(stops.path, f"no stop {display_text(name)} at which vehicles call")
     files = scenarios_of(task.scenarios)
     timetable, cells = read_both(task, stops, list(files), pairs, matrix, program)
-    say(*nearer_by_plan(task))
+    say(*nearer_by_plan(task.feed, task.files.get("footpaths"), task.walk))
     first, last = map(minutes_of, task.window)
     departures = [DAY * task.back + 60 * minute for minute in range(first, last + 1)]
     ends = [(timetable.stops.index(one), timetable.stops.index(other)) for one, other in pairs]
@@ -75,7 +76,7 @@ def scenarios_of(files: Sequence[Pathlike]) -> dict[str, str | None]:
     return {name: path for name, path in paths.items() if name != BASE or TODAY not in paths}
 
 
-def told_of(task: Run, date: datetime.date) -> str:
+def told_of(task: EngineArguments, date: datetime.date) -> str:
     """The date, days, departures and limits of a search."""
     days = f"service days: {task.back} before and {task.ahead} after"
     limits = f"at most {task.trips} rides, walks up to {task.walk} seconds"
@@ -87,7 +88,12 @@ Pairs = Sequence[tuple[str, str]]  # origins and destinations
 
 
 def read_both(
-    task: Run, stops: Stops, names: Sequence[str], pairs: Pairs, matrix: str | None, program: Pathlike | None
+    task: EngineArguments,
+    stops: Stops,
+    names: Sequence[str],
+    pairs: Pairs,
+    matrix: str | None,
+    program: Pathlike | None,
 ) -> tuple[Timetable, dict[tuple[str, str], TimesByScenario]]:
     """The timetable, and the cells of some pairs and scenarios: of a matrix, or as `ttm` computes them meanwhile."""
     if matrix is not None:
@@ -96,45 +102,34 @@ def read_both(
     origins, destinations = (list(dict.fromkeys(pair[place] for pair in pairs)) for place in (0, 1))
     with scratch("explain") as folder:
         path = folder / "matrix.csv"
-        own = files_of(folder, RoundingCounter(), origins=origins, destinations=destinations)
+        own = write_inputs(folder, RoundingCounter(), origins=origins, destinations=destinations)
         with running(replace(task, files={**task.files, **own}), path, program):
             timetable = read_timetable(stops)
         return timetable, cells_of(open_matrix(str(path)), names, task.shares[0], pairs)
 
 
 @contextlib.contextmanager
-def running(task: Run, out: Pathlike, program: Pathlike | None = None) -> Iterator[None]:
-    """Runs `ttm` while the block does something else, and waits for it at the block's end. Where the block fails on an
-    input that `ttm` refuses, the refusal is raised.
+def running(task: EngineArguments, out: Pathlike, program: Pathlike | None = None) -> Iterator[None]:
+    """Run `ttm` while the block does something else, and wait for it at the end of the block.
+
+    If both fail, the error of `ttm` is raised.
     """
     refuse_pipes(task)
-    with open(out, "wb") as file, tempfile.TemporaryFile() as errors:
-        process = subprocess.Popen([program_at(program), *task.arguments(), "--report"], stdout=file, stderr=errors)
+    command = [program_at(program), *task.arguments(), "--report"]
+    with open(out, "wb") as file, EngineProcess(command, file) as process:
         try:
-            try:
-                yield
-            except Exception:
-                refuse(process.wait(), errors)
-                raise
-            refuse(process.wait(), errors)
-        finally:
-            if process.poll() is None:
-                process.kill()
-                process.wait()
+            yield
+        except Exception:
+            process.check()
+            raise
+        process.check()
 
 
-def refuse_pipes(task: Run) -> None:
+def refuse_pipes(task: EngineArguments) -> None:
     """Refuses inputs that are no files: `ttm` and the search read each of them, and would wait for a pipe forever."""
     for path in (*sorted(Path(task.feed).glob("*.txt")), *task.scenarios, *task.files.values()):
         if os.path.exists(path):
             regular(str(path))
-
-
-def refuse(status: int, errors: IO[bytes]) -> None:
-    """Raises what `ttm` printed where it ended without a matrix."""
-    if status != 0:
-        errors.seek(0)
-        raise EngineFault("\n".join(refusal_of(errors.read(), status)), status)
 
 
 def cells_of(matrix: Matrix, names: Sequence[str], share: int, pairs: Pairs) -> dict[tuple[str, str], TimesByScenario]:

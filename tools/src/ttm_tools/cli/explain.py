@@ -7,7 +7,7 @@ from ..views.picture_files import write_picture
 from .options import Parser, Range
 
 if TYPE_CHECKING:
-    from ..engine import Run
+    from ..engine.arguments import EngineArguments
 
 UNUSED = ("within", "workers", "tries", "origins", "opportunities", "destinations")
 SUMMARY = "the journey behind a travel time of the matrix, leg by leg, and the durations of all departures"
@@ -49,15 +49,17 @@ def describe(parser: Parser) -> None:
         parser.add_text(f"--{name}", "VALUE", what, without="the same")
 
 
-def run_of(args: argparse.Namespace) -> "Run":
-    from ..engine import Run
+def run_of(args: argparse.Namespace) -> "EngineArguments":
+    from ..engine.arguments import EngineArguments
 
     if args.last < args.first:
         raise ArgumentError("--to is before --from")
     files = {} if args.footpaths is None else {"footpaths": args.footpaths}
     how = {"trips": args.trips, "walk": args.walk, "back": args.back, "ahead": args.ahead}
     window = (args.first, args.last)
-    return Run(args.feed, args.date, window, shares=[args.share], scenarios=args.scenarios, files=files, **how)
+    return EngineArguments(
+        args.feed, args.date, window, shares=[args.share], scenarios=args.scenarios, files=files, **how
+    )
 
 
 def run(args: argparse.Namespace) -> None:
@@ -82,7 +84,7 @@ def run(args: argparse.Namespace) -> None:
         write_picture(args.picture, figure)
 
 
-def write_table(args: argparse.Namespace, run: "Run") -> None:
+def write_table(args: argparse.Namespace, run: "EngineArguments") -> None:
     """Writes the table of the journeys of many pairs."""
     from ..core.columns import JOURNEYS, names_of
     from ..core.tables import rows, write_rows

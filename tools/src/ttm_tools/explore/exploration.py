@@ -8,8 +8,8 @@ from functools import cached_property
 from pathlib import Path
 from typing import Any, Iterator
 
+from ..matrices.result import Result
 from ..core.errors import ArgumentError, InputError
-from ..engine import Result
 from ..gtfs.feeds import refuse_planned
 from ..gtfs.stops import Stops, read_stops
 from ..measures.opportunities import Counts, read_counts

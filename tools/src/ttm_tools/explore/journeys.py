@@ -6,7 +6,7 @@ from typing import Any, Sequence
 
 from ..core.errors import ArgumentError
 from ..core.text import display_text
-from ..engine import Run
+from ..engine.arguments import EngineArguments
 from ..explanation import found_by, tell_difference, told_of
 from ..gtfs.timetable import DAY, Runs, Timetable, read_edits, runs_of
 from ..measures.journeys import Leg
@@ -52,7 +52,7 @@ class Journeys:
         (timetables, routes), options, plan = self.of(standing), self.options, standing.plan
         begin, end = map(timetables.stops.index, question.ends)
         departures = [DAY * options.back + 60 * minute for minute in question.minutes]
-        run = Run(plan.folder, options.date, question.window, question.trips, plan.walk, (question.share,))
+        run = EngineArguments(plan.folder, options.date, question.window, question.trips, plan.walk, (question.share,))
         asked = told_of(replace(run, back=options.back, ahead=options.ahead), options.date)
         explain_options = ExplainOptions(self.feed, begin, end, departures, options.back, question.share, asked)
         if question.scenario >= len(standing.scenarios):

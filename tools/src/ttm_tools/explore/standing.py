@@ -7,11 +7,12 @@ from typing import Any, Sequence
 import numpy as np
 import numpy.typing as npt
 
+from ..compat.network import Network
+from ..compat.v2 import matrix
+from ..matrices.result import Result
 from ..core.files import remove
-from ..engine import Result, matrix
 from ..gtfs.timetable import Timetable
 from ..matrices import BASE, TODAY
-from ..network import Network
 from ..views.page.lines import LineChange
 from .lines import UNCHANGED
 from .options import ExploreOptions

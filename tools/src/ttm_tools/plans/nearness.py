@@ -34,6 +34,14 @@ def sentences_on_nearer(folder: str, footpaths: str, walk: int = 0) -> Iterator[
         yield f"walks to new stops bring {pairs}: {ends}, {times}"
 
 
+def nearer_by_plan(feed: str | os.PathLike[str], footpaths: str | os.PathLike[str] | None, walk: int) -> list[str]:
+    """Return a sentence if walks to a plan's new stops bring old stops nearer to each other.
+
+    Then `today` differs from the feed without the plan. Without footpaths nothing can.
+    """
+    return [] if footpaths is None else list(sentences_on_nearer(str(feed), str(footpaths), walk))
+
+
 def new_stops_in(folder: str) -> list[str]:
     """The new stops of a folder of scenarios; none of another feed. An error of their list is raised."""
     path = os.path.join(folder, NEW_STOPS)

@@ -9,6 +9,7 @@ from typing import Iterator
 
 import numpy as np
 
+from ..compat.network import Network
 from ..core.errors import InputError
 from ..gtfs.footpaths import Footpaths, joined, read_walks
 from ..gtfs.stops import read_stops
@@ -16,7 +17,6 @@ from ..gtfs.timetable import DAY, Edits, Runs, Timetable, read_timetable, runs_o
 from ..measures import journeys as search
 from ..measures.journeys import Leg
 from ..measures.search_network import Schedule
-from ..network import Network
 from .doors import Doors
 from .network import FEED
 from .task import RegionalTask

@@ -10,12 +10,12 @@ from typing import Any, Iterable
 
 import numpy as np
 
+from ..compat.network import Network
 from ..core.cache import cached_entry, key_of, sum_of_source
 from ..core.errors import needs
 from ..core.folders import scratch
 from ..core.tables import rows
-from ..engine import Pathlike
-from ..network import Network
+from ..engine.arguments import Pathlike
 from ..prepare.clip import Clip
 from ..prepare.make import PREPARED, PrepareOptions, make
 from ..walks.osm import Streets, read_streets

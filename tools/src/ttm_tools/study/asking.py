@@ -8,28 +8,31 @@ from dataclasses import dataclass, replace
 from pathlib import Path
 from typing import Callable, Sequence
 
-from ..conversation import Answer
 from ..core.files import aside_name
-from ..engine import EngineFault, Run, program_at
-from ..process_pool import PLACEHOLDER_WINDOW, ProcessPool, ask_command
+from ..engine.arguments import EngineArguments, program_at
+from ..engine.conversation import Answer
+from ..engine.pool import PLACEHOLDER_WINDOW, ProcessPool, ask_command
+from ..engine.refusals import EngineError, error_line
 from .cutting import Part, Shape
 from .running import Failed, Pool, failed_of, missing_of
 from .stages import settle
-from .ttm import fault_of, with_origins
+from .ttm import with_origins
 
 OF_THE_NETWORK = ("--feed", "--date", "--walk", "--back", "--ahead", "--footpaths")  # the others are of a question
 
 
-def kept_arguments(run: Run) -> list[str]:
+def kept_arguments(run: EngineArguments) -> list[str]:
     """The words of the network, which all questions of its day share."""
     files = {name: path for name, path in run.files.items() if name == "footpaths"}
     back, ahead, paths = run.back, run.ahead, run.scenarios
     window = PLACEHOLDER_WINDOW
-    kept = Run(run.feed, run.date, window, 4, run.walk, scenarios=paths, back=back, ahead=ahead, files=files)
+    kept = EngineArguments(
+        run.feed, run.date, window, 4, run.walk, scenarios=paths, back=back, ahead=ahead, files=files
+    )
     return kept.arguments()
 
 
-def question_of(run: Run) -> list[str]:
+def question_of(run: EngineArguments) -> list[str]:
     arguments = replace(run, scenarios=()).arguments()
     pairs = zip(arguments[::2], arguments[1::2])
     return [word for pair in pairs if pair[0] not in OF_THE_NETWORK for word in pair]
@@ -54,10 +57,10 @@ class Asked:
         """Names the matrix where there is one; else gives the line of the answer."""
         try:
             answer = self.future.result()
-        except EngineFault as fault:
-            answer = Answer(fault.ended, fault.line.encode("utf-8", "replace"))
+        except EngineError as fault:
+            answer = Answer(fault.status, fault.line.encode("utf-8", "replace"))
         if answer.status != 0:
-            return fault_of(answer.body, answer.status)
+            return error_line(answer.body, answer.status)
         aside = aside_name(self.part.matrix)
         aside.write_bytes(answer.body)
         settle(aside)
@@ -70,7 +73,7 @@ class KeptNetwork(Pool, contextlib.AbstractContextManager["KeptNetwork"]):
     block.
     """
 
-    def __init__(self, run: Run, study: Path) -> None:
+    def __init__(self, run: EngineArguments, study: Path) -> None:
         super().__init__(run, (), 1, 1)
         self.study, self.question = study, run
         self.pool: ProcessPool | None = None
@@ -79,7 +82,7 @@ class KeptNetwork(Pool, contextlib.AbstractContextManager["KeptNetwork"]):
         if self.pool is not None:
             self.pool.close()
 
-    def run_parts(self, run: Run, parts: Sequence[Part], shape: Shape) -> list[Failed]:
+    def run_parts(self, run: EngineArguments, parts: Sequence[Part], shape: Shape) -> list[Failed]:
         """Asks for the parts of a window that aren't done, as `run_parts` runs them."""
         missing = missing_of(parts)
         if missing and self.pool is None:

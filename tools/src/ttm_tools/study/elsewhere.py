@@ -12,7 +12,7 @@ from ..core.console import one_line, say
 from ..core.files import remove
 from ..core.signals import Interrupted
 from ..core.threads import processors
-from ..engine import Run
+from ..engine.arguments import EngineArguments
 from .cutting import PARTS, Part
 from .hosts import Hosts
 from .running import Failed, ends_gently, shown
@@ -54,7 +54,9 @@ class Means:
         return [f"--{option.lstrip('-')}" for option in self.options]
 
 
-def run_elsewhere(run: Run, parts: Sequence[Part], key: str, version: Sequence[str], means: Means) -> list[Failed]:
+def run_elsewhere(
+    run: EngineArguments, parts: Sequence[Part], key: str, version: Sequence[str], means: Means
+) -> list[Failed]:
     """Computes the parts that aren't done, and waits until other machines have done so."""
     missing = still(parts)
     if missing:

@@ -10,7 +10,7 @@ from ..core.errors import InputError
 from ..core.files import atomic_folder, copy_file
 from ..core.reading import inside
 from ..core.text import quantity
-from ..engine import Run
+from ..engine.arguments import EngineArguments
 from ..gtfs.feeds import refuse_planned
 from ..matrices import BASE, TODAY
 from ..parts import origins_in, origins_of_feed, write_stops
@@ -43,7 +43,7 @@ DESTINATIONS = f"{POINTS}/destinations.csv"
 class Inputs:
     """What a run reads, and the records of the stages that made it."""
 
-    run: Run
+    run: EngineArguments
     base: str  # the scenario that others are compared with
     scenarios: tuple[str, ...]  # all scenario files, also of one whose rows are those of the run's base
     shown_as: dict[str, str]  # the scenarios of the matrix, by what they are called in the run; empty for all alike

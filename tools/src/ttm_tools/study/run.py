@@ -7,7 +7,7 @@ from typing import Any, Sequence
 
 from ..core.tables import records
 from ..core.times import day_of
-from ..engine import Run
+from ..engine.arguments import EngineArguments
 from ..matrices import BASE
 from .settings import Study
 
@@ -26,11 +26,13 @@ def shown_names(scenarios: Sequence[str], runs_all: bool) -> dict[str, str]:
     return names if runs_all or not whole else {**names, whole[0]: BASE}
 
 
-def run_of(study: Study, feed: str, files: dict[str, str], scenarios: Sequence[str]) -> Run:
+def run_of(study: Study, feed: str, files: dict[str, str], scenarios: Sequence[str]) -> EngineArguments:
     """The arguments of a run of `ttm`."""
     settings, alike = study.run, ("trips", "walk", "shares", "limits", "tries", "back", "ahead")
     own: dict[str, Any] = {name: getattr(settings, name) for name in alike}
-    return Run(feed, settings.date, (settings.first, settings.last), scenarios=scenarios, files=files, **own)
+    return EngineArguments(
+        feed, settings.date, (settings.first, settings.last), scenarios=scenarios, files=files, **own
+    )
 
 
 def dates_of(study: Study) -> list[datetime.date]:

@@ -15,7 +15,7 @@ from ..core.console import say
 from ..core.errors import InputError
 from ..core.signals import Interrupted
 from ..core.text import quantity
-from ..engine import Run
+from ..engine.arguments import EngineArguments
 from .cutting import Part
 from .stages import log
 from .ttm import Running, with_origins
@@ -47,7 +47,7 @@ class Failed:
     message: str
 
 
-def run_parts(run: Run, parts: Sequence[Part], at_once: int, threads: int) -> list[Failed]:
+def run_parts(run: EngineArguments, parts: Sequence[Part], at_once: int, threads: int) -> list[Failed]:
     """Computes the parts that aren't done; one that fails is reported at once, and the others go on. After the first
     Ctrl-C no more parts begin, and those that run are kept.
     """
@@ -85,7 +85,7 @@ def tell_ending(count: int) -> None:
 class Pool:
     """The runs under way, a fixed number at once, and the parts that wait for theirs."""
 
-    def __init__(self, run: Run, missing: Sequence[Part], at_once: int, threads: int) -> None:
+    def __init__(self, run: EngineArguments, missing: Sequence[Part], at_once: int, threads: int) -> None:
         self.run, self.at_once, self.threads = run, at_once, threads
         self.waiting = list(reversed(missing))
         self.said = time.monotonic()

@@ -12,7 +12,7 @@ from typing import Any, Sequence
 
 from ..core.errors import InputError
 from ..core.files import remove
-from ..engine import Run, program_at
+from ..engine.arguments import EngineArguments, program_at
 from ..parts import origins_in
 from .cutting import FIRST, PARTS, Part, parts_for
 from .stages import Folder, PACKAGE, TASK, as_text, facts_in, write_settled
@@ -21,7 +21,7 @@ from .ttm import Running, facts_of, found_program, version_of, with_origins
 SCRIPT = f"{PARTS}/one_part.sh"
 
 
-def write_task(run: Run, parts: Sequence[Part], key: str, version: Sequence[str]) -> None:
+def write_task(run: EngineArguments, parts: Sequence[Part], key: str, version: Sequence[str]) -> None:
     """Writes what a part's machine has to know."""
     study = parts[0].study
     known = {"run": facts_of(run), "parts": len(parts), "window": parts[0].window, "key": key}
@@ -46,7 +46,7 @@ def one_part(folder: Path, number: int) -> None:
         known = facts_in(study.at(TASK))
         if not known:
             raise InputError(folder, f"is not the folder of a study with parts to compute: no {TASK}")
-        run = Run(**known["run"])
+        run = EngineArguments(**known["run"])
         origins, window = origins_in(str(study.at(str(run.files["origins"])))), known.get("window", FIRST)
         parts = parts_for(origins, known["parts"], known["key"], window, study.path)
         if not 1 <= number <= len(parts):
@@ -62,7 +62,7 @@ def one_part(folder: Path, number: int) -> None:
             raise InputError(part.folder, message)
 
 
-def computed(run: Run, part: Part, known: dict[str, Any]) -> str | None:
+def computed(run: EngineArguments, part: Part, known: dict[str, Any]) -> str | None:
     """Runs a part with the version of `ttm` that the study has; gives the line that says why there is no matrix."""
     own = version_of(program := found_program())
     if own != known["version"]:

@@ -15,7 +15,8 @@ from ..core.files import sha256_of_file
 from ..core.limits import MOST_NUMBER
 from ..core.reading import as_one_line
 from ..core.text import display_text, first_few, quantity
-from ..engine import Run, run as run_ttm
+from ..engine.arguments import EngineArguments
+from ..engine.process import EngineProcess
 from ..matrices import Matrix, open_matrix
 from ..matrices.csv_matrix import CsvMatrix
 from ..parts import origins_in, parts_of, write_stops
@@ -51,11 +52,11 @@ def verify(folder: Path, seed: int | None, workers: int) -> None:
                 say(f"ttm here is {', '.join(own)}; that of the study was {', '.join(was)}")
             given = {MATRIX: notes["run"], **(notes.get("windows") or {})}
             how: dict[str, Any] = {"program": program, "workers": workers}
-            runs = {name: run_of(study, Run(**{**facts, **how})) for name, facts in given.items()}
+            runs = {name: run_of(study, EngineArguments(**{**facts, **how})) for name, facts in given.items()}
             verify_rows(study, notes, runs, seed)
 
 
-def verify_rows(study: Folder, notes: dict[str, Any], runs: dict[str, Run], seed: int | None) -> None:
+def verify_rows(study: Folder, notes: dict[str, Any], runs: dict[str, EngineArguments], seed: int | None) -> None:
     """Computes a drawn tenth of the rows again, by the runs of their matrices, and refuses the first that differs."""
     origins = origins_in(str(runs[MATRIX].files["origins"]))
     seed = random.SystemRandom().randrange(MOST_NUMBER + 1) if seed is None else seed
@@ -72,7 +73,7 @@ def verify_rows(study: Folder, notes: dict[str, Any], runs: dict[str, Run], seed
     say(f"rows: those of {of}, chosen with --seed {seed}, have the same bytes")
 
 
-def run_of(study: Folder, run: Run) -> Run:
+def run_of(study: Folder, run: EngineArguments) -> EngineArguments:
     """A run in a study's folder by paths that hold from anywhere."""
     files = {name: study.at(str(path)) for name, path in run.files.items()}
     scenarios = [study.at(str(path)) for path in run.scenarios]
@@ -106,14 +107,16 @@ def refuse_changed(study: Folder, files: dict[str, str]) -> None:
 
 
 def compare_again(
-    study: Folder, run: Run, origins: Sequence[str], kept: Sequence[Matrix], shown_as: dict[str, str]
+    study: Folder, run: EngineArguments, origins: Sequence[str], kept: Sequence[Matrix], shown_as: dict[str, str]
 ) -> None:
     """Computes the rows of some origins, and compares them with those that are kept, whatever these are called."""
     with room(study.path) as folder:
         path, out = folder / "origins.csv", folder / "matrix.csv"
         with open(path, "wb") as file:
             write_stops(file, origins)
-        run_ttm(replace(run, files={**run.files, "origins": str(path)}), out)
+        command = replace(run, files={**run.files, "origins": str(path)}).command()
+        with open(out, "wb") as file, EngineProcess([*command, "--report"], file) as process:
+            process.check()
         again = CsvMatrix(str(out))
         for matrix in kept:
             names = shown_as if not isinstance(matrix, CsvMatrix) else {}
@@ -122,7 +125,7 @@ def compare_again(
                 refuse_other(matrix, again, ((name, share), (names.get(name, name), share)), origins, scale)
 
 
-def scale_of_run(run: Run) -> int:
+def scale_of_run(run: EngineArguments) -> int:
     """By what the counts of a run were multiplied."""
     return scale_in(str(run.files["opportunities"])) if "opportunities" in run.files else 1
 

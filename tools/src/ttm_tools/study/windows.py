@@ -7,20 +7,20 @@ import itertools
 from dataclasses import dataclass, replace
 from typing import Callable, Sequence
 
-from ..engine import Run
+from ..engine.arguments import EngineArguments
 from .asking import KeptNetwork
 from .cutting import FIRST, PARTS, Part, Shape, cut_of, parts_for, remove_others, remove_windows, study_key
 from .elsewhere import Means, run_elsewhere
 from .inputs import Inputs
 from .joining import CSV, MATRIX, ShownMatrix, join_parts
 from .running import Failed, refuse_failed, run_parts
+from .settings import DayWindow, Study
 from .sources import refuse_other_sums
 from .stages import Folder, Record, Stage
-from .settings import DayWindow, Study
 
 WINDOWS = "windows"  # their folder
 FORM = 1  # of how the parts are joined: the rows are ttm's, so other tools don't change them
-Runner = Callable[[Run, Sequence[Part], Shape], list[Failed]]
+Runner = Callable[[EngineArguments, Sequence[Part], Shape], list[Failed]]
 
 
 def matrix_of(question: DayWindow) -> str:
@@ -58,7 +58,7 @@ def make_windows(study: Study, inputs: Inputs, folder: Folder, machine: Machine)
     return records
 
 
-def run_here(run: Run, parts: Sequence[Part], shape: Shape) -> list[Failed]:
+def run_here(run: EngineArguments, parts: Sequence[Part], shape: Shape) -> list[Failed]:
     return run_parts(run, parts, shape.at_once, shape.threads)
 
 

@@ -4,9 +4,10 @@ import queue
 import threading
 from typing import Sequence
 
+from ..core.errors import ArgumentError
+from .arguments import Pathlike
 from .conversation import Answer, Conversation
-from .core.errors import ArgumentError
-from .engine import EngineFault, Pathlike
+from .refusals import EngineError
 
 # `ttm` requires a window on the command line; every question overrides it.
 PLACEHOLDER_WINDOW = ("00:00", "00:00")
@@ -69,7 +70,7 @@ class ProcessPool:
 
         Raises
         ------
-        EngineFault
+        EngineError
             The process ended instead of answering, or broke the protocol.
         ArgumentError
             The pool was closed before or during the question, or an argument cannot be sent.
@@ -82,7 +83,7 @@ class ProcessPool:
                 process = None
                 process = self.start_process()
             return process.ask(arguments)
-        except EngineFault:
+        except EngineError:
             if self.closed:
                 raise ArgumentError("the network was closed during a question") from None
             raise

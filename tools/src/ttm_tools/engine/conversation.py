@@ -14,8 +14,9 @@ from collections import deque
 from dataclasses import dataclass
 from typing import IO, Any, Sequence
 
-from .core.errors import ArgumentError
-from .engine import EngineFault, Pathlike, refusal_of, warnings_in
+from ..core.errors import ArgumentError
+from .arguments import Pathlike
+from .refusals import EngineError, refusal_of, warnings_in
 
 HEAD = re.compile(rb"answer ([0-9]{1,3}) ([0-9]{1,18})\n")
 LONGEST_HEAD = 64  # bytes
@@ -42,7 +43,7 @@ def block_of(arguments: Sequence[str]) -> bytes:
 
 
 class Conversation:
-    """One process, which one thread asks at a time. A process that can't go on is ended, and says why by `EngineFault`:
+    """One process, which one thread asks at a time. A process that can't go on is ended, and says why by `EngineError`:
     then it is of no more use.
     """
 
@@ -82,7 +83,7 @@ class Conversation:
             raise self.fault() from None
         found = HEAD.fullmatch(head)
         if found is None and head.endswith(b"\n"):
-            raise EngineFault(f"ttm: no answer, but {head!r}", 4)
+            raise EngineError(f"ttm: no answer, but {head!r}", 4)
         length = int(found[2]) if found else 1
         body = answered.read(length) if found else b""
         if found is None or len(body) < length:
@@ -99,15 +100,15 @@ class Conversation:
         self.warned.update(new)
         return new
 
-    def fault(self) -> EngineFault:
+    def fault(self) -> EngineError:
         """Why the process ended, by its last lines."""
         status = self.end(SECONDS_TO_END)
         text = b"\n".join(self.lines)
         if status >= 0:
-            return EngineFault("\n".join(refusal_of(text, status)), status)
+            return EngineError("\n".join(refusal_of(text, status)), status)
         name = signal.Signals(-status).name
         last = refusal_of(text, status)[0] if text else "nothing"
-        return EngineFault(f"ttm: ended by {name}, last line: {last.removeprefix('ttm: ')}", 128 - status)
+        return EngineError(f"ttm: ended by {name}, last line: {last.removeprefix('ttm: ')}", 128 - status)
 
     def end(self, seconds: float) -> int:
         """Ends the process, after some seconds by force, and gives its exit status."""

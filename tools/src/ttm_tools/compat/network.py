@@ -12,12 +12,15 @@ import weakref
 from pathlib import Path
 from typing import Iterable, Iterator, Mapping, Sequence
 
-from .core.errors import ArgumentError
-from .core.files import remove
-from .core.tables import RoundingCounter
-from .engine import EngineFault, Pathlike, Result, Run, files_of, program_at, refusal_of, result_of
-from .matrices import open_matrix
-from .process_pool import PLACEHOLDER_WINDOW, ProcessPool, ask_command
+from ..core.errors import ArgumentError
+from ..core.files import remove
+from ..core.tables import RoundingCounter
+from ..engine.arguments import EngineArguments, Pathlike, program_at
+from ..engine.inputs import write_inputs
+from ..engine.pool import PLACEHOLDER_WINDOW, ProcessPool, ask_command
+from ..engine.refusals import EngineError, refusal_of
+from ..matrices import open_matrix
+from ..matrices.result import Result, result_of
 
 
 class Network:
@@ -85,11 +88,11 @@ class Network:
         executable, self.rounded = program_at(program), RoundingCounter()
         self.folder = Path(tempfile.mkdtemp(prefix=f"ttm-tools-network.{os.getpid()}."))
         try:
-            given_files = files_of(self.folder, self.rounded, footpaths=footpaths)
+            given_files = write_inputs(self.folder, self.rounded, footpaths=footpaths)
             # Absolute paths: a process keeps its working directory when the caller's changes.
             files = {option: os.path.abspath(path) for option, path in given_files.items()}
             scenario_paths = [os.path.abspath(path) for path in scenarios]
-            run = Run(
+            run = EngineArguments(
                 os.path.abspath(feed),
                 date,
                 PLACEHOLDER_WINDOW,
@@ -152,7 +155,7 @@ class Network:
 
         Raises
         ------
-        EngineFault
+        EngineError
             `ttm` refused the feed or the question. The exception has file, record and value if `ttm` names them.
         ArgumentError
             The network is closed.
@@ -164,11 +167,11 @@ class Network:
         options |= {"share": ",".join(map(str, shares)), "within": ",".join(map(str, limits))}
         with self.question_folder() as folder:
             given = {"origins": origins, "opportunities": opportunities, "destinations": destinations}
-            files = files_of(folder, rounded, **given)
+            files = write_inputs(folder, rounded, **given)
             options |= {option: os.path.abspath(path) for option, path in files.items()}
             answer = self.pool.ask([word for option, value in options.items() for word in (f"--{option}", str(value))])
             if answer.status != 0:
-                raise EngineFault("\n".join(refusal_of(answer.body, answer.status)), answer.status)
+                raise EngineError("\n".join(refusal_of(answer.body, answer.status)), answer.status)
             for line in answer.warnings:
                 warnings.warn(line, stacklevel=2)
             path = folder / "matrix.csv"

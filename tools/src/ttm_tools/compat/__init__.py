@@ -1,0 +1,1 @@
+"""Other interfaces to the same computations: the functions of version 2."""

@@ -1,0 +1,45 @@
+"""Input files of `ttm`, written from Python's lists and dictionaries."""
+
+import os
+from pathlib import Path
+from typing import Any
+
+from ..core.tables import RoundingCounter, write_rows
+from .arguments import Pathlike
+
+COLUMNS = {  # of the files, by option
+    "origins": ["stop_id"],
+    "destinations": ["stop_id"],
+    "opportunities": ["stop_id", "opportunities"],
+    "footpaths": ["from_stop_id", "to_stop_id", "seconds"],
+}
+
+
+def write_input(folder: Path, option: str, given: Any, rounded: RoundingCounter) -> Pathlike:
+    """Return the file for an option, after writing it to a folder unless a path is given.
+
+    Parameters
+    ----------
+    given
+        A path; or identifiers of stops; or a number for each stop, rounded to the nearest integer; or walks of two
+        stops and seconds, rounded up.
+    """
+    if isinstance(given, (str, os.PathLike)):
+        return given
+    header, path = COLUMNS[option], folder / f"{option}.csv"
+    if len(header) == 1:
+        rows = [[stop] for stop in given]
+    else:
+        lines = enumerate(given.items() if option == "opportunities" else given, 2)
+        rows = [
+            [*ends, rounded.to_int(str(number), option, record, header[-1], up=option == "footpaths")]
+            for record, (*ends, number) in lines
+        ]
+    with open(path, "wb") as file:
+        write_rows(file, header, rows)
+    return path
+
+
+def write_inputs(folder: Path, rounded: RoundingCounter, **given: Any) -> dict[str, Pathlike]:
+    """Write the files of all options that are not None; returns their paths by option."""
+    return {option: write_input(folder, option, value, rounded) for option, value in given.items() if value is not None}
