@@ -152,10 +152,12 @@ def texts_of(encoded: Sequence[bytes]) -> Texts:
 
 
 def with_gaps(numbers: npt.NDArray[Any]) -> Any:
-    """Whole numbers as pandas has them where some are missing; NaN is missing."""
+    """Whole numbers as pandas has them where some are missing, and others as they are; NaN is missing."""
     import pandas
 
     gaps = np.isnan(numbers)
+    if (numbers[~gaps] % 1 != 0).any():
+        return numbers
     return pandas.arrays.IntegerArray(np.where(gaps, 0, numbers).astype(np.int64), gaps)
 
 

@@ -189,8 +189,10 @@ def opportunities_stage(study: Path, counted: Record, column: str) -> Stage:
             write_rows(file, ["stop_id", OWN_NAME, *([SCALE] if more else [])], rows)
         total = sum(counts.values()) / scale
         scaled = f", times {scale:,} for ttm; access is divided by that" if scale > 1 else ""
-        lost = float(numbers.sum()) - total
-        whole = f"; rounded, {plain(round(total, 6))} of {plain(round(total + lost, 6))}" if abs(lost) > 1e-6 else ""
+        own = np.array([counts.get(stop, 0) / scale for _, (stop, _) in stated])
+        apart, given = float(np.abs(own - numbers).sum()), plain(round(float(numbers.sum()), 6))
+        by = f"; rounded, {plain(round(total, 6))} of {given}, and no sum differs by more than {apart:.6g}"
+        whole = by if apart > 1e-6 else ""
         return [f"{OPPORTUNITIES}: {shown(column)} at {quantity(len(rows), 'place')}{scaled}{whole}"]
 
     facts = {"column": column, "counted": counted.outputs}

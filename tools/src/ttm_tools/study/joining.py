@@ -29,9 +29,8 @@ class ShownMatrix:
 
 
 def unscaled(sums: Sums, scale: int) -> Sums:
-    """Sums of counts that were multiplied, divided again and rounded to whole numbers."""
-    found: Sums = sums if scale == 1 else np.rint(sums / scale).astype(sums.dtype)
-    return found
+    """Sums of counts that were multiplied by a power of ten, divided again: float64 unless the power is 1."""
+    return sums if scale == 1 else sums / scale
 
 
 class Joined(Matrix):

@@ -183,4 +183,4 @@ def write_changes(document: Document, whole: StudyMatrix, path: str) -> None:
 
 def is_change(text: str, sign: str) -> bool:
     """Whether a text is a number of a sign, and not 0."""
-    return text.removeprefix(sign).isdecimal() and text != "0" and text.startswith(sign)
+    return text != "0" and text.startswith("-") == (sign == "-")

@@ -14,8 +14,6 @@ from ..measures.opportunities import Counts
 from ..records import write_rows
 from .settings import DayWindow
 
-LEAST = 5e-7  # a change of access below it is none: tables have six decimals
-
 
 @dataclass(frozen=True)
 class WindowChange:
@@ -42,7 +40,7 @@ def changes_of(tables: Mapping[DayWindow, AccessTable], base: str, people: Count
             for number, kind in enumerate(table.kinds if scenario != base else ()):
                 first, second = before[number], table.numbers[table.scenario(scenario), number]
                 means = np.array([mean(second - first, group) for group in people.numbers.T])
-                yield WindowChange(question, scenario, kind, sides_of(first, second, LEAST), means)
+                yield WindowChange(question, scenario, kind, sides_of(first, second), means)
 
 
 def write_changes(out: BinaryIO, changes: Sequence[WindowChange], groups: Sequence[str]) -> None:
