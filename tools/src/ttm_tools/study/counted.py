@@ -9,7 +9,7 @@ from typing import Collection, Sequence
 
 import numpy as np
 
-from ..faults import BadInput, quantity, some
+from ..faults import BadInput, counted, quantity, some
 from ..files import sum_of
 from ..gtfs.fields import Floats
 from ..measures.opportunities import OWN_NAME, Counts, called, columns_of, identifier_of, read_counts
@@ -23,8 +23,10 @@ from .settings import Study
 
 ORIGINS, OPPORTUNITIES = "inputs/origins.csv", "inputs/opportunities.csv"
 COUNTED, PEOPLE = "inputs/counted/opportunities.csv", "inputs/people.csv"
+LEFT_OUT, LEFT_OUT_COLUMNS = "inputs/left_out.csv", ("column", "left_out")  # people at points that are left out
 OF_POINTS = "point of the study"
 NOT_COUNTED = "not counted, at"
+REACH_NOTHING = "reach nothing, at"
 SCALE = "scale"  # a column of `OPPORTUNITIES`
 MOST_COUNTED = 4_000_000_000
 
@@ -72,19 +74,35 @@ def refuse_unknown(study: Study, found: Sequence[str]) -> None:
         raise BadInput(study.path, f"[opportunities] names a column {shown(lost)}; there are {there}")
 
 
-def all_points(study: Study) -> list[str]:
-    """The points of a study's files that may be left out, by their names in the feed."""
-    if not study.points.leave_out:
+def all_points(study: Study, only_begins: bool = False) -> list[str]:
+    """The points of a study's files that may be left out, by their names in the feed; or those where journeys begin."""
+    settings = study.points
+    if not settings.leave_out:
         return []
-    named = [(Path(path).stem, read_points(study.at(path)).identifiers) for path in study.points.all]
+    chosen = (*settings.files, *settings.origins) if only_begins else settings.all
+    named = [(Path(path).stem, read_points(study.at(path)).identifiers) for path in chosen]
     return [name for stem, own in named for point in own for name in (point, f"{stem}:{point}")]
+
+
+def sentences_on_unknown(whole: Counts, known: Sequence[str], unknown: dict[str, list[str]], what: str) -> list[str]:
+    """How much of what is counted is at places of some files that the study doesn't have.
+
+    The rows of `whole` are those of the known places and, behind them, of the others.
+    """
+    lost = list(dict.fromkeys(name for names in unknown.values() for name in names))
+    if not lost:
+        return []
+    files = ", ".join(Path(path).name for path, names in unknown.items() if names)
+    places = f"{quantity(len(lost), 'place')} that {'is' if len(lost) == 1 else 'are'} no {what}"
+    found = Counts(whole.names, whole.numbers[: len(known)])
+    return sentences_on_lost(whole, found, f"{files}: {NOT_COUNTED} {places} ({some([*map(shown, lost)])})")
 
 
 def sentences_on_lost(whole: Counts, chosen: Counts, what: str) -> list[str]:
     """How much of what is counted is at places that don't count."""
     lost = (whole.numbers.sum(axis=0) - chosen.numbers.sum(axis=0)).tolist()
     numbers = [
-        f"{plain(round(number, 6))} {shown(name)}" for name, number in zip(whole.names, lost) if round(number, 6) > 0
+        counted(round(number, 6), shown(name)) for name, number in zip(whole.names, lost) if round(number, 6) > 0
     ]
     return [f"{what}: {', '.join(numbers)}"] if numbers else []
 
@@ -99,10 +117,13 @@ def counts_stage(
 
     def make() -> list[str]:
         every = list(dict.fromkeys([*known, *all_points(study)]))
-        whole = read_counts(tables, every, kind, columns)
-        counts = at(every, stops, whole)
+        unknown = {path: unknown_in(path, set(every)) for path in given}
+        others = dict.fromkeys(name for names in unknown.values() for name in names)
+        whole = read_counts(tables, [*every, *others], kind, columns)
+        found, counts = Counts(whole.names, whole.numbers[: len(every)]), at([*every, *others], stops, whole)
         write_counts(study.folder / COUNTED, stops, counts)
-        lost = sentences_on_lost(whole, counts, f"{NOT_COUNTED} places where no journey ends")
+        lost = sentences_on_lost(found, counts, f"{NOT_COUNTED} places where no journey ends")
+        lost += sentences_on_unknown(whole, every, unknown, kind)
         return [f"{COUNTED}: {', '.join(map(shown, counts.names))} at {quantity(len(stops), 'place')}", *lost]
 
     facts = {"stops": stops_sum, "columns": columns, "ends": stops, "own": own}
@@ -110,7 +131,7 @@ def counts_stage(
 
 
 def unknown_in(path: str, known: Collection[str]) -> list[str]:
-    """Returns the places that a file of people names and that are not known.
+    """Returns the places that a file of people or opportunities names and that are not known.
 
     Returns none of them if the file names no other, since then it is a file for another study: `read_counts` refuses
     its first record.
@@ -122,24 +143,27 @@ def unknown_in(path: str, known: Collection[str]) -> list[str]:
 
 def people_stage(study: Study, origins: Record, path: str) -> Stage:
     """How many people live at each origin; those who live elsewhere are reported, and not counted."""
-    groups = study.opportunities.groups
+    groups, kind, leaves_out = study.opportunities.groups, "origin of the study", study.points.leave_out
 
     def make() -> list[str]:
         names = origins_in(str(study.folder / ORIGINS))
-        known = list(dict.fromkeys([*names, *all_points(study)]))
+        known = list(dict.fromkeys([*names, *all_points(study, only_begins=True)]))
         unknown = unknown_in(path, set(known))
-        whole = read_counts([path], [*known, *unknown], "origin of the study", groups)
-        found, counts = at([*known, *unknown], known, whole), at([*known, *unknown], names, whole)
+        whole = read_counts([path], [*known, *unknown], kind, groups)
+        counts = at([*known, *unknown], names, whole)
         write_counts(study.folder / PEOPLE, names, counts)
-        lost = sentences_on_lost(found, counts, f"{NOT_COUNTED} points that are left out")
-        if unknown:
-            places = f"{quantity(len(unknown), 'place')} that {'is' if len(unknown) == 1 else 'are'} no origin"
-            which = f"{places} of the study ({some([*map(shown, unknown)])})"
-            lost += sentences_on_lost(whole, found, f"{Path(path).name}: {NOT_COUNTED} {which}")
+        found = Counts(whole.names, whole.numbers[: len(known)])
+        lost = sentences_on_lost(found, counts, f"{REACH_NOTHING} points that are left out")
+        if leaves_out:
+            numbers = (found.numbers.sum(axis=0) - counts.numbers.sum(axis=0)).round(6).tolist()
+            with open(study.folder / LEFT_OUT, "wb") as file:
+                write_rows(file, LEFT_OUT_COLUMNS, zip(counts.names, map(plain, numbers)))
+        lost += sentences_on_unknown(whole, known, {path: unknown}, kind)
         return [f"{PEOPLE}: {', '.join(map(shown, counts.names))} at {quantity(len(names), 'origin')}", *lost]
 
     facts = {"origins": origins.outputs, "groups": groups}
-    return Sources(study.at, [study.opportunities.people]).stage("people", facts, [PEOPLE], make)
+    outputs = [PEOPLE, LEFT_OUT] if leaves_out else [PEOPLE]
+    return Sources(study.at, [study.opportunities.people]).stage("people", facts, outputs, make)
 
 
 def write_counts(path: Path, stops: Sequence[str], counts: Counts) -> None:

@@ -10,7 +10,7 @@ from ..measures.access_table import read_access
 from ..points.grid import OUTSIDE
 from ..points.study import UNREACHED
 from ..records import records as records_in, shown
-from .counted import NOT_COUNTED
+from .counted import NOT_COUNTED, REACH_NOTHING
 from .document import Document
 from .maps import AREAS, maps_of
 from .outside import sentence_on_outside
@@ -23,7 +23,7 @@ from .settings import Study
 MARKDOWN, HTML, TOLD = "report.md", "report.html", "inputs/told.txt"
 FEW = 10  # origins that lose, and that gain most, which the report names
 MOST_DECIMALS = 6
-MISSED = (OUTSIDE, UNREACHED, NOT_COUNTED)  # signs of people, jobs or points that the figures miss
+MISSED = (OUTSIDE, UNREACHED, NOT_COUNTED, REACH_NOTHING)  # signs of people, jobs or points that the figures miss
 OF_PEOPLE = {
     "equity": "Access by groups of people",
     "bands": "People by number of opportunities",
