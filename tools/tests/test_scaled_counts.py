@@ -6,12 +6,15 @@ from pathlib import Path
 import numpy as np
 import pytest
 
-from helpers import Room, read
+from helpers import Room, Town, read, town_matrix
 from test_points import PACE, feed, place as spot
 from test_study import STOPS, STUDY, Place, place  # noqa: F401
+from ttm_tools.engine import files_of, result_of
+from ttm_tools.faults import BadInput
 from ttm_tools.matrices import open_matrix
-from ttm_tools.study import joining
-from ttm_tools.study.counted import COUNTED, OPPORTUNITIES, opportunities_stage, scale_in, scale_of
+from ttm_tools.measures.scaling import scale_of, unscaled
+from ttm_tools.records import Rounded
+from ttm_tools.study.counted import COUNTED, OPPORTUNITIES, opportunities_stage, scale_in
 from ttm_tools.study.stages import Record
 
 
@@ -57,9 +60,31 @@ def test_the_scale_is_a_power_of_ten(numbers: list[float], scale: int) -> None:
 
 
 def test_sums_are_divided_where_parts_are_joined() -> None:
-    assert joining.unscaled(np.array([[1499, 1501], [0, 2000]]), 1000).tolist() == [[1.499, 1.501], [0, 2]]
+    assert unscaled(np.array([[1499, 1501], [0, 2000]]), 1000).tolist() == [[1.499, 1.501], [0, 2]]
     sums = np.array([[3, 4]])
-    assert joining.unscaled(sums, 1) is sums
+    assert unscaled(sums, 1) is sums
+
+
+def test_opportunities_of_python_are_scaled(room: Room) -> None:
+    rounded = Rounded()
+    given = {f"c{number}": 0.25 for number in range(4)} | {"d": 3, "e": 1 / 3}
+    files = files_of(room.folder, rounded, opportunities=given, footpaths=[("c0", "c1", 0.5)])
+    rows = read(Path(files["opportunities"]).read_text())
+    assert [int(row["opportunities"]) for row in rows] == [250_000] * 4 + [3_000_000, 333_333]
+    assert (rounded.scale, rounded.count) == (1_000_000, 2)  # a third, and half a second
+    rounded = Rounded()
+    files_of(room.folder, rounded, opportunities={"a": 3, "b": 4.0})
+    assert (rounded.scale, rounded.count) == (1, 0)
+    for wrong in (-1, float("inf"), "x"):
+        with pytest.raises(BadInput, match="opportunities: record 3"):
+            files_of(room.folder, Rounded(), opportunities={"a": 0.5, "b": wrong})
+
+
+def test_results_of_python_have_decimals(town: Town) -> None:
+    matrix = open_matrix(town.matrix(town_matrix(True)))
+    result = result_of(matrix, 0, 10)
+    assert result.sums["base", 50].tolist() == [[0.3], [0.3]]
+    assert result_of(matrix, 0, 1).sums["base", 50].dtype == np.int64
 
 
 def test_points_say_what_rounding_changes(room: Room) -> None:

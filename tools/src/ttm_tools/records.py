@@ -173,6 +173,7 @@ class Rounded:
     """How many numbers with decimals were made whole for `ttm`, which takes whole numbers alone."""
 
     count: int = 0
+    scale: int = 1  # by which opportunities were multiplied before
 
     def whole(self, text: str, path: object, record: int, column: str, up: bool) -> int:
         """The number of a field, rounded up or to the nearest (a half up), and counted where that changes it."""

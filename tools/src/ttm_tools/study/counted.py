@@ -3,7 +3,6 @@ those where they begin.
 """
 
 import os
-from decimal import Decimal
 from pathlib import Path
 from typing import Collection, Sequence
 
@@ -11,8 +10,8 @@ import numpy as np
 
 from ..faults import BadInput, counted, quantity, some
 from ..files import sum_of
-from ..gtfs.fields import Floats
 from ..measures.opportunities import OWN_NAME, Counts, called, columns_of, identifier_of, read_counts
+from ..measures.scaling import scale_of, times
 from ..parts import origins_in
 from ..points import read_points
 from ..points.table import plain
@@ -28,7 +27,6 @@ OF_POINTS = "point of the study"
 NOT_COUNTED = "not counted, at"
 REACH_NOTHING = "reach nothing, at"
 SCALE = "scale"  # a column of `OPPORTUNITIES`
-MOST_COUNTED = 4_000_000_000
 
 
 def columns_or_none(path: str) -> list[str]:
@@ -170,21 +168,6 @@ def write_counts(path: Path, stops: Sequence[str], counts: Counts) -> None:
     lines = ([stop, *map(plain, numbers)] for stop, numbers in zip(stops, counts.numbers.tolist()))
     with open(path, "wb") as file:
         write_rows(file, ["stop_id", *counts.names], lines)
-
-
-def scale_of(numbers: Floats) -> int:
-    """The power of ten that makes numbers whole, as far as `ttm` counts: their sum stays below `MOST_COUNTED`."""
-    scale = 1
-    while np.abs(numbers * scale - np.rint(numbers * scale)).max(initial=0) > 1e-6 * scale:
-        if numbers.sum() * scale * 10 > MOST_COUNTED:
-            break
-        scale *= 10
-    return scale
-
-
-def times(number: str, scale: int) -> str:
-    """A number times a scale, without errors of floating point."""
-    return str(Decimal(number) * scale)
 
 
 def scale_in(path: str) -> int:
