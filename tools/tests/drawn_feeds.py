@@ -40,7 +40,7 @@ def write_drawn_feed(room: Room, draw: random.Random, name: str, at_date_line: b
     for prefix, kind, count in kinds:
         for number in range(count):
             parent = "" if kind == "1" else f"S{draw.randrange(STATIONS)}" if kind == "2" or draw.random() < 0.4 else ""
-            spot = ["", ""] if parent and not kind and draw.random() < 0.3 else place()
+            spot: list[object] = ["", ""] if parent and not kind and draw.random() < 0.3 else place()
             identifier = f"{prefix}{number}" if prefix else f"P{number}"
             stops.append([identifier, f"{name} {identifier}", *spot, kind, parent])
     write = room.write

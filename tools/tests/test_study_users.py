@@ -292,6 +292,8 @@ def test_a_date_without_trips_is_refused_of_a_feed_that_is_ready_and_of_a_clippe
 def test_numbers_have_the_digits_that_show_a_change() -> None:
     assert texts_apart([0.31, 0.32]) == ["0.31", "0.32"]
     assert texts_apart([1234.5, 1234.5]) == ["1,234.5", "1,234.5"]
+    assert texts_apart([0.004, 0.004]) == ["0.004", "0.004"] and texts_apart([0, 0.2]) == ["0.0", "0.2"]
+    assert texts_apart([0.0000001, 0.0000001]) == ["0.0", "0.0"]
     assert texts_apart([1.00001, 1.00002, 1.00001]) == ["1.00001", "1.00002", "1.00001"]
 
 

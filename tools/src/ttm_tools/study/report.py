@@ -150,11 +150,14 @@ def means(whole: StudyMatrix) -> Iterator[list[str]]:
 
 
 def texts_apart(numbers: Sequence[float]) -> list[str]:
-    """Numbers with one decimal, or with as many as show in which of them there is a change."""
+    """Numbers with one decimal, or with as many as show in which of them there is a change, and which are not 0."""
     different = len({round(float(number), MOST_DECIMALS) for number in numbers})
     for decimals in range(1, MOST_DECIMALS + 1):
         texts = [f"{number:,.{decimals}f}" for number in numbers]
-        if len(set(texts)) == different:
+        are_shown = all(
+            text.strip("-0.") or not round(float(number), MOST_DECIMALS) for text, number in zip(texts, numbers)
+        )
+        if len(set(texts)) == different and are_shown:
             return texts
     return texts
 

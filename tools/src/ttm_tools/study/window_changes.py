@@ -12,6 +12,7 @@ from ..measures.comparison import Sides, sides_of
 from ..measures.equity import mean
 from ..measures.opportunities import Counts
 from ..records import write_rows
+from ..views.equity import significant
 from .settings import DayWindow
 
 
@@ -46,7 +47,7 @@ def changes_of(tables: Mapping[DayWindow, AccessTable], base: str, people: Count
 def write_changes(out: BinaryIO, changes: Sequence[WindowChange], groups: Sequence[str]) -> None:
     """A line for each window, scenario, kind of access and group of people."""
     lines = (
-        [*change.question.head, change.scenario, *fields_of(change.kind), *change.counts, group, f"{number:.4f}"]
+        [*change.question.head, change.scenario, *fields_of(change.kind), *change.counts, group, significant(number)]
         for change in changes
         for group, number in zip(groups, change.means.tolist())
     )
