@@ -9,7 +9,7 @@ from typing import Iterator, Sequence
 from ..measures.access_table import read_access
 from ..points.grid import OUTSIDE
 from ..points.study import UNREACHED
-from ..records import records as records_in, shown
+from ..records import number_of, records as records_in, shown
 from .counted import NOT_COUNTED, REACH_NOTHING
 from .document import Document
 from .maps import AREAS, maps_of
@@ -175,15 +175,10 @@ def write_changes(document: Document, whole: StudyMatrix, path: str) -> None:
     chosen = f"; {' and '.join(several)} of [results] choose{'s' * (len(several) == 1)}" if several else ""
     _, header = next(records_in(whole.at(path)))
     place = header.index("change")
-    for what, sign in (("loses", "-"), ("gains", "")):
-        wanted = (fields for _, fields in records_in(whole.at(path)) if is_change(fields[place], sign))
+    for what, sign in (("loses", -1), ("gains", 1)):
+        wanted = (fields for _, fields in records_in(whole.at(path)) if sign * number_of(fields[place]) > 0)
         found = list(itertools.islice(wanted, FEW))
         if found:
             rows = [list(map(shown, fields)) for fields in found]
             caption = f"Who {what} most {of} ({path} has all{chosen})"
             document.table(caption, list(map(as_phrase, header)), rows)
-
-
-def is_change(text: str, sign: str) -> bool:
-    """Whether a text is a number of a sign, and not 0."""
-    return text != "0" and text.startswith("-") == (sign == "-")
