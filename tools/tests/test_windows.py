@@ -107,9 +107,9 @@ def test_a_study_compares_its_scenarios_in_each_window(place: Place) -> None:  #
     lines = [row for row in table(place, "compare.csv") if kind.items() <= row.items()]
     found = [(line["date"][-1], line["window"], line["lose"], line["gain"], line["mean_change"]) for line in lines]
     assert found == [
-        ("4", "early", "0", "0", "0.0000"),
+        ("4", "early", "0", "0", "0"),
         ("4", "late", "4", "0", f"{-lost / 45:.4f}"),
-        ("5", "early", "0", "0", "0.0000"),
+        ("5", "early", "0", "0", "0"),
         ("5", "late", "4", "0", f"{-lost / 45:.4f}"),
     ]
     report = Path(place.path("nine/report.md")).read_text()
