@@ -111,7 +111,7 @@ def seconds_of(text: str) -> int:
 
 
 def contents(folder: Path) -> dict[str, Counter[Any]]:
-    """What is in a feed, with names in place of identifiers, and days in place of services."""
+    """What is in a feed, by names instead of identifiers, and by days instead of services."""
     stops = {row["stop_id"]: row for row in rows_of(folder, "stops")}
     agencies = {row["agency_id"]: row["agency_name"] for row in rows_of(folder, "agency")}
     routes = {row["route_id"]: row for row in rows_of(folder, "routes")}

@@ -58,7 +58,7 @@ def draw_clip(draw: random.Random, folder: Path) -> DrawnClip:
 
 
 def is_inside(stop: Row, stops: dict[str, Row], box: tuple[str, str, str, str]) -> bool:
-    """Whether a location lies in a box, which may cross the date line; one without a place is where its station is."""
+    """Whether a location is in a box, which may cross the date line; one without a place is where its station is."""
     at = stop if stop["stop_lat"] else stops[stop["parent_station"]]
     west, south, east, north = map(float, box)
     latitude, longitude = float(at["stop_lat"]), float(at["stop_lon"])

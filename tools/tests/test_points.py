@@ -92,7 +92,7 @@ def test_points_without_a_stop_in_reach_are_left_out_if_asked_for(room: Room) ->
     out = room.path("doors")
     _, errors, _ = room.ran("points", feed(room), cells(room), "--out", out, "--leave-out", "--limit", "300", *PACE)
     assert errors.splitlines()[0] == "1 point without a stop in reach, left out: 3"
-    assert "which are left out, have" not in errors  # nobody lives there
+    assert "which are left out, have" not in errors
     rows = [["1", *place(30, 0), 3, 0.5], ["3", *place(9000, 0), 4, 0], ["4", *place(0, 9000), 1.5, 0.25]]
     far = room.write("far.csv", "id,lat,lon,people,jobs", rows)
     words = ["points", room.path("town"), far, "--limit", "300", *PACE]

@@ -11,7 +11,9 @@ MOST_COUNTED = 4_000_000_000
 
 
 def scale_of(numbers: Floats) -> int:
-    """The power of ten that makes numbers whole, as far as `ttm` counts: their sum stays below `MOST_COUNTED`."""
+    """Returns the least power of ten that makes numbers whole, or the greatest one that keeps their sum below
+    `MOST_COUNTED`, which is near the greatest number that `ttm` reads.
+    """
     scale = 1
     while np.abs(numbers * scale - np.rint(numbers * scale)).max(initial=0) > 1e-6 * scale:
         if numbers.sum() * scale * 10 > MOST_COUNTED:

@@ -20,7 +20,7 @@ from .counted import LEFT_OUT, LEFT_OUT_COLUMNS
 from .settings import Study
 from .walking import GRID, OUTSIDE, OUTSIDE_COLUMNS
 
-OUTSIDE_CELLS, AT_LEFT_OUT = "outside all cells", "at points that are left out"  # in place of an identifier
+OUTSIDE_CELLS, AT_LEFT_OUT = "outside all cells", "at points that are left out"  # instead of an identifier
 
 
 def numbers_in(study: Study, path: str, columns: Sequence[str]) -> dict[str, float]:
