@@ -69,4 +69,4 @@ def matrix(
             feed, date, window, trips, walk, shares, limits, scenarios, workers, tries, back, ahead, files
         )
         run(task, folder / "matrix.csv", program)
-        return result_of(open_matrix(str(folder / "matrix.csv")), rounded.count)
+        return result_of(open_matrix(str(folder / "matrix.csv")), rounded.count, rounded.scale)

@@ -10,7 +10,7 @@ import os
 import stat
 from enum import Enum, auto
 from pathlib import Path
-from typing import Iterator
+from typing import Iterator, Sequence
 
 from .errors import InputError
 
@@ -19,8 +19,10 @@ SECONDS = 2  # that a file's time may differ from its note: some disks round tim
 LONGEST_LINE = 1 << 16  # bytes of a first line to compare
 MAGIC = 8  # bytes that identify formats such as PNG, HDF5 and SQLite
 NO_NOTES = (errno.ENOTSUP, errno.EOPNOTSUPP, errno.ENOSYS)
+IS_INPUT = "is an input as well: name another output"
 _inputs: set[tuple[int, int]] | None = None  # device and inode of each file that the command read
 _command, _forces = "", False
+_named: Sequence[str] = ()
 
 
 class Writer(Enum):
@@ -32,15 +34,18 @@ class Writer(Enum):
 
 
 @contextlib.contextmanager
-def command_runs(name: str, forces: bool = False) -> Iterator[None]:
-    """While a command runs, protect its inputs and, unless `forces`, all files that it did not write."""
-    global _inputs, _command, _forces
-    before = _inputs, _command, _forces
-    _inputs, _command, _forces = set(), name, forces
+def command_runs(name: str, forces: bool = False, named: Sequence[str] = ()) -> Iterator[None]:
+    """While a command runs, protect its inputs and, unless `forces`, all files that it did not write.
+
+    `named` are the paths among its arguments that are no outputs.
+    """
+    global _inputs, _command, _forces, _named
+    before = _inputs, _command, _forces, _named
+    _inputs, _command, _forces, _named = set(), name, forces, named
     try:
         yield
     finally:
-        _inputs, _command, _forces = before
+        _inputs, _command, _forces, _named = before
 
 
 def is_command() -> bool:
@@ -54,12 +59,18 @@ def note_input(found: os.stat_result) -> None:
         _inputs.add((found.st_dev, found.st_ino))
 
 
+def is_named(found: os.stat_result) -> bool:
+    """Return whether a file is among the command's arguments, or is a table in a folder among them."""
+    tables = [str(table) for name in _named if os.path.isdir(name) for table in Path(name).glob("*.txt")]
+    return any(os.path.samestat(os.stat(path), found) for path in (*_named, *tables) if os.path.isfile(path))
+
+
 def refuse_input(path: Path) -> None:
     """Raise an `InputError` if an output is also an input of the command."""
     with contextlib.suppress(OSError):
         found = os.stat(path)
         if _inputs is not None and (found.st_dev, found.st_ino) in _inputs:
-            raise InputError(path, "is an input as well: name another output")
+            raise InputError(path, IS_INPUT)
 
 
 def note_output(path: Path) -> None:
@@ -97,6 +108,8 @@ def refuse_foreign(path: Path, new: Path | None = None) -> None:
         return
     writer = writer_of(path)
     if writer is Writer.OTHER or writer is Writer.UNKNOWN and new is not None and not begins_alike(path, new):
+        if is_named(found):
+            raise InputError(path, IS_INPUT)
         message = f"ttm-tools {_command} did not write this file, or it was changed since: "
         raise InputError(path, f"{message}name another output, or add --force to replace it")
 

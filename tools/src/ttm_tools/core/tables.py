@@ -87,10 +87,12 @@ def names_of(path: str | Path) -> list[str]:
 
 
 def with_gaps(numbers: npt.NDArray[Any]) -> Any:
-    """Return integers as a nullable array of pandas; NaN is missing."""
+    """Return integers as a nullable array of pandas, and other numbers unchanged; NaN is missing."""
     import pandas
 
     gaps = np.isnan(numbers)
+    if (numbers[~gaps] % 1 != 0).any():
+        return numbers
     return pandas.arrays.IntegerArray(np.where(gaps, 0, numbers).astype(np.int64), gaps)
 
 
@@ -122,6 +124,7 @@ class RoundingCounter:
     """Converts numbers with decimals to integers for `ttm`, and counts those that change."""
 
     count: int = 0
+    scale: int = 1  # by which opportunities were multiplied before
 
     def to_int(self, text: str, path: object, record: int, column: str, up: bool) -> int:
         """Return the number in a field, rounded up or to the nearest integer (halves up)."""

@@ -4,7 +4,10 @@ import os
 from pathlib import Path
 from typing import Any
 
-from ..core.tables import RoundingCounter, write_rows
+import numpy as np
+
+from ..core.scaling import scale_of, times
+from ..core.tables import RoundingCounter, number_of, write_rows
 from .arguments import Pathlike
 
 COLUMNS = {  # of the files, by option
@@ -21,19 +24,25 @@ def write_input(folder: Path, option: str, given: Any, rounded: RoundingCounter)
     Parameters
     ----------
     given
-        A path; or identifiers of stops; or a number for each stop, rounded to the nearest integer; or walks of two
-        stops and seconds, rounded up.
+        A path; or identifiers of stops; or a number for each stop, times a power of ten if there are decimals; or walks
+        of two stops and seconds, rounded up.
     """
     if isinstance(given, (str, os.PathLike)):
         return given
     header, path = COLUMNS[option], folder / f"{option}.csv"
     if len(header) == 1:
         rows = [[stop] for stop in given]
-    else:
-        lines = enumerate(given.items() if option == "opportunities" else given, 2)
+    elif option == "opportunities":
+        counts = {stop: str(number) for stop, number in given.items()}
+        scale = rounded.scale = scale_of(np.array([number_of(text) for text in counts.values()]))
         rows = [
-            [*ends, rounded.to_int(str(number), option, record, header[-1], up=option == "footpaths")]
-            for record, (*ends, number) in lines
+            [stop, rounded.to_int(times(text, scale), option, record, header[-1], up=False)]
+            for record, (stop, text) in enumerate(counts.items(), 2)
+        ]
+    else:
+        rows = [
+            [*ends, rounded.to_int(str(number), option, record, header[-1], up=True)]
+            for record, (*ends, number) in enumerate(given, 2)
         ]
     with open(path, "wb") as file:
         write_rows(file, header, rows)

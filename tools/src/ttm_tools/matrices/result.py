@@ -6,6 +6,7 @@ from typing import Any, Mapping
 import numpy as np
 
 from ..core.errors import ArgumentError
+from ..core.scaling import unscaled
 from . import BASE, TODAY, Matrix, Seconds, Sums
 
 
@@ -26,7 +27,7 @@ class Result:
     seconds
         Travel times by scenario and percentile, shape (origins, stops); NaN if not reached.
     sums
-        Access by scenario and percentile, shape (origins, limits).
+        Access by scenario and percentile, shape (origins, limits): int64, or float64 if opportunities have decimals.
     rounded
         How many numbers with decimals were rounded for `ttm`.
     """
@@ -78,12 +79,12 @@ class Result:
         return key
 
 
-def result_of(matrix: Matrix, rounded: int) -> Result:
-    """Read all of a matrix that names its percentiles."""
+def result_of(matrix: Matrix, rounded: int, scale: int) -> Result:
+    """Read all of a matrix that names its percentiles, and divide its sums of access by a scale."""
     keys = [(scenario, share) for scenario in matrix.scenarios for share in matrix.shares if share is not None]
     origins = matrix.origins(*keys[0])
     seconds = {key: matrix.rows(*key, 0, len(origins)) for key in keys}
     shares = [share for share in matrix.shares if share is not None]
     limits = [limit or 0 for limit in matrix.layout.limits]
-    sums = {key: matrix.access(*key) for key in keys}
+    sums = {key: unscaled(matrix.access(*key), scale) for key in keys}
     return Result(matrix.scenarios, shares, limits, origins, matrix.stops, seconds, sums, rounded)

@@ -19,7 +19,7 @@ from ..core.files import atomic_folder, copy_file, require_empty
 from ..core.limits import MOST_FOOTPATHS, MOST_STOPS
 from ..core.reading import inside
 from ..core.tables import RoundingCounter, column_positions, records, write_rows
-from ..core.text import display_text, first_few, quantity, short_number
+from ..core.text import counted, display_text, first_few, quantity, short_number
 from ..gtfs.stops import Stops, read_stops
 from ..parts import write_stops
 from ..walks import Walks, summary as walks_summary
@@ -159,6 +159,10 @@ def sentences_on(options: PointsOptions, prefixes: Sequence[str], study: PointSt
     if lost:
         left_out = ", left out" if options.leaves_out else ""
         yield f"{quantity(len(lost), 'point')} {UNREACHED}{left_out}: {first_few(lost)}"
+    sums = zip(study.points.columns, study.points.numbers[~near].sum(axis=0).tolist())
+    numbers = [counted(round(number, 6), display_text(name)) for name, number in sums if round(number, 6) > 0]
+    if numbers and options.leaves_out:
+        yield f"points {UNREACHED}, which are left out, have {', '.join(numbers)}"
 
 
 def write_feed(folder: Path, feed: str, points: Points) -> None:

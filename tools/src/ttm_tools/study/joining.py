@@ -14,6 +14,7 @@ from ..core.threads import map_in_order
 from ..matrices import Matrix, Seconds, Share, Sums, write_open_matrix
 from ..matrices.chosen import Chosen
 from ..matrices.csv_matrix import CsvMatrix
+from ..core.scaling import unscaled
 from ..parts import PartMatrix, write_whole
 from .cutting import Part
 
@@ -27,12 +28,6 @@ class ShownMatrix:
     shown_as: Mapping[str, str]  # the scenarios by the names that the study gives them
     columns: Sequence[str]  # the only columns, if there are any
     scale: int = 1  # by what sums of access are divided
-
-
-def unscaled(sums: Sums, scale: int) -> Sums:
-    """Sums of counts that were multiplied, divided again and rounded to whole numbers."""
-    found: Sums = sums if scale == 1 else np.rint(sums / scale).astype(sums.dtype)
-    return found
 
 
 class Joined(Matrix):

@@ -19,10 +19,11 @@ from ..engine.arguments import EngineArguments
 from ..engine.process import EngineProcess
 from ..matrices import Matrix, open_matrix
 from ..matrices.csv_matrix import CsvMatrix
+from ..core.scaling import unscaled
 from ..parts import origins_in, parts_of, write_stops
 from .counted import scale_in
 from .cutting import PARTS
-from .joining import CSV, MATRIX, unscaled
+from .joining import CSV, MATRIX
 from .notes import NOTES, read_notes
 from .stages import Folder, LOCK, RECORDS, held, room
 from .ttm import found_program, version_of

@@ -17,6 +17,7 @@ from ..core.tables import with_gaps
 from ..core.text import display_text
 from ..gtfs.stops import Stops
 from ..matrices import Matrix, Seconds, Share, lacking
+from .access import decimal
 
 CELLS_AT_ONCE = 1_000_000
 MEDIAN = 50  # percent
@@ -177,7 +178,7 @@ def write_access(out: BinaryIO, matrix: Matrix, choice: TableChoice, within: int
             for share, access in zip(choice.shares, sums):
                 for place in places:
                     limit = [matrix.layout.limits[place]] * named
-                    line = [scenario, *[share] * named, names[row], *limit, access[row][place]]
+                    line = [scenario, *[share] * named, names[row], *limit, decimal(access[row][place])]
                     out.write(b",".join(map(field, line)) + ends[row] + b"\n")
 
 

@@ -8,7 +8,7 @@ import numpy as np
 from ..core.arrays import Whole
 from ..core.columns import SERVICE, SERVICE_OF_STOPS, names_of
 from ..core.tables import rows, write_rows
-from ..core.text import display_text
+from ..core.text import display_text, quantity
 from ..core.times import as_clock
 from ..gtfs.stops import in_folder
 from ..gtfs.timetable import Timetable
@@ -144,7 +144,19 @@ def costs_stated(day: Day) -> list[str]:
         pairs = zip(numbers_of(first), numbers_of(service))
         parts = [f"{what} {before} to {after}" for (what, before), (_, after) in pairs]
         lines.append(f"{display_text(name)} compared with {display_text(base)}: {', '.join(parts)}")
-    return lines
+    return [*lines, *sentences_on_unplaced(day)]
+
+
+def sentences_on_unplaced(day: Day) -> list[str]:
+    """At how many stops without coordinates vehicles call, since lengths are those between the other stops."""
+    stops = day.timetable.all_stops.of(day.timetable.stops)
+    called = np.unique(np.concatenate([runs.trip for runs in day.running.values()]))
+    events = day.timetable.events
+    counts = np.diff(events.begins)
+    runs = np.isin(np.repeat(np.arange(len(counts)), counts), called)
+    lost = int((~stops.placed[np.unique(events.stop[runs])]).sum())
+    what = "kilometres and speeds are those of straight lines between the others"
+    return [f"vehicles call at {quantity(lost, 'stop')} without coordinates: {what}"] if lost else []
 
 
 def numbers_of(service: Service) -> Sequence[tuple[str, str]]:
