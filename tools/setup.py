@@ -11,12 +11,13 @@ ENGINE = os.environ.get("TTM_ENGINE")
 OLDEST_GLIBC = 17  # 2.17, the oldest that a tag names
 
 
-class Wheel(bdist_wheel):
+class Wheel(bdist_wheel):  # type: ignore[misc]
     """A wheel whose tag says which machine the program runs on, and the oldest C library that it starts with."""
 
     def get_tag(self) -> tuple[str, str, str]:
         if ENGINE is None:
-            return super().get_tag()
+            tag: tuple[str, str, str] = super().get_tag()
+            return tag
         minors = map(int, re.findall(rb"GLIBC_2\.(\d+)", Path(ENGINE).read_bytes()))
         return "py3", "none", f"manylinux_2_{max([OLDEST_GLIBC, *minors])}_{os.uname().machine}"
 

@@ -22,7 +22,10 @@ from .plans.nearness import new_stops_in, sentences_on_nearer
 from .records import Rounded, write_rows
 
 FAULT = re.compile(r"ttm: (?:(?P<file>.+?): )?(?:record (?P<record>[0-9]+): )?(?P<what>[^:]*)")
-INSTALLED = Path(sysconfig.get_path("scripts")) / "ttm"  # where pip puts the wheel's
+OWN = Path(__file__).resolve().parent
+IS_USER = OWN.parent == Path(sysconfig.get_path("purelib", "posix_user"))  # by pip install --user
+SCHEME = "posix_user" if IS_USER else sysconfig.get_default_scheme()
+INSTALLED = Path(sysconfig.get_path("scripts", SCHEME)) / "ttm"  # where pip puts the wheel's
 # what explains a refusal: a column or an option, its value, and what is allowed
 EXPLAINED = re.compile(
     r'ttm: (?:column (?P<column>\S+)|(?P<option>--[a-z]+)) is "(?P<value>.*)"; (?P<allowed>.*)', re.DOTALL

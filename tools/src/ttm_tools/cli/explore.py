@@ -3,6 +3,7 @@ from typing import TYPE_CHECKING
 
 from ..faults import WrongWords, needs, say
 from ..folders import scratch
+from ..shipped import LEAFLET
 from .options import Parser, Range, decimals
 
 if TYPE_CHECKING:
@@ -48,7 +49,7 @@ def describe(parser: Parser) -> None:
     parser.add_number("--port", "the port of the page; 0 takes a free one", Range("", 0, 65535), default=0)
     parser.add_flag("--no-browser", "print the address alone", "a browser opens it")
     parser.add_program()
-    parser.add_text("--leaflet", "FOLDER", "the folder of Leaflet", default="/usr/share/javascript/leaflet")
+    parser.add_text("--leaflet", "FOLDER", "the folder of Leaflet", default=LEAFLET)
 
 
 def options_of(args: argparse.Namespace) -> "ExploreOptions":

@@ -2,6 +2,7 @@ import argparse
 
 from ..faults import WrongWords, needs
 from ..files import output
+from ..shipped import LEAFLET
 from .options import Parser, Range, decimals, opened, scenarios_of
 
 SUMMARY = "one HTML file to send, with travel times and access to explore in a browser"
@@ -55,7 +56,7 @@ def describe(parser: Parser) -> None:
     what = "the address of a background map, such as https://tiles.example/{z}/{x}/{y}.png"
     parser.add_text("--tiles", "URL", what, without="none, and the page needs no network")
     parser.add_text("--attribution", "TEXT", "whom the page names for that map; --tiles needs it", without="nobody")
-    parser.add_text("--leaflet", "FOLDER", "the folder of Leaflet", default="/usr/share/javascript/leaflet")
+    parser.add_text("--leaflet", "FOLDER", "the folder of Leaflet", default=LEAFLET)
     parser.add_out("the file of the page", "", "page.html")
     parser.add_matrix()
 
