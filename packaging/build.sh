@@ -67,7 +67,7 @@ printf 'ttm (%s) unstable; urgency=medium\n\n  * Commit %.48s.\n    CHANGELOG.md
 dpkg-buildpackage --build=binary --no-sign > "$room/log" 2>&1 || { tail -n 30 "$room/log" >&2; exit 1; }
 for package in "$room"/*.deb; do dpkg-deb --extract "$package" "$room/tar"; done
 install -m 755 "$here/packaging/ttm-tools" "$room/tar/usr/bin/ttm-tools"
-cp -r --remove-destination build/html "$room/tar/usr/share/doc/ttm"
+cp -r --remove-destination _build/html "$room/tar/usr/share/doc/ttm"
 tarred=$room/ttm-$version-linux-$(dpkg --print-architecture).tar
 tar -C "$room/tar" --sort=name --mtime="@$SOURCE_DATE_EPOCH" --owner=0 --group=0 --numeric-owner \
     --transform "s,^usr,ttm-$version," -cf "$tarred" usr
@@ -78,7 +78,7 @@ mkdir "$data/leaflet"
 cp /usr/share/javascript/leaflet/leaflet.min.js /usr/share/javascript/leaflet/leaflet.css "$data/leaflet"
 cp tools/src/ttm_tools/views/page/assets/leaflet_licence.txt "$data/leaflet/LICENSE"
 cp engine/PROVED "$data"
-cp -r build/html "$data/html"
+cp -r _build/html "$data/html"
 rm -rf tools/build tools/.pybuild tools/src/*.egg-info
 TTM_ENGINE=$source/engine/ttm python3 -m build --wheel --no-isolation --outdir "$room" tools > "$room/log" 2>&1 \
     || { tail -n 30 "$room/log" >&2; exit 1; }
@@ -86,7 +86,7 @@ TTM_ENGINE=$source/engine/ttm python3 -m build --wheel --no-isolation --outdir "
 # Each gets its name when it is complete.
 mkdir -p "$out"
 rm -rf "$out/html"
-cp -r build/html "$out/html"
+cp -r _build/html "$out/html"
 for file in "$room"/ttm_*.deb "$room"/python3-ttm-tools_*.deb "$room"/ttm-doc_*.deb "$tarred.gz" "$room"/*.whl; do
     cp "$file" "$out/new" && mv "$out/new" "$out/$(basename "$file")"
     echo "$out/$(basename "$file")"
