@@ -8,7 +8,6 @@ PAGE is a file, MAN and COMPLETIONS are folders that exist. The program `ttm` is
 import argparse
 import importlib
 import os
-import re
 import subprocess
 import sys
 from pathlib import Path
@@ -28,7 +27,6 @@ FIRST = """_var="${current_action}_choices"
 ALL = """_var="${current_action}_choices[@]"
   current_action_choices=$(printf '%s\\n' "${!current_action_choices_var}")
 """
-HEADINGS = {"usage: ": "Usage: ", "positional arguments:": "Arguments:", "options:": "Options:"}  # of help2man
 Parsers = dict[str, argparse.ArgumentParser]
 
 
@@ -53,6 +51,12 @@ def write_manual(folder: Path, name: str, about: str, *options: str) -> None:
     subprocess.run([*words, *options], check=True)
 
 
+def for_help2man(text: str) -> str:
+    """A help with the headings by which help2man finds its parts."""
+    text = text.replace("usage: ", "Usage: ", 1)
+    return text.replace("\npositional arguments:\n", "\nArguments:\n").replace("\noptions:\n", "\nOptions:\n")
+
+
 def write_manuals(folder: Path, parser: argparse.ArgumentParser, version: str) -> None:
     """Writes the manual pages of the program, of the tools, and of each command."""
     os.environ["COLUMNS"] = "1000"
@@ -60,13 +64,10 @@ def write_manuals(folder: Path, parser: argparse.ArgumentParser, version: str) -
     parsers = {"ttm-tools": parser, **{f"ttm-tools-{name}": it for name, it in commands_of(parser).items()}}
     abouts = [OF_TOOLS, *(importlib.import_module(f"ttm_tools.cli.{name}").SUMMARY for name in COMMANDS)]
     for (name, one), about in zip(parsers.items(), abouts, strict=True):
-        text = re.sub(
-            "|".join(f"^{heading}" for heading in HEADINGS), lambda it: HEADINGS[it[0]], one.format_help(), 0, re.M
-        )
-        (folder / name).write_text(text, encoding="utf-8")
-        write_manual(
-            folder, name, about, "--version-string", f"{name} {version}", "--help-option", " ", f"cat {folder / name}"
-        )
+        text = folder / f"{name}.txt"
+        text.write_text(for_help2man(one.format_help()), encoding="utf-8")
+        options = ["--version-string", f"{name} {version}", "--help-option", " "]
+        write_manual(folder, name, about, *options, f"cat {text}")
 
 
 def complete_files(parser: argparse.ArgumentParser) -> None:
