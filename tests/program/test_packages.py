@@ -82,10 +82,16 @@ def test_every_file_in_both(of: Packages) -> None:
     assert [path for path in of.folder.rglob("*") if not path.exists()] == []
 
 
+def newest() -> str:
+    """The version at the top of the changelog."""
+    found = re.search(r"^## (\S+)", (ROOT / "CHANGELOG.md").read_text(), re.M)
+    assert found, "CHANGELOG.md: no version"
+    return found[1]
+
+
 def test_all_have_one_version(of: Packages) -> None:
     """the packages, the tools and the changelog have one version"""
-    changelog = re.findall(r"^## (\S+)", (ROOT / "CHANGELOG.md").read_text(), re.M)
-    version = changelog[0]
+    version = newest()
     assert of.output(PYTHON, of.folder / "bin/ttm-tools", "--version") == f"ttm-tools {version}\n"
     assert [of.field(package, "Version").split("+")[0] for package in range(3)] == [version] * 3
     assert of.tar.name.split("-")[1] == of.wheel.name.split("-")[1] == version
@@ -95,7 +101,7 @@ def test_all_have_one_version(of: Packages) -> None:
 def test_program_has_the_version() -> None:
     """the program has the version of the changelog"""
     version = VERSION.search((ROOT / "crates/command_line/src/version.rt").read_text())
-    assert version and (ROOT / "CHANGELOG.md").read_text().count(f"\n## {version[1]} ", 0, 400) == 1
+    assert version and version[1] == newest()
 
 
 def test_toolchain_is_named(of: Packages) -> None:

@@ -22,9 +22,9 @@ from .plans.nearness import new_stops_in, sentences_on_nearer
 from .records import Rounded, write_rows
 
 FAULT = re.compile(r"ttm: (?:(?P<file>.+?): )?(?:record (?P<record>[0-9]+): )?(?P<what>[^:]*)")
-OWN = Path(__file__).resolve().parent
-IS_USER = OWN.parent == Path(sysconfig.get_path("purelib", "posix_user"))  # by pip install --user
-SCHEME = "posix_user" if IS_USER else sysconfig.get_default_scheme()
+PACKAGES = Path(__file__).resolve().parents[1]
+IS_OF_USER = PACKAGES == Path(sysconfig.get_path("purelib", "posix_user")).resolve()  # by pip install --user
+SCHEME = "posix_user" if IS_OF_USER else sysconfig.get_default_scheme()
 INSTALLED = Path(sysconfig.get_path("scripts", SCHEME)) / "ttm"  # where pip puts the wheel's
 # what explains a refusal: a column or an option, its value, and what is allowed
 EXPLAINED = re.compile(
