@@ -46,7 +46,7 @@ cp README.md "$source/tools"
 python3 bench/feedgen.py town "$room/made" > /dev/null
 cp "$room/made/opportunities.csv" "$data/sample/jobs.csv"
 cd "$room/made"
-touch -d "@$SOURCE_DATE_EPOCH" ./*.txt
+touch -d 2000-01-01 ./*.txt
 python3 -m zipfile -c "$data/sample/town.zip" calendar.txt calendar_dates.txt routes.txt stop_times.txt stops.txt \
     transfers.txt trips.txt
 cd "$source"
@@ -62,6 +62,7 @@ strip --strip-unneeded engine/ttm
 printf 'ttm (%s) unstable; urgency=medium\n\n  * Commit %.48s.\n    CHANGELOG.md says what changed.\n\n -- %s  %s\n' \
     "$full" "$commit" "$(sed -n 's/^Maintainer: //p' debian/control)" "$(date -R -d "@$SOURCE_DATE_EPOCH")" \
     > debian/changelog
+find . -exec touch -h -d "@$SOURCE_DATE_EPOCH" {} +
 
 # The Debian packages, and the tar file. Its ttm-tools runs from any folder, and its pages have no links out of it.
 dpkg-buildpackage --build=binary --no-sign > "$room/log" 2>&1 || { tail -n 30 "$room/log" >&2; exit 1; }
