@@ -149,10 +149,10 @@ class Outcome:
 
 
 class Trial:
-    """The edits of a crate, tried in a copy of it."""
+    """The edits of a crate, tried in a copy of it by a command that checks it."""
 
-    def __init__(self, folder: Path, jobs: int) -> None:
-        self.folder, self.crate, self.jobs = folder, folder.name, jobs
+    def __init__(self, folder: Path, command: list[str]) -> None:
+        self.folder, self.crate, self.command = folder, folder.name, command
         self.base: dict[str, str] = {}
         self.by_name: list[str] = []
 
@@ -166,7 +166,7 @@ class Trial:
         for file, text in changed.items():
             (self.folder / file).write_text(text)
         try:
-            return lines_of(["rt", "check", "--jobs", str(self.jobs)], self.folder)
+            return lines_of(self.command, self.folder)
         finally:
             for file in changed:
                 (self.folder / file).write_text(self.base[file])

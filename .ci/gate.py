@@ -116,6 +116,7 @@ def gate(root: Path, is_anew: bool) -> Count:
     if count.failed:
         print("no planted bug is tried, since `rt ci` failed")
     else:
+        planted.note_built(root)
         count += planted.try_changed(root, is_anew, jobs())
     took: dict[str, float] = {}
     for script in [[CHECKS], [CHECKS, PROGRAM, TRIALS]]:

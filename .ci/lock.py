@@ -55,6 +55,13 @@ def seen_from_above(root: Path, crate: str) -> str:
     return digest_of([*specs, *(without_bodies(path.read_text()) for path in repository.sources_of(root, crate))])
 
 
+def own_texts(root: Path, crate: str, *more: str) -> list[str]:
+    """The names and texts of a crate's sources, specs and proofs, and of the files in more of its folders."""
+    folder = root / "crates" / crate
+    paths = [path for name in ("src", "specs", "proofs", *more) for path in repository.files_of(folder / name)]
+    return [text for path in paths for text in (str(path.relative_to(folder)), path.read_text())]
+
+
 def digests(root: Path) -> dict[str, str]:
     """The digest of each crate that has planted bugs."""
     crates = repository.crates_of(root)
@@ -63,11 +70,7 @@ def digests(root: Path) -> dict[str, str]:
     found = {}
     for crate in crates:
         if repository.edits_of(root, crate, "planted"):
-            folder = root / "crates" / crate
-            paths = [
-                path for name in ("src", "specs", "proofs", "planted") for path in repository.files_of(folder / name)
-            ]
-            own = [text for path in paths for text in (str(path.relative_to(folder)), path.read_text())]
+            own = own_texts(root, crate, "planted")
             below = [seen[name] for name in repository.below(crates, crate)]
             found[crate] = digest_of([toolchain, crates[crate].line, *own, *below])
     return found

@@ -1,7 +1,7 @@
 """Tries the planted bugs of crates: all of a crate that is named, or in the gate those of the crates that changed.
 
-Each crate is tried in a copy of its own, since only one `rt` at a time works in a crate's folder. Libraries that were
-built at the root are linked into the copies; `rt` builds the others once and shares them. Standard library only.
+Each crate is tried in a copy of its own. Where `rt ci` built the libraries below it at the root, and their files are
+still the same, the prover reads these; else `rt check` proves them first, which takes longer. Standard library only.
 """
 
 from __future__ import annotations
@@ -17,9 +17,44 @@ import lock
 import repository
 from repository import Count
 
+BUILT = "built-of"  # the name of a note beside a library: the digest of the files that it was built of
+
+
+def note_built(root: Path) -> None:
+    """Notes of which files `rt ci` built the libraries that it left at the root."""
+    for crate in repository.crates_of(root):
+        if (root / "crates" / crate / "out").is_dir():
+            (root / "crates" / crate / "out" / BUILT).write_text(lock.digest_of(lock.own_texts(root, crate)))
+
+
+def library(root: Path, crate: str) -> Path | None:
+    """A crate's library at the root; none where `rt ci` didn't build it, or of other files."""
+    out = root / "crates" / crate / "out"
+    note, built = out / BUILT, out / "rlib" / f"{crate}.rlib"
+    is_fresh = note.is_file() and note.read_text() == lock.digest_of(lock.own_texts(root, crate))
+    return built if is_fresh and built.is_dir() else None
+
+
+def check_of(root: Path, room: Path, crate: str) -> list[str]:
+    """The command that checks the copy of a crate."""
+    crates = repository.crates_of(root)
+    page = subprocess.run(["rt", "doc"], cwd=root, **repository.PIPED).stdout.strip()
+    kit, below = Path(page).parent, {name: library(root, name) for name in repository.below(crates, crate)}
+    if not (kit / "bin/rattle").is_file() or not all(below.values()):
+        return ["rt", "check"]
+    main = "src/main.rt" if (room / "crates" / crate / "src/main.rt").is_file() else "src/lib.rt"
+    command = [str(kit / "bin/rattle"), "check", "--crate-name", crate, main, "-L", f"dependency={kit}/rlibs"]
+    for name in ["std", *crates[crate].line.split(":")[1].split("#")[0].split()]:
+        command += ["--extern", f"{name}={below.get(name) or kit / 'rlibs' / f'{name}.rlib'}"]
+    for path in filter(None, below.values()):
+        command += ["-L", f"dependency={path.parent}"]
+    (room / "kept").mkdir()
+    command += ["--antt-project", f"{kit}/rattle/logic/antt-project.json", "--logic-built", f"{kit}/logic_built"]
+    return [*command, "--links", f"{crate}=", "--incremental", str(room / "kept")]
+
 
 def lay_out(root: Path, room: Path, crate: str) -> Path:
-    """Copies a crate and those below it, with their built libraries; the folder of the crate's copy."""
+    """Copies a crate and those below it; the folder of the crate's copy."""
     crates = repository.crates_of(root)
     names = [crate, *repository.below(crates, crate)]
     (room / "crates").mkdir(parents=True)
@@ -28,17 +63,14 @@ def lay_out(root: Path, room: Path, crate: str) -> Path:
     for name in names:
         ignored = shutil.ignore_patterns("out", "must-fail", "planted")
         shutil.copytree(root / "crates" / name, room / "crates" / name, ignore=ignored)
-        built, out = root / "crates" / name / "out/rlib", room / "crates" / name / "out"
-        if name != crate and built.is_dir():
-            out.mkdir()
-            subprocess.run(["cp", "-al", str(built), str(out)], check=True)
     return room / "crates" / crate
 
 
 def try_crate(root: Path, crate: str, jobs: int) -> edits.Outcome:
     """Tries the planted bugs of a crate, and prints what came of them."""
     with tempfile.TemporaryDirectory(prefix=f"ttm-planted-{crate}-") as room:
-        trial = edits.Trial(lay_out(root, Path(room) / "copy", crate), jobs)
+        folder = lay_out(root, Path(room) / "copy", crate)
+        trial = edits.Trial(folder, [*check_of(root, Path(room) / "copy", crate), "--jobs", str(jobs)])
         outcome = trial.run([edits.Edit(path) for path in repository.edits_of(root, crate, "planted")])
     outcome.tell()
     return outcome

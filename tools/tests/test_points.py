@@ -92,6 +92,14 @@ def test_points_without_a_stop_in_reach_are_left_out_if_asked_for(room: Room) ->
     out = room.path("doors")
     _, errors, _ = room.ran("points", feed(room), cells(room), "--out", out, "--leave-out", "--limit", "300", *PACE)
     assert errors.splitlines()[0] == "1 point without a stop in reach, left out: 3"
+    assert "which are left out, have" not in errors
+    rows = [["1", *place(30, 0), 3, 0.5], ["3", *place(9000, 0), 4, 0], ["4", *place(0, 9000), 1.5, 0.25]]
+    far = room.write("far.csv", "id,lat,lon,people,jobs", rows)
+    words = ["points", room.path("town"), far, "--limit", "300", *PACE]
+    errors = room.ran(*words, "--out", room.path("far"), "--leave-out")[1]
+    sentence = "points without a stop in reach, which are left out, have 5.5 people, 0.25 jobs"
+    assert errors.splitlines()[1] == sentence
+    assert sentence not in room.ran(*words, "--out", room.path("all"))[1]
     assert Path(out, "origins.csv").read_text() == "stop_id\n1\n2\n"
     assert Path(out, "footpaths.csv").read_text().splitlines()[1:] == ["A,1,30", "B,2,40", "1,A,30", "2,B,40"]
     assert Path(out, "feed", "points.csv").read_text().count("\n") == 3

@@ -49,6 +49,17 @@ def test_a_right_feed_has_no_faults(feed: Room) -> None:
     assert checked(feed) == (["no errors", *DAYS], 0)
 
 
+def test_decimal_commas_in_coordinates_are_reported(feed: Room) -> None:
+    edit(feed, "stops.txt", "A,50,8,", 'A,"50,5",8,')
+    edit(feed, "stops.txt", "S,50,8,1,", 'S,50," -8,25 ",1,')
+    lines, status = checked(feed)
+    assert (lines[0], status) == ("no errors", 0)
+    assert [line for line in lines if line.startswith("stops.txt")] == [
+        "stops.txt: 1 stop without coordinates, or at 0 and 0, such as A",
+        "stops.txt: 2 stops with a decimal comma in a coordinate, such as 50,5",
+    ]
+
+
 def test_all_faults_are_told_at_once_in_the_order_of_ttm(feed: Room) -> None:
     edit(feed, "stops.txt", "S,50,8,1,", "S,50,8,1.0,\nA,50,8,0,\n,50,8,x,")
     edit(feed, "trips.txt", "R,M,U", "R,M,U\nQ,,V")

@@ -9,7 +9,6 @@ import json
 import math
 import re
 import statistics
-from fractions import Fraction
 from pathlib import Path
 from typing import Mapping, Sequence
 
@@ -26,7 +25,6 @@ for _package in ("h5py", "pandas", "matplotlib", "shapely"):
 
 SHARE, LIMIT = 50, 1800  # of maps and comparisons: the default, and the limit nearest to it
 KINDS = ("cut off", "slower", "new", "faster")
-WITH_DECIMALS = "that access is in whole numbers; with decimals"
 Row = dict[str, str]
 
 
@@ -42,10 +40,9 @@ class Checked:
         with open(self.folder / name, newline="", encoding="utf-8") as file:
             return list(csv.DictReader(file))
 
-    def jobs(self, scenario: str) -> dict[str, int]:
-        """Access as maps and comparisons have it: whole jobs."""
-        access = self.matrix.access(self.drawn.counts["jobs"], scenario, SHARE, LIMIT)
-        return {origin: round(Fraction(number).limit_denominator(10)) for origin, number in access.items()}
+    def jobs(self, scenario: str) -> dict[str, float]:
+        """Access as maps and comparisons have it: jobs with one decimal."""
+        return self.matrix.access(self.drawn.counts["jobs"], scenario, SHARE, LIMIT)
 
     def of_row(self, row: Row, head: str) -> dict[str, dict[str, float]]:
         """By scenario what a row's table measures at each origin: access, or seconds to the nearest."""
@@ -102,7 +99,12 @@ def check_tables_of_people(checked: Checked) -> None:
             assert is_printed(row["people"], inside) and is_printed(row["percent"], 100 * inside / sum(people.values()))
 
 
-def sides_sentence(before: Mapping[str, int], after: Mapping[str, int]) -> str:
+def text_of(number: float, sign: str = "") -> str:
+    """A number as the report and maps print it."""
+    return f"{number:{sign},.6f}".rstrip("0").rstrip(".")
+
+
+def sides_sentence(before: Mapping[str, float], after: Mapping[str, float]) -> str:
     """How many origins lose and gain access, as maps and the report say it."""
     lose = sum(after[stop] < before[stop] for stop in before)
     gain = sum(after[stop] > before[stop] for stop in before)
@@ -133,13 +135,13 @@ def check_comparison(checked: Checked, scenario: str) -> list[str]:
         change = after[stop] - before[stop]
         numbers = [before[stop], after[stop], change]
         numbers += [sum(it.origin == stop and it.what == kind for it in changes) for kind in KINDS]
-        assert [int(row[name]) for name in columns] == numbers
+        assert [float(row[name]) for name in columns] == pytest.approx(numbers), row
         assert row["percent"] == ("" if before[stop] == 0 else str(round(100 * change / before[stop], 1))), row
     listed = {it.origin for it in changes} | {stop for stop in STOPS if before[stop] != after[stop]}
     assert sorted(row["origin"] for row in rows) == sorted(listed)
     counts = ", ".join(f"{sum(it.what == kind for it in changes)} {kind}" for kind in KINDS)
     total = sum(after.values()) - sum(before.values())
-    sides = f"of {len(STOPS)} origins {sides_sentence(before, after)}; in all {total:+,}"
+    sides = f"of {len(STOPS)} origins {sides_sentence(before, after)}; in all {text_of(total, '+')}"
     return [
         f"{scenario} compared with base: of {len(STOPS) ** 2} pairs {counts} (by more than 60 seconds)",
         f"access within {LIMIT // 60} minutes, percentile {SHARE}: {sides}",
@@ -151,8 +153,7 @@ def check_report(checked: Checked, sentences: Sequence[str]) -> None:
     text = (checked.folder / "report.md").read_text().replace("\\", "")
     blocks = text[text.index("## Figures") : text.index("## Inputs")].strip().split("\n\n")
     printed = [line[2:] for block in blocks if block.startswith("- ") for line in block.splitlines()]
-    exact = [line for line in printed if line.startswith(WITH_DECIMALS)]  # test_scaled_counts has their numbers
-    assert [line for line in printed if line not in exact] == sentences and len(exact) == len(SCENARIOS) - 1
+    assert printed == sentences
     for caption, block in zip(blocks, blocks[1:]):
         if block.startswith("| "):
             header, _, *rows = [[cell.strip() for cell in line[2:-1].split("|")] for line in block.splitlines()]
@@ -184,8 +185,8 @@ def check_table(checked: Checked, caption: str, rows: Sequence[Row]) -> None:
     lines = [{name.replace("_", " "): text for name, text in line.items()} for line in checked.table(file[1])]
     if caption.startswith("Who "):
         is_loss = caption.startswith("Who loses")
-        lines = [line for line in lines if (int(line["change"]) < 0 if is_loss else int(line["change"]) > 0)]
-        changes = [abs(int(line["change"])) for line in lines]
+        lines = [line for line in lines if (float(line["change"]) < 0 if is_loss else float(line["change"]) > 0)]
+        changes = [abs(float(line["change"])) for line in lines]
         assert changes == sorted(changes, reverse=True)
         lines = lines[:10]
     assert rows == lines, caption
@@ -203,14 +204,14 @@ def changes_sentence(before: Mapping[str, float], after: Mapping[str, float]) ->
 def check_maps_of_access(checked: Checked) -> None:
     base = checked.jobs("base")
     figure = checked.figures["maps/access.png"]
-    half, most = math.floor(statistics.median(base.values())), max(base.values())
-    assert figure.texts[1] == f"Half of 12 stops reach at least {half:,} jobs; the most is {most:,}"
+    half, most = text_of(statistics.median(base.values())), text_of(max(base.values()))
+    assert figure.texts[1] == f"Half of 12 stops reach at least {half} jobs; the most is {most}"
     check_key(figure.key, lambda label, stop: is_in_range(label, base[stop]), STOPS)
     for scenario in SCENARIOS[1:]:
         figure, jobs = checked.figures[f"maps/access_{scenario}.png"], checked.jobs(scenario)
         losses = {stop: 100 * (base[stop] - jobs[stop]) / base[stop] for stop in STOPS if base[stop]}
         worst = max(losses, key=lambda stop: losses[stop])
-        lost = f"{losses[worst]:.0f} % ({base[worst] - jobs[worst]:,} jobs) at Stop {worst} ({worst})"
+        lost = f"{losses[worst]:.0f} % ({text_of(base[worst] - jobs[worst])} jobs) at Stop {worst} ({worst})"
         wanted = f"Of 12 stops {sides_sentence(base, jobs)}" + f"; the greatest loss: {lost}" * (losses[worst] >= 1)
         assert figure.texts[1] == wanted
 

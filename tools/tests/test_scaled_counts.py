@@ -6,11 +6,15 @@ from pathlib import Path
 import numpy as np
 import pytest
 
-from helpers import Room, read
+from helpers import Room, Town, read, town_matrix
 from test_points import PACE, feed, place as spot
 from test_study import STOPS, STUDY, Place, place  # noqa: F401
-from ttm_tools.study import joining
-from ttm_tools.study.counted import COUNTED, OPPORTUNITIES, opportunities_stage, scale_in, scale_of
+from ttm_tools.engine import files_of, result_of
+from ttm_tools.faults import BadInput
+from ttm_tools.matrices import open_matrix
+from ttm_tools.measures.scaling import scale_of, unscaled
+from ttm_tools.records import Rounded
+from ttm_tools.study.counted import COUNTED, OPPORTUNITIES, opportunities_stage, scale_in
 from ttm_tools.study.stages import Record
 
 
@@ -39,7 +43,15 @@ def test_whole_counts_are_as_before(room: Room) -> None:
 def test_what_is_rounded_all_the_same_is_reported(room: Room) -> None:
     # a scale of 10 would make 40,000,000,001 of the sum
     _, line = written(room, ["3999999999.4", "0.3", "0.4"])
-    assert line == f"{OPPORTUNITIES}: people at 3 places; rounded, 3999999999 of 4000000000.1"
+    by = "rounded, 3999999999 of 4000000000.1, and no sum differs by more than 1.1"
+    assert line == f"{OPPORTUNITIES}: people at 3 places; {by}"
+
+
+def test_roundings_that_cancel_out_are_reported(room: Room) -> None:
+    # 3,999,999,998.6 becomes 3,999,999,999, and 0.4 becomes 0
+    _, line = written(room, ["3999999998.6", "0.4"])
+    by = "rounded, 3999999999 of 3999999999, and no sum differs by more than 0.8"
+    assert line == f"{OPPORTUNITIES}: people at 2 places; {by}"
 
 
 @pytest.mark.parametrize("numbers, scale", [([1, 2], 1), ([0.5], 10), ([0.125, 2], 1000), ([1 / 3], 1_000_000)])
@@ -48,9 +60,31 @@ def test_the_scale_is_a_power_of_ten(numbers: list[float], scale: int) -> None:
 
 
 def test_sums_are_divided_where_parts_are_joined() -> None:
-    assert joining.unscaled(np.array([[1499, 1501], [0, 2000]]), 1000).tolist() == [[1, 2], [0, 2]]
+    assert unscaled(np.array([[1499, 1501], [0, 2000]]), 1000).tolist() == [[1.499, 1.501], [0, 2]]
     sums = np.array([[3, 4]])
-    assert joining.unscaled(sums, 1) is sums
+    assert unscaled(sums, 1) is sums
+
+
+def test_opportunities_of_python_are_scaled(room: Room) -> None:
+    rounded = Rounded()
+    given = {f"c{number}": 0.25 for number in range(4)} | {"d": 3, "e": 1 / 3}
+    files = files_of(room.folder, rounded, opportunities=given, footpaths=[("c0", "c1", 0.5)])
+    rows = read(Path(files["opportunities"]).read_text())
+    assert [int(row["opportunities"]) for row in rows] == [250_000] * 4 + [3_000_000, 333_333]
+    assert (rounded.scale, rounded.count) == (1_000_000, 2)  # a third, and half a second
+    rounded = Rounded()
+    files_of(room.folder, rounded, opportunities={"a": 3, "b": 4.0})
+    assert (rounded.scale, rounded.count) == (1, 0)
+    for wrong in (-1, float("inf"), "x"):
+        with pytest.raises(BadInput, match="opportunities: record 3"):
+            files_of(room.folder, Rounded(), opportunities={"a": 0.5, "b": wrong})
+
+
+def test_results_of_python_have_decimals(town: Town) -> None:
+    matrix = open_matrix(town.matrix(town_matrix(True)))
+    result = result_of(matrix, 0, 10)
+    assert result.sums["base", 50].tolist() == [[0.3], [0.3]]
+    assert result_of(matrix, 0, 1).sums["base", 50].dtype == np.int64
 
 
 def test_points_say_what_rounding_changes(room: Room) -> None:
@@ -91,15 +125,22 @@ def test_a_study_of_decimals_agrees_with_the_sums_of_its_cells(place: Place) -> 
         if (line["opportunity"], line["percentile"], line["cutoff"]) == ("jobs", "50", "30")
     }
     assert own == pytest.approx(wanted)
+    kept = open_matrix(place.path("nine/matrix.omx"))
+    of_matrix = {
+        (name, origin): number
+        for name in kept.scenarios
+        for origin, number in zip(kept.origins(name, 50), kept.access(name, 50)[:, kept.limit(1800)[0]].tolist())
+    }
+    assert of_matrix == pytest.approx(wanted)
     changes = {
-        line["origin"]: (int(line["access_before"]), int(line["access_after"]))
+        line["origin"]: [float(line[f"access_{when}"]) for when in ("before", "after")]
         for line in read(Path(place.path("nine/compare_cut.csv")).read_text())
     }
-    assert changes["S8"] == (round(wanted["base", "S8"]), round(wanted["cut", "S8"]))
-    for origin, (before, after) in changes.items():
-        assert before == pytest.approx(wanted["base", origin], abs=0.5)
-        assert after == pytest.approx(wanted["cut", origin], abs=0.5)
-    lost = [wanted["base", stop] - wanted["cut", stop] for stop in STOPS]
-    lose = sum(number > 0.01 for number in lost)
-    sentence = f"with decimals of 9 origins {lose} lose{'s' * (lose == 1)}, 0 gain; in all -{sum(lost):g}"
-    assert lose > 0 and sentence in Path(place.path("nine/report.md")).read_text().replace("\\", "")
+    for origin, sums in changes.items():
+        assert sums == pytest.approx([wanted["base", origin], wanted["cut", origin]])
+    lost = {stop: wanted["base", stop] - wanted["cut", stop] for stop in STOPS}
+    losers = {stop for stop, number in lost.items() if number > 0.01}
+    assert losers and losers <= set(changes)
+    sentence = f"of 9 origins {len(losers)} lose{'s' * (len(losers) == 1)}, 0 gain; in all -{sum(lost.values()):g}"
+    report = Path(place.path("nine/report.md")).read_text().replace("\\", "")
+    assert sentence in report and "whole numbers" not in report

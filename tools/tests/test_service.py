@@ -206,6 +206,18 @@ def test_a_day_without_periods_has_24_hours(line: Room, monkeypatch: pytest.Monk
     assert (rates["A"], rates["B"]) == ("0.25", "0.3333")
 
 
+def test_stops_without_coordinates_are_reported(line: Room) -> None:
+    path = line.folder / "stops.txt"
+    said = line.ran("service", str(line.folder), "--date", "20260504")[1]
+    assert "coordinates" not in said
+    rows = path.read_text().splitlines()
+    path.write_text("\n".join([rows[0], rows[1], "B,,,,", rows[3], "Z,,,,", ""]))
+    out, said, status = line.ran("service", str(line.folder), "--date", "20260504")
+    assert status == 0 and numbers(read(out)[0])[-1] == "9"  # straight from A to C
+    sentence = "vehicles call at 1 stop without coordinates: kilometres and speeds are those of straight lines between"
+    assert said.splitlines()[-1] == f"{sentence} the others"
+
+
 def test_the_scenarios_of_a_plan_have_its_order(line: Room) -> None:
     (line.folder / "scenarios").mkdir()
     names = ["today", "zebra", "more", "alpha"]

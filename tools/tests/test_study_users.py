@@ -1,14 +1,22 @@
 """Studies as people ask for them: homes here and schools there, plans of one scenario, files that don't fit."""
 
 import re
+from dataclasses import replace
 from pathlib import Path
 
+import numpy as np
 import pytest
 
 from helpers import read
 from test_study import NO_MAPS, STUDY, Place, bare, place  # noqa: F401
 from ttm_tools.matrices import open_matrix
+from ttm_tools.measures.access_table import AccessKind, AccessTable
+from ttm_tools.measures.opportunities import read_counts
+from ttm_tools.study.checks import check_counts
+from ttm_tools.study.counted import COUNTED, ORIGINS, PEOPLE, counts_stage, people_stage
+from ttm_tools.study.outside import sentence_on_outside, with_outside
 from ttm_tools.study.report import texts_apart
+from ttm_tools.study.stages import Record
 from ttm_tools.study.study_file import read_study
 
 DOORS = STUDY[: STUDY.index("[opportunities]")] + '[points]\norigins = ["homes.csv"]\ndestinations = ["schools.csv"]\n'
@@ -65,12 +73,76 @@ def test_the_parts_have_the_columns_of_destinations_alone(place: Place) -> None:
 
 def test_people_at_points_that_are_left_out_are_told(place: Place) -> None:  # noqa: F811
     path = doors(place)
-    place.write("homes.csv", "id,lat,lon", [["h0", 50, 7], ["far", 51, 7]])
+    place.write("homes.csv", "id,lat,lon", [["h0", 50.032, 7], ["far", 51, 7]])  # h0 is where s0 is
     place.write("people.csv", "id,residents", [["h0", 3], ["far", 4]])
     study = (place.folder / "nine.toml").read_text().replace("[points]", "[points]\nleave_out = true")
-    place.say(study + '[opportunities]\npeople = "people.csv"\n')
+    place.say(study + 'bands = [1]\n[opportunities]\npeople = "people.csv"\n')
     _, errors, status = place.ran("study", path)
-    assert status == 0 and "not counted, at points that are left out: 4 residents" in errors
+    assert status == 0 and "reach nothing, at points that are left out: 4 residents" in errors
+    # the 3 at h0 walk to 3 schools at s1 and s2, and the 4 far away reach none
+    for row in read((place.folder / "nine/equity.csv").read_text()):
+        assert (row["people"], row["mean"]) == ("7", f"{3 * 3 / 7:.4f}")
+    for row in read((place.folder / "nine/bands.csv").read_text()):
+        assert (row["people"], row["percent"]) == ("3", f"{100 * 3 / 7:.4f}")
+    report = report_of(place).replace("\\", "")
+    people = "of all people, of whom 4 residents live at points that are left out and reach nothing"
+    assert f"People by number of opportunities (bands.csv); percentages are {people}" in report
+    (warnings,) = [line for line in report.splitlines() if line.startswith("Warnings: ")]
+    assert "reach nothing, at points that are left out: 4 residents" in warnings
+
+
+def test_people_at_points_that_are_left_out_are_one_more_origin(bare: Place) -> None:  # noqa: F811
+    path = doors(bare)
+    bare.write("homes.csv", "id,lat,lon", [["h0", 50, 7], ["h1", 50, 7.01], ["far", 51, 7]])
+    bare.write("people.csv", "id,residents,old", [["h0", 3, 0], ["h1", 5, 1], ["far", 4, 0.5], ["s0", 9, 9]])
+    text = (bare.folder / "nine.toml").read_text().replace("[points]", "[points]\nleave_out = true")
+    bare.say(text + '[opportunities]\npeople = "people.csv"\n')
+    study = replace(read_study(path), folder=bare.folder / "nine")
+    (study.folder / "inputs").mkdir(parents=True)
+    bare.write(f"nine/{ORIGINS}", "stop_id", [["h0"], ["h1"]])  # what the points leave of the homes
+    lines = people_stage(study, Record("", {}, [], 0.0), bare.path("people.csv")).make()
+    assert lines[1:] == [
+        "reach nothing, at points that are left out: 4 residents, 0.5 old",
+        "people.csv: not counted, at 1 place that is no origin of the study (s0): 9 residents, 9 old",
+    ]
+    people = read_counts([str(study.folder / PEOPLE)], ["h0", "h1"], "origin")
+    kinds = [AccessKind("jobs", "50", "30")]
+    for of_times, nothing in ((False, 0.0), (True, np.nan)):
+        table = AccessTable("", ["base", "cut"], kinds, ["h0", "h1"], np.array([[[7.0, 1]], [[6, 0]]]), of_times)
+        wide, every = with_outside(study, table, people)
+        assert wide.origins == ["h0", "h1", "at points that are left out"]
+        np.testing.assert_equal(wide.numbers, [[[7, 1, nothing]], [[6, 0, nothing]]])
+        assert every.numbers.tolist() == [[3, 0], [5, 1], [4, 0.5]]
+    sentence = "of all people, of whom 4 residents, 0.5 old live at points that are left out and reach nothing"
+    assert sentence_on_outside(study) == sentence
+
+
+def test_opportunities_at_places_that_a_study_lacks_are_reported_and_not_counted(place: Place) -> None:  # noqa: F811
+    path = place.lay_out(NO_MAPS)
+    rows = [[f"S{n}", n, 1] for n in range(9)]
+    place.write("jobs.csv", "stop_id,jobs,schools", [*rows, ["X1", 5, 0], ["X2", 2.5, 1]])
+    _, errors, status = place.ran("study", path)
+    sentence = "jobs.csv: not counted, at 2 places that are no stop of the feed (X1, X2): 7.5 jobs, 1 school"
+    assert status == 0 and sentence in errors, errors
+    (warnings,) = [line for line in report_of(place).splitlines() if line.startswith("Warnings: ")]
+    assert sentence in warnings
+    place.write("jobs.csv", "stop_id,jobs,schools", [["X1", 5, 1]])
+    _, errors, status = place.ran("study", path)
+    assert status == 1 and "jobs.csv: record 2: no stop of the feed is called X1" in errors
+
+
+def test_opportunities_that_a_study_counts_are_those_of_its_places(bare: Place) -> None:  # noqa: F811
+    path = bare.lay_out(STUDY)
+    bare.write("jobs.csv", "stop_id,jobs,schools", [["S0", 1, 0], ["X1", 5, 0], ["S1", 2, 3]])
+    study = replace(read_study(path), folder=bare.folder / "nine")
+    (study.folder / "inputs/counted").mkdir(parents=True)
+    check_counts(bare.path("jobs.csv"), {"S0", "S1", "S2"}, "stop of the feed")
+    stops = ["S0", "S1", "S2"]
+    stage = counts_stage(study, None, [bare.path("jobs.csv")], ["jobs", "schools"], stops, stops)
+    assert stage.make()[1:] == [
+        "jobs.csv: not counted, at 1 place that is no stop of the feed (X1): 5 jobs",
+    ]
+    assert (study.folder / COUNTED).read_text() == "stop_id,jobs,schools\nS0,1,0\nS1,2,3\nS2,0,0\n"
 
 
 def test_people_who_live_at_no_origin_are_reported_and_not_counted(place: Place) -> None:  # noqa: F811
@@ -220,6 +292,8 @@ def test_a_date_without_trips_is_refused_of_a_feed_that_is_ready_and_of_a_clippe
 def test_numbers_have_the_digits_that_show_a_change() -> None:
     assert texts_apart([0.31, 0.32]) == ["0.31", "0.32"]
     assert texts_apart([1234.5, 1234.5]) == ["1,234.5", "1,234.5"]
+    assert texts_apart([0.004, 0.004]) == ["0.004", "0.004"] and texts_apart([0, 0.2]) == ["0.0", "0.2"]
+    assert texts_apart([0.0000001, 0.0000001]) == ["0.0", "0.0"]
     assert texts_apart([1.00001, 1.00002, 1.00001]) == ["1.00001", "1.00002", "1.00001"]
 
 

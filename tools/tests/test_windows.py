@@ -107,9 +107,9 @@ def test_a_study_compares_its_scenarios_in_each_window(place: Place) -> None:  #
     lines = [row for row in table(place, "compare.csv") if kind.items() <= row.items()]
     found = [(line["date"][-1], line["window"], line["lose"], line["gain"], line["mean_change"]) for line in lines]
     assert found == [
-        ("4", "early", "0", "0", "0.0000"),
+        ("4", "early", "0", "0", "0"),
         ("4", "late", "4", "0", f"{-lost / 45:.4f}"),
-        ("5", "early", "0", "0", "0.0000"),
+        ("5", "early", "0", "0", "0"),
         ("5", "late", "4", "0", f"{-lost / 45:.4f}"),
     ]
     report = Path(place.path("nine/report.md")).read_text()
@@ -405,15 +405,19 @@ def test_who_loses_and_gains_by_window_by_hand() -> None:
         return AccessTable("made", ["base", "cut"], [kind], ["A", "B"], np.array(numbers)[:, None], False)
 
     tables = {peak: table_of([10, 20], [10, 15]), evening: table_of([10, 20], [30, 0])}
+    (small,) = changes_of({peak: table_of([1, 2], [1, 2.00004])}, "base", Counts(["people"], np.array([[3.0], [1.0]])))
+    out = io.BytesIO()
+    write_changes(out, [small], ["people"])
+    assert out.getvalue().decode().splitlines()[1].endswith(",people,0.00001")
     people = Counts(["people", "old"], np.array([[3.0, 0.0], [1.0, 1.0]]))
     out = io.BytesIO()
     write_changes(out, list(changes_of(tables, "base", people)), people.names)
     assert out.getvalue().decode().splitlines() == [
         "date,window,from,to,scenario,opportunity,percentile,cutoff,lose,cut_off,gain,newly_reached,group,mean_change",
-        "2026-05-04,peak,07:00,08:59,cut,jobs,50,30,1,0,0,0,people,-1.2500",
-        "2026-05-04,peak,07:00,08:59,cut,jobs,50,30,1,0,0,0,old,-5.0000",
-        "2026-05-04,evening,18:00,18:59,cut,jobs,50,30,1,1,1,0,people,10.0000",
-        "2026-05-04,evening,18:00,18:59,cut,jobs,50,30,1,1,1,0,old,-20.0000",
+        "2026-05-04,peak,07:00,08:59,cut,jobs,50,30,1,0,0,0,people,-1.25",
+        "2026-05-04,peak,07:00,08:59,cut,jobs,50,30,1,0,0,0,old,-5",
+        "2026-05-04,evening,18:00,18:59,cut,jobs,50,30,1,1,1,0,people,10",
+        "2026-05-04,evening,18:00,18:59,cut,jobs,50,30,1,1,1,0,old,-20",
     ]
 
 

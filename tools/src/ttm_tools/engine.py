@@ -19,7 +19,8 @@ from .files import output
 from .folders import scratch
 from .matrices import BASE, TODAY, Matrix, Seconds, Sums, open_matrix
 from .plans.nearness import new_stops_in, sentences_on_nearer
-from .records import Rounded, write_rows
+from .measures.scaling import scale_of, times, unscaled
+from .records import Rounded, number_of, write_rows
 
 FAULT = re.compile(r"ttm: (?:(?P<file>.+?): )?(?:record (?P<record>[0-9]+): )?(?P<what>[^:]*)")
 PACKAGES = Path(__file__).resolve().parents[1]
@@ -163,8 +164,9 @@ class Result:
     origins: list[str]
     stops: list[str]
     seconds: Mapping[tuple[str, int], Seconds]  # by scenario and share: rows of origins, columns of stops, NaN
-    sums: Mapping[tuple[str, int], Sums]  # by scenario and share: rows of origins, columns of limits
-    rounded: int  # how many numbers with decimals were made whole for `ttm`
+    # by scenario and share: rows of origins, columns of limits; int64, or float64 if opportunities have decimals
+    sums: Mapping[tuple[str, int], Sums]
+    rounded: int  # how many numbers were rounded for `ttm`
 
     def array(self, scenario: str | None = None, share: int | None = None) -> Seconds:
         """Travel times in seconds as an array: a row for each origin, a column for each stop, NaN where one isn't
@@ -206,14 +208,14 @@ class Result:
         return key
 
 
-def result_of(matrix: Matrix, rounded: int) -> Result:
-    """All of a matrix that names its shares."""
+def result_of(matrix: Matrix, rounded: int, scale: int) -> Result:
+    """All of a matrix that names its shares, whose sums of access are divided by a scale."""
     keys = [(scenario, share) for scenario in matrix.scenarios for share in matrix.shares if share is not None]
     origins = matrix.origins(*keys[0])
     seconds = {key: matrix.rows(*key, 0, len(origins)) for key in keys}
     shares = [share for share in matrix.shares if share is not None]
     limits = [limit or 0 for limit in matrix.layout.limits]
-    sums = {key: matrix.access(*key) for key in keys}
+    sums = {key: unscaled(matrix.access(*key), scale) for key in keys}
     return Result(matrix.scenarios, shares, limits, origins, matrix.stops, seconds, sums, rounded)
 
 
@@ -226,19 +228,25 @@ COLUMNS = {  # of the files that are written of what is given, by their options
 
 
 def file_of(folder: Path, option: str, given: Any, rounded: Rounded) -> Pathlike:
-    """A file as it is, or one of stops, of a number for each stop, rounded to the nearest whole one, or of walks, whose
-    seconds are rounded up.
+    """A file as it is; or one of stops; or of a number for each stop, times a power of ten if there are decimals; or of
+    walks, whose seconds are rounded up.
     """
     if isinstance(given, (str, os.PathLike)):
         return given
     header, path = COLUMNS[option], folder / f"{option}.csv"
     if len(header) == 1:
         rows = [[stop] for stop in given]
-    else:
-        lines = enumerate(given.items() if option == "opportunities" else given, 2)
+    elif option == "opportunities":
+        counts = {stop: str(number) for stop, number in given.items()}
+        scale = rounded.scale = scale_of(np.array([number_of(text) for text in counts.values()]))
         rows = [
-            [*ends, rounded.whole(str(number), option, record, header[-1], up=option == "footpaths")]
-            for record, (*ends, number) in lines
+            [stop, rounded.whole(times(text, scale), option, record, header[-1], up=False)]
+            for record, (stop, text) in enumerate(counts.items(), 2)
+        ]
+    else:
+        rows = [
+            [*ends, rounded.whole(str(number), option, record, header[-1], up=True)]
+            for record, (*ends, number) in enumerate(given, 2)
         ]
     with open(path, "wb") as file:
         write_rows(file, header, rows)
@@ -274,8 +282,8 @@ def matrix(
 
     The window is the first and the last departure, as ("08:00", "08:59"). Scenarios are scenario files. Origins are a
     file or identifiers of stops, and so are destinations, the stops that have a column; opportunities a file or a
-    number for each stop; footpaths a file or walks between two stops with their seconds. Faults of the inputs are
-    raised as `EngineFault`, with file and record.
+    number for each stop, of which access has the decimals; footpaths a file or walks between two stops with their
+    seconds. Faults of the inputs are raised as `EngineFault`, with file and record.
     """
     rounded = Rounded()
     with scratch("matrix") as folder:
@@ -283,4 +291,4 @@ def matrix(
         files = files_of(folder, rounded, **named, footpaths=footpaths)
         task = Run(feed, date, window, trips, walk, shares, limits, scenarios, workers, tries, back, ahead, files)
         run(task, folder / "matrix.csv", program)
-        return result_of(open_matrix(str(folder / "matrix.csv")), rounded.count)
+        return result_of(open_matrix(str(folder / "matrix.csv")), rounded.count, rounded.scale)

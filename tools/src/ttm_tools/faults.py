@@ -116,9 +116,14 @@ def singular(name: str) -> str:
     return name if not name.endswith("s") or name.endswith(("ss", "us", "is")) or name == "s" else name[:-1]
 
 
-def counted(count: int, name: str) -> str:
+def grouped(number: float) -> str:
+    """A number with commas between thousands and without needless decimals: `2,000`, `0.45`."""
+    return f"{int(number) if number == int(number) else number:,}"
+
+
+def counted(count: float, name: str) -> str:
     """A number of what a name counts: `1 job`, `2,000 jobs`."""
-    return f"{count:,} {singular(name) if count == 1 else name}"
+    return f"{grouped(count)} {singular(name) if count == 1 else name}"
 
 
 def some(names: Sequence[str], most: int = 4) -> str:

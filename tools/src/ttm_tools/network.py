@@ -138,7 +138,7 @@ class Network:
             Stop identifiers, or a CSV file of them; all stops by default.
         opportunities
             The opportunities at each stop: a mapping from stop identifiers, or a CSV file. Stops that it does not name
-            have none. Without the argument each stop counts 1. Fractions are rounded to the nearest integer.
+            have none. Without the argument each stop counts 1. Access has the decimals of the numbers.
         workers
             The number of threads that compute this matrix, from 1 to 64.
         tries
@@ -173,7 +173,7 @@ class Network:
                 warnings.warn(line, stacklevel=2)
             path = folder / "matrix.csv"
             path.write_bytes(answer.body)
-            return result_of(open_matrix(str(path)), self.rounded.count + rounded.count)
+            return result_of(open_matrix(str(path)), self.rounded.count + rounded.count, rounded.scale)
 
     @contextlib.contextmanager
     def question_folder(self) -> Iterator[Path]:

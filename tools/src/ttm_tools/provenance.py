@@ -10,7 +10,7 @@ import os
 import stat
 from enum import Enum, auto
 from pathlib import Path
-from typing import Iterator
+from typing import Iterator, Sequence
 
 from .faults import BadInput
 
@@ -19,8 +19,10 @@ SECONDS = 2  # by which the time of a file may differ from its note: some disks 
 LONGEST_LINE = 1 << 16  # bytes of a first line that are compared
 MAGIC = 8  # bytes by which formats such as PNG, HDF5 and SQLite begin
 NO_NOTES = (errno.ENOTSUP, errno.EOPNOTSUPP, errno.ENOSYS)
+IS_INPUT = "is an input as well: name another output"
 _inputs: set[tuple[int, int]] | None = None  # device and inode of the files that a command has read
 _command, _forces = "", False
+_named: Sequence[str] = ()  # paths among a command's arguments that are no outputs
 
 
 class Writer(Enum):
@@ -32,15 +34,15 @@ class Writer(Enum):
 
 
 @contextlib.contextmanager
-def command_runs(name: str, forces: bool = False) -> Iterator[None]:
+def command_runs(name: str, forces: bool = False, named: Sequence[str] = ()) -> Iterator[None]:
     """Protects files while a command runs: those that it reads, and those that it did not write unless `forces`."""
-    global _inputs, _command, _forces
-    before = _inputs, _command, _forces
-    _inputs, _command, _forces = set(), name, forces
+    global _inputs, _command, _forces, _named
+    before = _inputs, _command, _forces, _named
+    _inputs, _command, _forces, _named = set(), name, forces, named
     try:
         yield
     finally:
-        _inputs, _command, _forces = before
+        _inputs, _command, _forces, _named = before
 
 
 def is_command() -> bool:
@@ -54,12 +56,18 @@ def note_input(found: os.stat_result) -> None:
         _inputs.add((found.st_dev, found.st_ino))
 
 
+def is_named(found: os.stat_result) -> bool:
+    """Whether a file is among a command's arguments, or is a table of a feed in a folder among them."""
+    tables = [str(table) for name in _named if os.path.isdir(name) for table in Path(name).glob("*.txt")]
+    return any(os.path.samestat(os.stat(path), found) for path in (*_named, *tables) if os.path.isfile(path))
+
+
 def refuse_input(path: Path) -> None:
     """Refuses an output that the command reads as well."""
     with contextlib.suppress(OSError):
         found = os.stat(path)
         if _inputs is not None and (found.st_dev, found.st_ino) in _inputs:
-            raise BadInput(path, "is an input as well: name another output")
+            raise BadInput(path, IS_INPUT)
 
 
 def note_output(path: Path) -> None:
@@ -96,6 +104,8 @@ def refuse_foreign(path: Path, new: Path | None = None) -> None:
         return
     writer = writer_of(path)
     if writer is Writer.OTHER or writer is Writer.UNKNOWN and new is not None and not begins_alike(path, new):
+        if is_named(found):
+            raise BadInput(path, IS_INPUT)
         message = f"ttm-tools {_command} did not write this file, or it was changed since: "
         raise BadInput(path, f"{message}name another output, or add --force to replace it")
 

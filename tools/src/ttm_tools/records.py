@@ -152,10 +152,12 @@ def texts_of(encoded: Sequence[bytes]) -> Texts:
 
 
 def with_gaps(numbers: npt.NDArray[Any]) -> Any:
-    """Whole numbers as pandas has them where some are missing; NaN is missing."""
+    """Whole numbers as pandas has them where some are missing, and others as they are; NaN is missing."""
     import pandas
 
     gaps = np.isnan(numbers)
+    if (numbers[~gaps] % 1 != 0).any():
+        return numbers
     return pandas.arrays.IntegerArray(np.where(gaps, 0, numbers).astype(np.int64), gaps)
 
 
@@ -171,6 +173,7 @@ class Rounded:
     """How many numbers with decimals were made whole for `ttm`, which takes whole numbers alone."""
 
     count: int = 0
+    scale: int = 1  # by which opportunities were multiplied before
 
     def whole(self, text: str, path: object, record: int, column: str, up: bool) -> int:
         """The number of a field, rounded up or to the nearest (a half up), and counted where that changes it."""

@@ -87,15 +87,22 @@ def protected(args: argparse.Namespace) -> Iterator[None]:
     if args.command in ("study", "explore"):  # they lock and number their own folders
         yield
         return
-    with command_runs(args.command, getattr(args, "force", False)):
-        outputs = getattr(args, "outputs", outputs_named)
-        with outputs_locked(outputs(args)):
+    outputs = getattr(args, "outputs", outputs_named)(args)
+    with command_runs(args.command, getattr(args, "force", False), others_named(args)):
+        with outputs_locked(outputs):
             yield
 
 
 def outputs_named(args: argparse.Namespace) -> list[str]:
     """The files and folders that a command's options name to be written."""
     return [path for path in (getattr(args, name, None) for name in OUTPUTS) if path]
+
+
+def others_named(args: argparse.Namespace) -> list[str]:
+    """The texts among a command's arguments, other than its outputs, that may be paths."""
+    values = [value for name, value in vars(args).items() if name not in OUTPUTS]
+    texts = [text for value in values for text in (value if isinstance(value, (list, tuple)) else [value])]
+    return [text for text in texts if isinstance(text, str)]
 
 
 def of_its_own(fault: Exception) -> str:

@@ -32,7 +32,7 @@ def describe(parser: Parser) -> None:
     what = "travel times that differ by more than this count as slower or faster"
     parser.add_number("--limit", what, Range("seconds", 0, 604800), default=60)
     what = "access that differs by this or more counts as lost or gained"
-    parser.add_number("--least", what, Range("opportunities", 1, 4294967295), default=1)
+    parser.add_number("--least", what, Range("opportunities", 1, 4294967295), without="any change")
     what = "why an origin is listed: a pair that differs, its access, or either"
     parser.add_choice("--listed", ("both", "times", "access"), what, "both")
     what = "how lines are sorted: the greatest loss or gain first, or by percent"
@@ -50,7 +50,7 @@ def describe(parser: Parser) -> None:
 
 
 def run(args: argparse.Namespace) -> None:
-    if args.by == "pair" and (args.least > 1 or args.listed != "both"):
+    if args.by == "pair" and ((args.least or 1) > 1 or args.listed != "both"):
         raise WrongWords("--least and --listed go with --by origin")
     needs("numpy")
     from ..matrices import pair_of

@@ -3,7 +3,7 @@
 from abc import ABC, abstractmethod
 from dataclasses import dataclass
 from functools import cached_property
-from typing import Collection, Iterator, Sequence
+from typing import Any, Collection, Iterator, Sequence
 
 import numpy as np
 import numpy.typing as npt
@@ -14,7 +14,7 @@ from ..records import shown
 from .layout import MatrixLayout
 from .lines import Seconds
 
-Sums = npt.NDArray[np.int64]
+Sums = npt.NDArray[Any]  # int64; float64 if the counts have decimals
 Places = npt.NDArray[np.intp]
 CELLS_AT_ONCE = 2_000_000
 Share = int | None  # percent; None where the matrix names none

@@ -4,7 +4,8 @@
 `scenario`, `share` and `place` (of the matrix among all). `lookup` has the identifiers of origins and destinations
 (bytes of UTF-8), and their numbers from 1 on for programs whose zones are numbers. `access` has the sums beside: for
 each matrix a row for each origin and a column for each limit, which the attribute `limits` of the file names in
-seconds. All have one list of origins, as the format wants one shape.
+seconds. They are int64, or float64 if the counts have decimals. All have one list of origins, as the format wants one
+shape.
 """
 
 from pathlib import Path
@@ -192,8 +193,9 @@ class OpenMatrix(Matrix):
     def access(self, scenario: str, share: Share) -> Sums:
         name = self.names[scenario, share]
         with as_one_line(self.path, f"access of {name} can't be read"):
-            counts: Sums = self.file["access"][name][:].astype(np.int64)
-        if (counts < 0).any():
+            counts: Sums = self.file["access"][name][:]
+        counts = counts.astype(np.float64 if counts.dtype.kind == "f" else np.int64)
+        if not ((counts >= 0) & np.isfinite(counts)).all():
             raise BadInput(self.path, f"access of {name} has {counts.min()}, which is not a sum")
         return counts
 

@@ -12,13 +12,13 @@ import numpy as np
 import numpy.typing as npt
 
 from .. import progress
-from ..gtfs.fields import Floats
 from ..matrices import Pair, Seconds, Sums
 
 KINDS = ["cut off", "slower", "new", "faster"]  # in the order of a table
 CUT_OFF, SLOWER, NEW, FASTER = range(4)
 LOSS, GAIN, RELATIVE = "loss", "gain", "relative"  # ways to sort other than losers first and then winners, by size
 Order = npt.NDArray[np.intp]
+LEAST_OF_DECIMALS = 5e-7  # tables have six decimals
 RANKS = {LOSS: [0, 1, 3, 2], GAIN: [3, 2, 0, 1]}  # of KINDS
 
 
@@ -67,8 +67,14 @@ class Sides:
         return f"{lose:,} lose{'s' * (lose == 1)}{all_of_it}, {gain:,} gain{'s' * (gain == 1)}{from_nothing}"
 
 
-def sides_of(before: Sums | Floats, after: Sums | Floats, least: float = 1) -> Sides:
+def least_change(*sums: Sums) -> float:
+    """Returns the least change of access that counts: however little it is, but for errors of floating point."""
+    return LEAST_OF_DECIMALS if any(numbers.dtype.kind == "f" for numbers in sums) else 1
+
+
+def sides_of(before: Sums, after: Sums, least: float | None = None) -> Sides:
     """The sides of origins with this access before and after; a change below the least counts for none."""
+    least = least_change(before, after) if least is None else least
     lose, gain = before - after >= least, after - before >= least
     return Sides(lose, gain, lose & (after == 0), gain & (before == 0))
 

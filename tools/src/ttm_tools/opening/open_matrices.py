@@ -34,8 +34,8 @@ def refuse_shapes(file: Any, path: str) -> None:
         if name not in file["access"] or data.attrs.get("scenario") is None:
             raise BadInput(path, f"matrix {name} names no scenario, or has no access: ttm-tools omx didn't write it")
         sums = own_data(file["access"], name, path)
-        if sums.shape != (counts[0], len(limits)) or sums.dtype.kind not in "iu":
-            raise BadInput(path, f"access of {name} isn't of {counts[0]:,} by {len(limits)} whole numbers")
+        if sums.shape != (counts[0], len(limits)) or sums.dtype.kind not in "iuf":
+            raise BadInput(path, f"access of {name} isn't of {counts[0]:,} by {len(limits)} numbers")
 
 
 def limits_of(file: Any, path: str) -> tuple[int | None, ...]:

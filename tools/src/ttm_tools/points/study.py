@@ -13,7 +13,7 @@ from typing import Callable, Iterable, Iterator, Sequence
 import numpy as np
 import numpy.typing as npt
 
-from ..faults import BadInput, quantity, some
+from ..faults import BadInput, counted, quantity, some
 from ..gtfs.stops import Stops, read_stops
 from ..files import copy_file, is_free, many_written_aside
 from ..naming import file_names
@@ -156,6 +156,10 @@ def sentences_on(options: PointsOptions, prefixes: Sequence[str], study: PointSt
     lost = [shown(study.points.identifiers[place]) for place in np.flatnonzero(~near).tolist()]
     if lost:
         yield f"{quantity(len(lost), 'point')} {UNREACHED}{', left out' if options.leaves_out else ''}: {some(lost)}"
+    sums = zip(study.points.columns, study.points.numbers[~near].sum(axis=0).tolist())
+    numbers = [counted(round(number, 6), shown(name)) for name, number in sums if round(number, 6) > 0]
+    if numbers and options.leaves_out:
+        yield f"points {UNREACHED}, which are left out, have {', '.join(numbers)}"
 
 
 def write_feed(folder: Path, feed: str, points: Points) -> None:

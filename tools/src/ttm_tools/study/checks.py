@@ -37,10 +37,10 @@ def check_points(study: Study) -> None:
         return
     names = names_of({path: points.identifiers for path, points in read.items()})
     for path in study.opportunities.files:
-        check_names(study.at(path), names, OF_STUDY)
+        check_counts(study.at(path), names, OF_STUDY)
     origins = names_of({path: read[path].identifiers for path in (*settings.files, *settings.origins)})
     if study.opportunities.people:
-        check_people(study.at(study.opportunities.people), origins, OF_ORIGINS)
+        check_counts(study.at(study.opportunities.people), origins, OF_ORIGINS)
     if study.results.maps or study.results.page:
         check_shown(study, origins, "map_origins")
 
@@ -50,12 +50,12 @@ def check_stops(study: Study, feed: str) -> None:
     stops = set(origins_of_feed(feed))
     named = study.at(study.run.origins) if study.run.origins else None
     for path in study.opportunities.files:
-        check_names(study.at(path), stops, "stop of the feed")
+        check_counts(study.at(path), stops, "stop of the feed")
     origins = stops if named is None else set(origins_in(named))
     if named is not None:
         check_origins(named, stops)
     if study.opportunities.people:
-        check_people(study.at(study.opportunities.people), origins, "origin of the study")
+        check_counts(study.at(study.opportunities.people), origins, "origin of the study")
     if study.results.maps or study.results.page:
         check_shown(study, origins, "map_origins")
 
@@ -95,14 +95,12 @@ def check_columns(study: Study, own: Sequence[str]) -> None:
             raise BadInput(study.path, message)
 
 
-def check_names(path: str, known: Collection[str], kind: str) -> None:
-    """Refuses the first record that names what isn't known, or has no number."""
-    numbers_of(path, columns_of(path), {name: place for place, name in enumerate(known)}, kind)
-
-
-def check_people(path: str, origins: Collection[str], kind: str) -> None:
-    """Refuses a file of people none of whom live at an origin, or the first record that has no number."""
-    check_names(path, [*origins, *unknown_in(path, origins)], kind)
+def check_counts(path: str, known: Collection[str], kind: str) -> None:
+    """Refuses a file of people or opportunities none of which are at a known place, or the first record that has no
+    number.
+    """
+    every = [*known, *unknown_in(path, known)]
+    numbers_of(path, columns_of(path), {name: place for place, name in enumerate(every)}, kind)
 
 
 def check_origins(path: str, stops: Collection[str]) -> None:

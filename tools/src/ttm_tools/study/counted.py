@@ -3,16 +3,15 @@ those where they begin.
 """
 
 import os
-from decimal import Decimal
 from pathlib import Path
 from typing import Collection, Sequence
 
 import numpy as np
 
-from ..faults import BadInput, quantity, some
+from ..faults import BadInput, counted, quantity, some
 from ..files import sum_of
-from ..gtfs.fields import Floats
 from ..measures.opportunities import OWN_NAME, Counts, called, columns_of, identifier_of, read_counts
+from ..measures.scaling import scale_of, times
 from ..parts import origins_in
 from ..points import read_points
 from ..points.table import plain
@@ -23,10 +22,11 @@ from .settings import Study
 
 ORIGINS, OPPORTUNITIES = "inputs/origins.csv", "inputs/opportunities.csv"
 COUNTED, PEOPLE = "inputs/counted/opportunities.csv", "inputs/people.csv"
+LEFT_OUT, LEFT_OUT_COLUMNS = "inputs/left_out.csv", ("column", "left_out")  # people at points that are left out
 OF_POINTS = "point of the study"
 NOT_COUNTED = "not counted, at"
+REACH_NOTHING = "reach nothing, at"
 SCALE = "scale"  # a column of `OPPORTUNITIES`
-MOST_COUNTED = 4_000_000_000
 
 
 def columns_or_none(path: str) -> list[str]:
@@ -72,19 +72,35 @@ def refuse_unknown(study: Study, found: Sequence[str]) -> None:
         raise BadInput(study.path, f"[opportunities] names a column {shown(lost)}; there are {there}")
 
 
-def all_points(study: Study) -> list[str]:
-    """The points of a study's files that may be left out, by their names in the feed."""
-    if not study.points.leave_out:
+def all_points(study: Study, only_begins: bool = False) -> list[str]:
+    """The points of a study's files that may be left out, by their names in the feed; or those where journeys begin."""
+    settings = study.points
+    if not settings.leave_out:
         return []
-    named = [(Path(path).stem, read_points(study.at(path)).identifiers) for path in study.points.all]
+    chosen = (*settings.files, *settings.origins) if only_begins else settings.all
+    named = [(Path(path).stem, read_points(study.at(path)).identifiers) for path in chosen]
     return [name for stem, own in named for point in own for name in (point, f"{stem}:{point}")]
+
+
+def sentences_on_unknown(whole: Counts, known: Sequence[str], unknown: dict[str, list[str]], what: str) -> list[str]:
+    """How much of what is counted is at places of some files that the study doesn't have.
+
+    The rows of `whole` are those of the known places and, behind them, of the others.
+    """
+    lost = list(dict.fromkeys(name for names in unknown.values() for name in names))
+    if not lost:
+        return []
+    files = ", ".join(Path(path).name for path, names in unknown.items() if names)
+    places = f"{quantity(len(lost), 'place')} that {'is' if len(lost) == 1 else 'are'} no {what}"
+    found = Counts(whole.names, whole.numbers[: len(known)])
+    return sentences_on_lost(whole, found, f"{files}: {NOT_COUNTED} {places} ({some([*map(shown, lost)])})")
 
 
 def sentences_on_lost(whole: Counts, chosen: Counts, what: str) -> list[str]:
     """How much of what is counted is at places that don't count."""
     lost = (whole.numbers.sum(axis=0) - chosen.numbers.sum(axis=0)).tolist()
     numbers = [
-        f"{plain(round(number, 6))} {shown(name)}" for name, number in zip(whole.names, lost) if round(number, 6) > 0
+        counted(round(number, 6), shown(name)) for name, number in zip(whole.names, lost) if round(number, 6) > 0
     ]
     return [f"{what}: {', '.join(numbers)}"] if numbers else []
 
@@ -99,10 +115,13 @@ def counts_stage(
 
     def make() -> list[str]:
         every = list(dict.fromkeys([*known, *all_points(study)]))
-        whole = read_counts(tables, every, kind, columns)
-        counts = at(every, stops, whole)
+        unknown = {path: unknown_in(path, set(every)) for path in given}
+        others = dict.fromkeys(name for names in unknown.values() for name in names)
+        whole = read_counts(tables, [*every, *others], kind, columns)
+        found, counts = Counts(whole.names, whole.numbers[: len(every)]), at([*every, *others], stops, whole)
         write_counts(study.folder / COUNTED, stops, counts)
-        lost = sentences_on_lost(whole, counts, f"{NOT_COUNTED} places where no journey ends")
+        lost = sentences_on_lost(found, counts, f"{NOT_COUNTED} places where no journey ends")
+        lost += sentences_on_unknown(whole, every, unknown, kind)
         return [f"{COUNTED}: {', '.join(map(shown, counts.names))} at {quantity(len(stops), 'place')}", *lost]
 
     facts = {"stops": stops_sum, "columns": columns, "ends": stops, "own": own}
@@ -110,7 +129,7 @@ def counts_stage(
 
 
 def unknown_in(path: str, known: Collection[str]) -> list[str]:
-    """Returns the places that a file of people names and that are not known.
+    """Returns the places that a file of people or opportunities names and that are not known.
 
     Returns none of them if the file names no other, since then it is a file for another study: `read_counts` refuses
     its first record.
@@ -122,45 +141,33 @@ def unknown_in(path: str, known: Collection[str]) -> list[str]:
 
 def people_stage(study: Study, origins: Record, path: str) -> Stage:
     """How many people live at each origin; those who live elsewhere are reported, and not counted."""
-    groups = study.opportunities.groups
+    groups, kind, leaves_out = study.opportunities.groups, "origin of the study", study.points.leave_out
 
     def make() -> list[str]:
         names = origins_in(str(study.folder / ORIGINS))
-        known = list(dict.fromkeys([*names, *all_points(study)]))
+        known = list(dict.fromkeys([*names, *all_points(study, only_begins=True)]))
         unknown = unknown_in(path, set(known))
-        whole = read_counts([path], [*known, *unknown], "origin of the study", groups)
-        found, counts = at([*known, *unknown], known, whole), at([*known, *unknown], names, whole)
+        whole = read_counts([path], [*known, *unknown], kind, groups)
+        counts = at([*known, *unknown], names, whole)
         write_counts(study.folder / PEOPLE, names, counts)
-        lost = sentences_on_lost(found, counts, f"{NOT_COUNTED} points that are left out")
-        if unknown:
-            places = f"{quantity(len(unknown), 'place')} that {'is' if len(unknown) == 1 else 'are'} no origin"
-            which = f"{places} of the study ({some([*map(shown, unknown)])})"
-            lost += sentences_on_lost(whole, found, f"{Path(path).name}: {NOT_COUNTED} {which}")
+        found = Counts(whole.names, whole.numbers[: len(known)])
+        lost = sentences_on_lost(found, counts, f"{REACH_NOTHING} points that are left out")
+        if leaves_out:
+            numbers = (found.numbers.sum(axis=0) - counts.numbers.sum(axis=0)).round(6).tolist()
+            with open(study.folder / LEFT_OUT, "wb") as file:
+                write_rows(file, LEFT_OUT_COLUMNS, zip(counts.names, map(plain, numbers)))
+        lost += sentences_on_unknown(whole, known, {path: unknown}, kind)
         return [f"{PEOPLE}: {', '.join(map(shown, counts.names))} at {quantity(len(names), 'origin')}", *lost]
 
     facts = {"origins": origins.outputs, "groups": groups}
-    return Sources(study.at, [study.opportunities.people]).stage("people", facts, [PEOPLE], make)
+    outputs = [PEOPLE, LEFT_OUT] if leaves_out else [PEOPLE]
+    return Sources(study.at, [study.opportunities.people]).stage("people", facts, outputs, make)
 
 
 def write_counts(path: Path, stops: Sequence[str], counts: Counts) -> None:
     lines = ([stop, *map(plain, numbers)] for stop, numbers in zip(stops, counts.numbers.tolist()))
     with open(path, "wb") as file:
         write_rows(file, ["stop_id", *counts.names], lines)
-
-
-def scale_of(numbers: Floats) -> int:
-    """The power of ten that makes numbers whole, as far as `ttm` counts: their sum stays below `MOST_COUNTED`."""
-    scale = 1
-    while np.abs(numbers * scale - np.rint(numbers * scale)).max(initial=0) > 1e-6 * scale:
-        if numbers.sum() * scale * 10 > MOST_COUNTED:
-            break
-        scale *= 10
-    return scale
-
-
-def times(number: str, scale: int) -> str:
-    """A number times a scale, without errors of floating point."""
-    return str(Decimal(number) * scale)
 
 
 def scale_in(path: str) -> int:
@@ -189,8 +196,10 @@ def opportunities_stage(study: Path, counted: Record, column: str) -> Stage:
             write_rows(file, ["stop_id", OWN_NAME, *([SCALE] if more else [])], rows)
         total = sum(counts.values()) / scale
         scaled = f", times {scale:,} for ttm; access is divided by that" if scale > 1 else ""
-        lost = float(numbers.sum()) - total
-        whole = f"; rounded, {plain(round(total, 6))} of {plain(round(total + lost, 6))}" if abs(lost) > 1e-6 else ""
+        own = np.array([counts.get(stop, 0) / scale for _, (stop, _) in stated])
+        apart, given = float(np.abs(own - numbers).sum()), plain(round(float(numbers.sum()), 6))
+        by = f"; rounded, {plain(round(total, 6))} of {given}, and no sum differs by more than {apart:.6g}"
+        whole = by if apart > 1e-6 else ""
         return [f"{OPPORTUNITIES}: {shown(column)} at {quantity(len(rows), 'place')}{scaled}{whole}"]
 
     facts = {"column": column, "counted": counted.outputs}

@@ -12,6 +12,7 @@ from ..files import output, remove
 from ..matrices import Matrix, Seconds, Share, Sums, write_open_matrix
 from ..matrices.chosen import Chosen
 from ..matrices.csv_matrix import CsvMatrix
+from ..measures.scaling import unscaled
 from ..parts import PartMatrix, write_whole
 from ..threads import in_order
 from .cutting import Part
@@ -26,12 +27,6 @@ class ShownMatrix:
     shown_as: Mapping[str, str]  # the scenarios by the names that the study gives them
     columns: Sequence[str]  # the only columns, if there are any
     scale: int = 1  # by what sums of access are divided
-
-
-def unscaled(sums: Sums, scale: int) -> Sums:
-    """Sums of counts that were multiplied, divided again and rounded to whole numbers."""
-    found: Sums = sums if scale == 1 else np.rint(sums / scale).astype(sums.dtype)
-    return found
 
 
 class Joined(Matrix):

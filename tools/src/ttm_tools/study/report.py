@@ -9,8 +9,8 @@ from typing import Iterator, Sequence
 from ..measures.access_table import read_access
 from ..points.grid import OUTSIDE
 from ..points.study import UNREACHED
-from ..records import records as records_in, shown
-from .counted import NOT_COUNTED
+from ..records import number_of, records as records_in, shown
+from .counted import NOT_COUNTED, REACH_NOTHING
 from .document import Document
 from .maps import AREAS, maps_of
 from .outside import sentence_on_outside
@@ -23,7 +23,7 @@ from .settings import Study
 MARKDOWN, HTML, TOLD = "report.md", "report.html", "inputs/told.txt"
 FEW = 10  # origins that lose, and that gain most, which the report names
 MOST_DECIMALS = 6
-MISSED = (OUTSIDE, UNREACHED, NOT_COUNTED)  # signs of people, jobs or points that the figures miss
+MISSED = (OUTSIDE, UNREACHED, NOT_COUNTED, REACH_NOTHING)  # signs of people, jobs or points that the figures miss
 OF_PEOPLE = {
     "equity": "Access by groups of people",
     "bands": "People by number of opportunities",
@@ -150,11 +150,14 @@ def means(whole: StudyMatrix) -> Iterator[list[str]]:
 
 
 def texts_apart(numbers: Sequence[float]) -> list[str]:
-    """Numbers with one decimal, or with as many as show in which of them there is a change."""
+    """Numbers with one decimal, or with as many as show in which of them there is a change, and which are not 0."""
     different = len({round(float(number), MOST_DECIMALS) for number in numbers})
     for decimals in range(1, MOST_DECIMALS + 1):
         texts = [f"{number:,.{decimals}f}" for number in numbers]
-        if len(set(texts)) == different:
+        are_shown = all(
+            text.strip("-0.") or not round(float(number), MOST_DECIMALS) for text, number in zip(texts, numbers)
+        )
+        if len(set(texts)) == different and are_shown:
             return texts
     return texts
 
@@ -172,15 +175,10 @@ def write_changes(document: Document, whole: StudyMatrix, path: str) -> None:
     chosen = f"; {' and '.join(several)} of [results] choose{'s' * (len(several) == 1)}" if several else ""
     _, header = next(records_in(whole.at(path)))
     place = header.index("change")
-    for what, sign in (("loses", "-"), ("gains", "")):
-        wanted = (fields for _, fields in records_in(whole.at(path)) if is_change(fields[place], sign))
+    for what, sign in (("loses", -1), ("gains", 1)):
+        wanted = (fields for _, fields in records_in(whole.at(path)) if sign * number_of(fields[place]) > 0)
         found = list(itertools.islice(wanted, FEW))
         if found:
             rows = [list(map(shown, fields)) for fields in found]
             caption = f"Who {what} most {of} ({path} has all{chosen})"
             document.table(caption, list(map(as_phrase, header)), rows)
-
-
-def is_change(text: str, sign: str) -> bool:
-    """Whether a text is a number of a sign, and not 0."""
-    return text.removeprefix(sign).isdecimal() and text != "0" and text.startswith(sign)

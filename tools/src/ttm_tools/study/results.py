@@ -10,11 +10,10 @@ from ..gtfs.fields import Floats
 from ..gtfs.stops import Stops
 from ..files import many_written_aside, output
 from ..picture_files import write_picture
-from ..faults import quantity
-from ..matrices import Matrix, Pair, capped, open_matrix, pair_of
+from ..matrices import Matrix, capped, open_matrix, pair_of
 from ..measures.access import Decay, access, nearest
 from ..measures.access_table import AccessTable, AccessKind, read_access
-from ..measures.comparison import compare, sides_of
+from ..measures.comparison import compare
 from ..measures.opportunities import Counts, columns_of, read_counts
 from ..naming import file_names
 from ..points.shown import shown_of
@@ -33,7 +32,6 @@ ACCESS_TABLE = "access.csv"
 Records = dict[str, Record]
 PAIRS = "_pairs"  # behind a scenario's name, the file of its pairs
 STOPS, POINTS = "stops", "points"  # what is counted where nothing else is named
-LEAST_CHANGE = 5e-7  # a change of access below it is none: tables have six decimals
 LOSE = 10.0  # percent of the base's access, from which on somebody counts as a loser
 
 
@@ -240,22 +238,7 @@ def compare_stage(whole: StudyMatrix, scenario: str, name: str) -> Stage:
         if settings.pairs:
             with output(whole.at(by_pair)) as file:
                 write_pairs(file, pair, comparison.changes, stops)
-        return [*summary(pair, comparison, settings.differs, place), *sentences_with_decimals(whole, pair)]
+        return summary(pair, comparison, settings.differs, place)
 
     depends = {**whole.depends, "scenario": scenario, "words": [settings.differs, settings.pairs]}
     return Stage(f"compare_{name}", depends, [by_origin, *([by_pair] if settings.pairs else [])], make)
-
-
-def sentences_with_decimals(whole: StudyMatrix, pair: Pair) -> list[str]:
-    """Who loses and who gains by sums with decimals, which the matrix has in whole numbers."""
-    if whole.inputs.scale == 1:
-        return []
-    column = whole.study.opportunities.column or columns_of(whole.at(COUNTED))[0]
-    numbers = whole.counts(pair.matrix).named(column)[:, None]
-    measure = functools.partial(access, pair.matrix, numbers=numbers, decay=Decay("step"))
-    before, after = (
-        measure(name, pair.share, cutoffs=[whole.study.within / 60])[:, 0, 0] for name in (pair.base, pair.other)
-    )
-    before, after = before[pair.before], after[pair.after]
-    of = f"of {quantity(len(before), 'origin')} {sides_of(before, after, LEAST_CHANGE).sentence()}"
-    return [f"that access is in whole numbers; with decimals {of}; in all {decimal((after - before).sum())}"]

@@ -14,12 +14,13 @@ from ..faults import BadInput, quantity, say, some
 from ..files import sum_of
 from ..matrices import Matrix, open_matrix
 from ..matrices.csv_matrix import CsvMatrix
+from ..measures.scaling import unscaled
 from ..opening.paths import as_one_line
 from ..parts import origins_in, parts_of, write_stops
 from ..records import shown
 from .cutting import PARTS
 from .counted import scale_in
-from .joining import CSV, MATRIX, unscaled
+from .joining import CSV, MATRIX
 from .notes import NOTES, read_notes
 from .stages import LOCK, RECORDS, Folder, held, room
 from .ttm import found_program, version_of

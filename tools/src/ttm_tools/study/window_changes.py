@@ -12,9 +12,8 @@ from ..measures.comparison import Sides, sides_of
 from ..measures.equity import mean
 from ..measures.opportunities import Counts
 from ..records import write_rows
+from ..views.equity import significant
 from .settings import DayWindow
-
-LEAST = 5e-7  # a change of access below it is none: tables have six decimals
 
 
 @dataclass(frozen=True)
@@ -42,13 +41,13 @@ def changes_of(tables: Mapping[DayWindow, AccessTable], base: str, people: Count
             for number, kind in enumerate(table.kinds if scenario != base else ()):
                 first, second = before[number], table.numbers[table.scenario(scenario), number]
                 means = np.array([mean(second - first, group) for group in people.numbers.T])
-                yield WindowChange(question, scenario, kind, sides_of(first, second, LEAST), means)
+                yield WindowChange(question, scenario, kind, sides_of(first, second), means)
 
 
 def write_changes(out: BinaryIO, changes: Sequence[WindowChange], groups: Sequence[str]) -> None:
     """A line for each window, scenario, kind of access and group of people."""
     lines = (
-        [*change.question.head, change.scenario, *fields_of(change.kind), *change.counts, group, f"{number:.4f}"]
+        [*change.question.head, change.scenario, *fields_of(change.kind), *change.counts, group, significant(number)]
         for change in changes
         for group, number in zip(groups, change.means.tolist())
     )

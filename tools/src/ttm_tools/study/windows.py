@@ -20,6 +20,7 @@ from .settings import DayWindow, Study
 
 WINDOWS = "windows"  # their folder
 FORM = 1  # of how the parts are joined: the rows are ttm's, so other tools don't change them
+SCALED_FORM = 2  # where sums are divided by a scale
 Runner = Callable[[Run, Sequence[Part], Shape], list[Failed]]
 
 
@@ -85,7 +86,11 @@ def matrix_stage(
         shown = ShownMatrix(inputs.shown_as, inputs.destinations, inputs.scale)
         return join_parts(parts, with_csv, shown, means.threads, inputs.at(path))
 
-    depends = {"study": key, "origins": inputs.outputs_of("origins"), "form": FORM}
+    depends = {
+        "study": key,
+        "origins": inputs.outputs_of("origins"),
+        "form": FORM if inputs.scale == 1 else SCALED_FORM,
+    }
     depends |= {"shown": inputs.destinations, "shown_as": inputs.shown_as}
     depends |= {} if question else {"csv": with_csv}
     name, outputs = f"matrix_{question.name}" if question else "matrix", [path, *([CSV] if with_csv else [])]

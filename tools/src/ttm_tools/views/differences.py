@@ -10,8 +10,18 @@ from ..faults import quantity
 from ..column_list import compared
 from ..gtfs.stops import Stops
 from ..matrices import Pair, Sums
-from ..measures.comparison import KINDS, Changes, Comparison, order_of, order_of_origins, sides_of, sorted_origins
+from ..measures.comparison import (
+    KINDS,
+    Changes,
+    Comparison,
+    least_change,
+    order_of,
+    order_of_origins,
+    sides_of,
+    sorted_origins,
+)
 from ..records import Numerals, Texts, field, fields_as_texts, joined, shown, texts_of, write_rows
+from .access import decimal
 
 LINES_AT_ONCE = 200_000
 
@@ -34,7 +44,7 @@ class OriginChoice:
     sort: str | None = None  # losers first, and then winners, each by the size of the change
     top: int | None = None  # maximum number of lines
     listed: str = BOTH
-    least: int = 1  # by which access differs
+    least: float | None = None  # by which access differs; without it, however little
 
 
 ALL = OriginChoice()
@@ -58,11 +68,11 @@ def write_pairs(out: BinaryIO, pair: Pair, changes: Changes, stops: Stops | None
 
 def chosen_origins(first: Sums, second: Sums, counts: npt.NDArray[np.int64], choice: OriginChoice) -> list[int]:
     """The origins that are listed, by a pair that differs, by their access, or by either, in their order."""
-    change = second - first
+    change, least = second - first, least_change(first, second) if choice.least is None else choice.least
     order = order_of_origins(change, counts)
     if choice.sort is not None:
         order = sorted_origins(first, second, choice.sort)
-    of_times, of_access = counts.any(axis=1), np.abs(change) >= choice.least
+    of_times, of_access = counts.any(axis=1), np.abs(change) >= least
     wanted = {BOTH: of_times | of_access, OF_TIMES: of_times, OF_ACCESS: of_access}[choice.listed]
     origins: list[int] = order[wanted[order]][: choice.top].tolist()
     return origins
@@ -72,14 +82,14 @@ def write_origins(
     out: BinaryIO, pair: Pair, place: int, comparison: Comparison, stops: Stops | None, choice: OriginChoice = ALL
 ) -> None:
     """A line for each origin with a pair that differs or with other access, losers first."""
-    first, second = pair.access(place)
-    change, counts = second - first, comparison.counts
+    (first, second), counts = pair.access(place), comparison.counts
     names = stops.of(pair.origins).names if stops is not None else None
     lines = []
     for row in chosen_origins(first, second, counts, choice):
-        percent = round(100 * int(change[row]) / int(first[row]), 1) if first[row] > 0 else ""
-        name = [names[row]] if names else []
-        lines.append([pair.origins[row], *name, first[row], second[row], change[row], percent, *counts[row]])
+        before, after = first[row].item(), second[row].item()
+        percent = round(100 * (after - before) / before, 1) if before > 0 else ""
+        name, access = [names[row]] if names else [], map(decimal, (before, after, after - before))
+        lines.append([pair.origins[row], *name, *access, percent, *counts[row]])
     write_rows(out, compared(by_pair=False, has_names=names is not None), lines)
 
 
@@ -90,7 +100,15 @@ def access_stated(pair: Pair, place: int) -> str:
     return f"access{within}{f', percentile {share}' if share is not None else ''}"
 
 
-def summary(pair: Pair, comparison: Comparison, limit: float, place: int | None, least: int = 1) -> list[str]:
+def signed(number: float) -> str:
+    """A sum with its sign and at most six decimals: `+1,200`, `-0.45`."""
+    text = f"{number:+,.6f}"
+    return text.rstrip("0").rstrip(".")
+
+
+def summary(
+    pair: Pair, comparison: Comparison, limit: float, place: int | None, least: float | None = None
+) -> list[str]:
     """A line on all pairs, and one on access where the table is that of origins; both say by how much they differ."""
     pairs = len(pair.origins) * len(pair.matrix.stops)
     totals = comparison.counts.sum(axis=0)
@@ -102,7 +120,7 @@ def summary(pair: Pair, comparison: Comparison, limit: float, place: int | None,
     if place is not None:
         first, second = pair.access(place)
         change = second - first
-        sides, by_how_much = sides_of(first, second, least).sentence(), f" (by {least:,} or more)" if least > 1 else ""
-        of = f"of {quantity(len(change), 'origin')} {sides}{by_how_much}; in all {int(change.sum()):+,}"
+        sides, by_how_much = sides_of(first, second, least).sentence(), f" (by {least:,} or more)" if least else ""
+        of = f"of {quantity(len(change), 'origin')} {sides}{by_how_much}; in all {signed(change.sum())}"
         sentences.append(f"{access_stated(pair, place)}: {of}")
     return sentences

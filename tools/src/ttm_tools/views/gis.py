@@ -39,7 +39,7 @@ class Features:
     def properties(self, place: int) -> dict[str, Any]:
         numbers = {name: column[place] for name, column in self.columns.items()}
         named = {"stop_id": shown(self.stops.identifiers[place]), "stop_name": self.stops.names[place]}
-        return named | {name: None if math.isnan(number) else int(number) for name, number in numbers.items()}
+        return named | {name: None if math.isnan(number) else whole(float(number)) for name, number in numbers.items()}
 
 
 def named(scenario: str, share: Share, what: str) -> str:
@@ -93,6 +93,11 @@ def with_nearest(
             column = placed(found[rows, kind, place], places, len(features.stops.identifiers))
             columns[named(scenario, share, f"{shown(what)}_nearest_{decimal(count)}")] = column
     return Features(features.stops, columns)
+
+
+def whole(number: float) -> float:
+    """A number without needless decimals."""
+    return int(number) if number.is_integer() else number
 
 
 def write_geojson(out: BinaryIO, features: Features) -> None:

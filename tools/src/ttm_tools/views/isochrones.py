@@ -24,7 +24,7 @@ from ..records import shown
 from ..walks import Pace
 from ..walks.osm import read_streets
 from ..walks.reach import GrowingStrip, Reach, reach_of
-from .gis import write_features, write_layer
+from .gis import whole, write_features, write_layer
 
 LAYER = "isochrones"
 QUARTER = 12  # corners of a quarter of a circle
@@ -205,11 +205,6 @@ def properties_of(isochrone: Isochrone, origin: str) -> dict[str, Any]:
         known["percentile"] = isochrone.share
     known |= {"minutes": whole(isochrone.minutes), "square_km": round(isochrone.area, 4), "reached": isochrone.reached}
     return known | {shown(name): whole(number) for name, number in isochrone.counts.items()}
-
-
-def whole(number: float) -> float:
-    """A number without needless decimals."""
-    return int(number) if number.is_integer() else number
 
 
 def widest_first(isochrones: Sequence[Isochrone]) -> list[Isochrone]:

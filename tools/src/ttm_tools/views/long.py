@@ -15,6 +15,7 @@ from ..gtfs.stops import Stops
 from ..files import written_aside
 from ..matrices import Matrix, Seconds, Share, lacking
 from ..records import Numerals, Texts, field, fields_as_texts, joined, shown, texts_of, with_gaps
+from .access import decimal
 
 CELLS_AT_ONCE = 1_000_000
 MEDIAN = 50  # percent
@@ -173,7 +174,7 @@ def write_access(out: BinaryIO, matrix: Matrix, choice: TableChoice, within: int
             for share, access in zip(choice.shares, sums):
                 for place in places:
                     limit = [matrix.layout.limits[place]] * named
-                    line = [scenario, *[share] * named, names[row], *limit, access[row][place]]
+                    line = [scenario, *[share] * named, names[row], *limit, decimal(access[row][place])]
                     out.write(b",".join(map(field, line)) + ends[row] + b"\n")
 
 

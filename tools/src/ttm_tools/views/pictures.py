@@ -12,10 +12,10 @@ from typing import Any, Sequence
 import numpy as np
 import numpy.typing as npt
 
-from ..faults import counted
+from ..faults import counted, grouped
 from ..gtfs.fields import Floats
 from ..gtfs.stops import Stops
-from ..matrices import Matrix, Pair, Share, pair_of
+from ..matrices import Matrix, Pair, Share, Sums, pair_of
 from ..measures.comparison import sides_of
 from ..records import shown
 
@@ -23,6 +23,7 @@ MINUTES = (10.0, 20.0, 30.0, 45.0, 60.0, 90.0)
 MINUTES_OF_DIFFERENCE = (1.0, 5.0, 15.0)
 PERCENT = (1.0, 5.0, 10.0, 25.0)
 KEY_OF_TIMES, KEY_OF_CHANGES = "Travel time in minutes,\nwaiting included", "Change of travel time"
+DECIMALS = 6  # of sums
 MOST_WORST = 40  # stops that lose most, from which names are taken
 Classes = npt.NDArray[np.intp]
 Times = npt.NDArray[Any]  # seconds, NaN where there is none
@@ -133,6 +134,19 @@ def round_breaks(least: int, most: int) -> tuple[float, ...]:
     return tuple(range((least // step + 1) * step, max(most, least + step), step)) or (most + 1,)
 
 
+def breaks_of(sums: Sums) -> tuple[float, ...]:
+    """Round numbers that part sums in some classes; with decimals if the sums have some and are small."""
+    least, most = sums.min().item(), sums.max().item()
+    parts = 1 if is_whole(sums) or not most else 10 ** max(0, 2 - math.floor(math.log10(most)))
+    breaks = round_breaks(math.floor(least * parts), math.ceil(most * parts))
+    return tuple(number / parts if number % parts else number // parts for number in breaks)
+
+
+def is_whole(sums: Sums) -> bool:
+    """Whether sums are of whole numbers."""
+    return sums.dtype.kind != "f"
+
+
 def of_all(picture: Picture, matrix: Matrix, origins: Sequence[str], options: PictureOptions) -> Picture:
     """A picture of origins with all stops that are drawn, which have a mark of their own where they are no origins."""
     drawn = matrix.stops_and_origins()
@@ -151,11 +165,11 @@ def with_names(picture: Picture, ordered: Sequence[str], stops: Stops) -> Pictur
     return replace(picture, named=tuple(named.values()))
 
 
-def labels_of_counts(breaks: Sequence[float]) -> list[str]:
-    """What the classes of whole numbers are called: `1`, or `10 to 19`; those of other breaks name both."""
+def labels_of_counts(breaks: Sequence[float], are_whole: bool = True) -> list[str]:
+    """What the classes of whole numbers are called: `1`, or `10 to 19`; those of other numbers or breaks name both."""
     between = list[str]()
     for low, high in zip(breaks, breaks[1:]):
-        last = high - 1 if isinstance(low, int) and isinstance(high, int) else high
+        last = high - 1 if are_whole and isinstance(low, int) and isinstance(high, int) else high
         between.append(f"{low:,}" if last == low else f"{low:,} to {last:,}")
     return [f"less than {breaks[0]:,}", *between, f"{breaks[-1]:,} and more"]
 
@@ -165,13 +179,14 @@ def picture_of_access(matrix: Matrix, stops: Stops, options: PictureOptions) -> 
     place, limit = matrix.limit(options.within)
     scenario, share = matrix.scenario(options.scenario or options.base), matrix.share(options.share)
     access = matrix.access(scenario, share)[:, place]
-    breaks = options.breaks or round_breaks(int(access.min()), int(access.max()))
-    labels = labels_of_counts(breaks)
+    breaks = options.breaks or breaks_of(access)
+    labels = labels_of_counts(breaks, is_whole(access))
     marks = [*map(Mark, labels, reversed(shades(len(labels))))]
     classes = np.searchsorted(np.array(breaks), access, side="right")
-    half, most = math.floor(float(np.median(access))), int(access.max())
+    middle, most = float(np.median(access)), access.max().item()
+    half = math.floor(middle) if is_whole(access) else round(middle, DECIMALS)
     origins, within_reach = counted(len(access), options.what), counted(half, options.unit)
-    subtitle = f"Half of {origins} reach at least {within_reach}; the most is {most:,}"
+    subtitle = f"Half of {origins} reach at least {within_reach}; the most is {grouped(most)}"
     title = f"Access from each {options.what[:-1]}: {options.unit}{within_stated(limit)}"
     key = f"{options.unit.capitalize()} reached{within_stated(limit)}".replace(" within", "\nwithin")
     source = source_of(shown(scenario), share, matrix)
@@ -255,7 +270,7 @@ def picture_of_access_difference(matrix: Matrix, stops: Stops, options: PictureO
     order = np.argsort(percent, kind="stable")[:MOST_WORST]
     worst = [pair.origins[row] for row in order[percent[order] <= -breaks[0]].tolist()]
     if worst:
-        most, lost = -percent[order[0]], int(first[order[0]] - second[order[0]])
+        most, lost = -percent[order[0]], round((first[order[0]] - second[order[0]]).item(), DECIMALS)
         subtitle += f"; the greatest loss: {most:.0f} % ({counted(lost, options.unit)}) at {stops.name_of(worst[0])}"
     title = f"Access from each {options.what[:-1]}: {options.unit}{within_stated(limit)}, {beside(pair)}"
     key = f"Change of access:\n{options.unit}{within_stated(limit)}"

@@ -6,6 +6,7 @@ from typing import Any, BinaryIO, Iterator, Mapping, Sequence
 import numpy as np
 
 from ..column_list import SERVICE, SERVICE_OF_STOPS, names_of
+from ..faults import quantity
 from ..gtfs.stops import in_folder
 from ..measures.columns import header
 from ..measures.service import Period, ServiceRuns, Service, departures_by_stop, headway_stops, service_of
@@ -142,7 +143,19 @@ def costs_stated(day: Day) -> list[str]:
         pairs = zip(numbers_of(first), numbers_of(service))
         parts = [f"{what} {before} to {after}" for (what, before), (_, after) in pairs]
         lines.append(f"{shown(name)} compared with {shown(base)}: {', '.join(parts)}")
-    return lines
+    return [*lines, *sentences_on_unplaced(day)]
+
+
+def sentences_on_unplaced(day: Day) -> list[str]:
+    """At how many stops without coordinates vehicles call, since lengths are those between the other stops."""
+    stops = day.timetable.all_stops.of(day.timetable.stops)
+    called = np.unique(np.concatenate([runs.trip for runs in day.running.values()]))
+    events = day.timetable.events
+    counts = np.diff(events.begins)
+    runs = np.isin(np.repeat(np.arange(len(counts)), counts), called)
+    lost = int((~stops.placed[np.unique(events.stop[runs])]).sum())
+    what = "kilometres and speeds are those of straight lines between the others"
+    return [f"vehicles call at {quantity(lost, 'stop')} without coordinates: {what}"] if lost else []
 
 
 def numbers_of(service: Service) -> Sequence[tuple[str, str]]:

@@ -124,11 +124,14 @@ function accessClasses(least, most, whole) {
   return { marks, classOf: (number) => grade(breaks, number) };
 }
 
+/** A change of access below it is an error of floating point. */
+const LEAST_CHANGE = 5e-7;
+
 /** On which side an origin is by its access before and after: it loses some or gains some, however little; it is cut off
     where it had some and has none now, and newly reached where it had none. */
 function sideOf(before, after) {
-  return { lose: after < before, gain: after > before, cut: after < before && after === 0,
-    joined: after > before && before === 0 };
+  const lose = before - after >= LEAST_CHANGE, gain = after - before >= LEAST_CHANGE;
+  return { lose, gain, cut: lose && after === 0, joined: gain && before === 0 };
 }
 
 /** How many origins are on which side, as maps and tables tell it. */
