@@ -9,7 +9,7 @@ if TYPE_CHECKING:
     from .faults import BadInput, WrongWords
     from .network import Network
 
-__version__ = "0.1.0"
+__version__ = "2.1.0"
 HOMES = {"BadInput": ".faults", "WrongWords": ".faults", "Network": ".network"}  # else .engine
 __all__ = ["BadInput", "EngineFault", "Network", "Result", "Run", "WrongWords", "matrix"]
 

@@ -23,7 +23,10 @@ from .measures.scaling import scale_of, times, unscaled
 from .records import Rounded, number_of, write_rows
 
 FAULT = re.compile(r"ttm: (?:(?P<file>.+?): )?(?:record (?P<record>[0-9]+): )?(?P<what>[^:]*)")
-INSTALLED = Path(sysconfig.get_path("scripts")) / "ttm"  # where pip puts the wheel's
+PACKAGES = Path(__file__).resolve().parents[1]
+IS_OF_USER = PACKAGES == Path(sysconfig.get_path("purelib", "posix_user")).resolve()  # by pip install --user
+SCHEME = "posix_user" if IS_OF_USER else sysconfig.get_default_scheme()
+INSTALLED = Path(sysconfig.get_path("scripts", SCHEME)) / "ttm"  # where pip puts the wheel's
 # what explains a refusal: a column or an option, its value, and what is allowed
 EXPLAINED = re.compile(
     r'ttm: (?:column (?P<column>\S+)|(?P<option>--[a-z]+)) is "(?P<value>.*)"; (?P<allowed>.*)', re.DOTALL

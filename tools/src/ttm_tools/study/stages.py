@@ -16,6 +16,7 @@ from typing import Any, Callable, Iterator, Sequence
 from .. import __version__
 from ..faults import BadInput, say
 from ..files import all_in, outputs_noted, remove, sum_of, written_aside
+from ..shipped import DATA
 
 RECORDS = "stages"
 LOCK, MARK = ".lock", "a folder of ttm-tools study\n"
@@ -59,8 +60,9 @@ def key_of(facts: Any) -> str:
 
 @cache
 def sum_of_tools() -> str:
-    """The sum of the tools themselves, by their version and their files."""
-    files = sorted(path for path in PACKAGE.rglob("*") if path.is_file() and "__pycache__" not in path.parts)
+    """The sum of the tools themselves, by their version and their files; of a wheel without what else it has."""
+    found = (path for path in PACKAGE.rglob("*") if path.is_file() and "__pycache__" not in path.parts)
+    files = sorted(path for path in found if DATA not in path.parents)
     return key_of([__version__, [[str(path.relative_to(PACKAGE)), sum_of(path)] for path in files]])
 
 

@@ -10,7 +10,8 @@ from ..files import remove, sum_of
 from ..locks import is_locked, lock_file
 from ..matrices import BASE, TODAY, open_matrix
 from ..naming import sentences_on_names
-from ..views.page.document import LEAFLET, leaflet_files
+from ..shipped import LEAFLET
+from ..views.page.document import leaflet_files
 from .checks import check_shown
 from .cutting import FIRST, PARTS, remove_others, remove_parts, shape_noted, study_key, trial
 from .elsewhere import Means

@@ -17,6 +17,7 @@ import numpy as np
 from ...faults import Lacking
 from ...matrices import Share
 from ...records import shown
+from ...shipped import LEAFLET
 from .content import Content
 from .lines import Lines
 from .parts import Element, blocks_of, part, rows_in_block
@@ -24,7 +25,6 @@ from .places import degrees_of, rings_of
 from .streets import ASIDE, PageStreets
 
 ASSETS = Path(__file__).resolve().parent / "assets"
-LEAFLET = "/usr/share/javascript/leaflet"
 NAMES = "data cells classes areas stamps layer figures panel nearest reached streets bands search main"
 SCRIPTS = tuple(f"{name}.js" for name in NAMES.split())
 STYLES = ("page.css",)

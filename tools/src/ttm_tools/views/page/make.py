@@ -10,10 +10,11 @@ from ...gtfs.stops import read_list
 from ...matrices import Matrix, Share
 from ...points.shown import points_in, shown_of
 from ...records import shown
+from ...shipped import LEAFLET
 from ...walks import NEAR, Pace
 from . import sources
 from .content import MOST_CELLS, Content, Ground, PageOptions, content_of, origins_of
-from .document import LEAFLET, Frame, write_page
+from .document import Frame, write_page
 from .lines import Lines, page_lines, scenario_files
 from .streets import MOST_NODES, page_streets
 

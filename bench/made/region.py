@@ -4,8 +4,8 @@ import math
 import random
 from typing import Sequence
 
-from made_lines import Headways, Line, Size, draw_headways, draw_lines
-from made_streets import SPACING, Cell, Streets, draw_streets
+from made.lines import Headways, Line, Size, draw_headways, draw_lines
+from made.streets import SPACING, Cell, Streets, draw_streets
 
 TOWNS = [  # the cell of each town's centre, and its size
     ((0, 0), Size(nodes=420, bus_lines=34, length=16, rail_lines=0, origins=0)),

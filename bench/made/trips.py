@@ -5,8 +5,8 @@ import random
 from dataclasses import dataclass
 from typing import Iterable, Iterator, Sequence, TextIO
 
-from made_lines import PEAKS, Line
-from made_streets import SPACING, Stops, Streets
+from made.lines import PEAKS, Line
+from made.streets import SPACING, Stops, Streets
 from shared import clock
 
 FIRST = 5 * 3600 + 1800  # first departures at 05:30

@@ -5,7 +5,7 @@ import random
 from dataclasses import dataclass
 from typing import Sequence
 
-from made_streets import Cell, Streets
+from made.streets import Cell, Streets
 
 
 PEAKS = ((7, 9.5), (16, 18.5))  # hours
