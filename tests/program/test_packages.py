@@ -97,7 +97,6 @@ def test_all_have_one_version(of: Packages) -> None:
     assert of.tar.name.split("-")[1] == of.wheel.name.split("-")[1] == version
 
 
-@pytest.mark.xfail(strict=True, reason="the program's version follows when the crate command_line is proved anew")
 def test_program_has_the_version() -> None:
     """the program has the version of the changelog"""
     version = VERSION.search((ROOT / "crates/command_line/src/version.rt").read_text())

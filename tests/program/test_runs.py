@@ -84,7 +84,7 @@ def test_help_is_a_success_on_the_standard_output_alone(program: str) -> None:
 
 
 def test_the_version_is_told_alone(program: str) -> None:
-    assert left_by(program, ["--version"]) == ("ttm 2.0.0\n", "", 0)
+    assert left_by(program, ["--version"]) == ("ttm 2.1.0\n", "", 0)
 
 
 def test_readme_lists_a_toolchain_of_the_logic_at_hand() -> None:
