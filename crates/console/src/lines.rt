@@ -1,6 +1,6 @@
 //! Lines: each begins with the program's name and ends with a line end.
 
-ghost use Rattle.std.specs.Prelude.{◌≡◌, ◌<◌, IfOk, string_bytes};
+ghost use Rattle.std.specs.Prelude.{◌≡◌, ◌<◌, IfOk, OnErr, OnOk, string_bytes};
 ghost use Rattle.console.specs.Lines as spec;
 
 use crate::machine::Console;
@@ -9,26 +9,59 @@ use std::alloc::{AllocError, Global};
 /// The most bytes of a name or a value that are shown.
 pub(crate) const MOST_SHOWN: usize = 60;
 
-/// Tells a line, if there was memory for it.
-pub fn tell_line<C: Console>(console: &C, line: Result<String, AllocError>) {
-    if let Ok(line) = line {
-        console.tell(line.as_bytes());
-    }
+/// The most bytes of a shown name are as stated.
+pub fn shown_limit_is_as_stated()
+    ensures { MOST_SHOWN ≡ 60 }
+{}
+
+/// Prints a line. The error is that there was no memory for it.
+pub fn tell_line<C: Console>(
+    console: &C,
+    line: Result<String, AllocError>,
+) -> Result<(), AllocError>
+    ensures printed { IfOk line (λ text. C.told console.now (string_bytes text)) }
+    ensures error { OnErr result (IfOk line (λ _. ⊥)) }
+{
+    console.tell(line?.as_bytes());
+    Ok(())
 }
 
-/// Tells a number under its name.
-pub fn tell_count<C: Console>(console: &C, alloc: Global, name: &str, count: u64) {
-    tell_line(console, format!(in alloc; "ttm: {name}: {count}\n"));
+/// Prints a number under its name.
+pub fn tell_count<C: Console>(
+    console: &C,
+    alloc: Global,
+    name: &str,
+    count: u64,
+) -> Result<(), AllocError>
+    ensures { OnOk result (C.told console.now (spec.count_line name.now count)) }
+{
+    let line = format!(in alloc; "ttm: {name}: {count}\n")?;
+    console.tell(line.as_bytes());
+    Ok(())
 }
 
-/// Tells a number under its name and that of what it is of.
-pub fn tell_count_of<C: Console>(console: &C, alloc: Global, name: &str, of: &str, count: u64) {
-    tell_line(console, format!(in alloc; "ttm: {name} {of}: {count}\n"));
+/// Prints a number under its name and that of what it counts.
+pub fn tell_count_of<C: Console>(
+    console: &C,
+    alloc: Global,
+    name: &str,
+    of: &str,
+    count: u64,
+) -> Result<(), AllocError>
+    ensures { OnOk result (C.told console.now (spec.count_of_line name.now of.now count)) }
+{
+    let line = format!(in alloc; "ttm: {name} {of}: {count}\n")?;
+    console.tell(line.as_bytes());
+    Ok(())
 }
 
-/// Tells a warning.
-pub fn warn<C: Console>(console: &C, alloc: Global, warning: &str) {
-    tell_line(console, format!(in alloc; "ttm: warning: {warning}\n"));
+/// Prints a warning.
+pub fn warn<C: Console>(console: &C, alloc: Global, warning: &str) -> Result<(), AllocError>
+    ensures { OnOk result (C.told console.now (spec.warning_line warning.now)) }
+{
+    let line = format!(in alloc; "ttm: warning: {warning}\n")?;
+    console.tell(line.as_bytes());
+    Ok(())
 }
 
 /// A name or a value as it is shown: its first bytes, `?` for those that are no printed sign of ASCII, and two dots
