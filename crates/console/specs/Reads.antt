@@ -1,4 +1,4 @@
--- What one read of a file gives.
+-- The bytes that one read of a file returns.
 use Rattle.std.specs.Prelude.{◌≡◌, ◌≤◌, ℕ, Bool, true, false, List, [], Option, length}
 use Rattle.std.specs.Io.KnownBytes.{Consumes, IsAtEnd}
 

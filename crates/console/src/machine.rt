@@ -19,7 +19,7 @@ const MOST_READS: u32 = 16;
 pub trait Console {
     ghost use Rattle.std.specs.Prelude.{ℕ, List};
 
-    // that it was told this text
+    // it printed this text
     ghost told: { Self → List ℕ → Type 0 } = { λ _ _. Unit {0} };
 
     /// Puts out a text, as far as it is taken.
@@ -107,7 +107,7 @@ fn told_in(alloc: Global, files: &impl Files, path: &str, name: &[u8]) -> Option
     memory_of(&text, name)
 }
 
-/// Reads to the end, or as far as [`MOST_READS`] reads lead.
+/// Reads a file to its end, or [`MOST_READS`] times at most.
 fn first_bytes<R: Read>(alloc: Global, r: &mut R) -> io::Result<Vec<u8>>
     ensures bytes { IfOk result (λ bytes. Consumes (R.remaining r.old) (R.remaining r.new) bytes.items) }
     ensures end { IfOk result (λ bytes. IsAtEnd (R.remaining r.new) ⊎ (MOST_READS ≤ length bytes.items)) }
@@ -121,7 +121,7 @@ fn first_bytes<R: Read>(alloc: Global, r: &mut R) -> io::Result<Vec<u8>>
     Ok(bytes)
 }
 
-/// Adds what one read gives, and returns whether it gave any.
+/// Appends the bytes of one read, and returns whether there were any.
 fn read_more<R: Read>(r: &mut R, bytes: &mut Vec<u8>) -> io::Result<bool>
     ensures { IfOk result (λ more. (read : List ℕ) × (bytes.new.items ≡ bytes.old.items ++ read)
         × IsRead (R.remaining r.old) (R.remaining r.new) read more) }

@@ -21,7 +21,7 @@ none_left [] k fields rest few h = omega (arith, few)
 none_left (x ∷ xs) zero fields rest few h = absurd (cc (h.0))
 none_left (x ∷ xs) (suc k) fields rest few h = let e : k ≡ length xs = none_left xs k fields rest (omega (arith, few)) h in omega (arith, e)
 
--- one is given only before the end
+-- a record is given only before the end
 pub given_below : (xs : List (List (List ℕ))) (k : ℕ) (fields : List (List ℕ)) (rest : List (List (List ℕ))) →
     Gives (drop k xs) true fields rest → k + 1 ≤ length xs
 given_below [] zero fields rest h = absurd (cc (h.0))

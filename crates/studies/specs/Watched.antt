@@ -1,4 +1,4 @@
--- What a watch is told of a study, stage after stage, and of which tables and days.
+-- The stages of a study that a watch sees, in their order, and the tables and days of these stages.
 use Rattle.std.specs.Prelude.{◌≡◌, ◌⊎◌, List, [], ◌∷◌, Result, Ok, Err, ⊤}
 use Rattle.collector.specs.Places.{MatrixData}
 use Rattle.workers.specs.Matrices.{IsMatrix}
@@ -38,7 +38,7 @@ begun study = TablesRead ∷ DaysListed ∷ RowsBegin study ∷ []
 abbrev pub ended : StudyData → Result MatrixData RunFault → List Stage
 ended study made = TablesRead ∷ DaysListed ∷ RowsBegin study ∷ RowsEnd made ∷ []
 
--- the feed and the analyst's own tables, as a watch is told of them
+-- the feed and the analyst's own tables, as a watch sees them
 pub record TablesData : Type 0 where
   pub feed : FeedData
   pub direct : DirectLists
@@ -54,7 +54,7 @@ tables_in i = record {
   destinations = destinations_in i;
 }
 
--- what the networks are made of, as a watch is told of it
+-- the parts of the networks, as a watch sees them
 pub record DaysData : Type 0 where
   pub feed : FeedData
   pub settings : SettingsData
@@ -62,7 +62,7 @@ pub record DaysData : Type 0 where
   pub runs : List Run
   pub feet : FeetData
 
--- that of the study that the files mean, with these closed footpaths
+-- those of the study that the files mean, with these closed footpaths
 abbrev pub days_in : InputFiles → SettingsData → FeetData → DaysData
 days_in i s feet = record {
   feed = feed_in i;
@@ -72,7 +72,7 @@ days_in i s feet = record {
   feet = feet;
 }
 
--- the watch was told of exactly the tables and the days of the study that the files mean
+-- the watch saw exactly the tables and the days of the study that the files mean
 pub record HasReadTables (has_read : TablesData → Type 0) (has_listed : DaysData → Type 0) (i : InputFiles)
     (s : SettingsData) : Type 0 where
   pub read : has_read (tables_in i)

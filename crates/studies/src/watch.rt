@@ -12,8 +12,8 @@ use workers::{RunFault, Study};
 /// Is told what each stage of a study has made, in the order of its methods, by the thread that runs the study. Nothing
 /// that it does changes the study. A stage that refuses is the last one that is told of.
 ///
-/// Contracts know of a watch which stages it was told and in which order, and the tables and days that it was told of:
-/// its calls alone can show that.
+/// Contracts name the stages that a watch saw, in their order, and the tables and days of these stages: only calls of
+/// the watch establish such facts.
 pub trait Watch {
     ghost use Rattle.std.specs.Prelude.{List};
     ghost use Rattle.workers.specs.Study.{StudyData, study_of};
@@ -22,10 +22,10 @@ pub trait Watch {
     // that it was told these stages, one after the other
     ghost saw: { Self → List Stage → Type 0 } = { λ _ _. Unit {0} };
 
-    // that it was told of these tables
+    // it saw these tables
     ghost has_read: { Self → TablesData → Type 0 } = { λ _ _. Unit {0} };
 
-    // that it was told of these days
+    // it saw these days
     ghost has_listed: { Self → DaysData → Type 0 } = { λ _ _. Unit {0} };
 
     /// The feed and the analyst's own tables are read: the direct footpaths, the stops at which journeys begin, and
