@@ -1,5 +1,6 @@
 -- Access is a sum over the stops, to which a stop without opportunities adds nothing.
-use Rattle.std.proofs.Common.{◌≡◌, ◌≢◌, ◌≤◌, ◌<◌, ◌+◌, ◌-◌, ◌*◌, ◌==◌, ℕ, zero, suc, Bool, List, [], ◌∷◌, Option, None, Some, length}
+use Rattle.std.proofs.Common.{◌≡◌, ◌≢◌, ◌≤◌, ◌<◌, ◌+◌, ◌-◌, ◌*◌, ◌==◌, ℕ, zero, suc, Bool, List, [], ◌∷◌, Option}
+use Rattle.std.proofs.Common.{None, Some, length}
 use Rattle.std.proofs.Common.{slice_index, slice_index_or, min, if◌then◌else◌, ap, refl, inl, inr, sym, ◌∙◌, arith}
 use Rattle.std.specs.Prelude.{nat_le}
 use Rattle.std.proofs.lemmas.Bool.{cases_eq, ne_eqb}

@@ -1,5 +1,6 @@
 -- Law 4: two counts that a rank lies between say which duration is the cell; and law 5: how halving keeps them.
-use Rattle.std.proofs.Common.{◌≡◌, ◌≢◌, ◌≤◌, ◌<◌, ◌+◌, ◌*◌, ◌-◌, ℕ, zero, suc, Option, Some, None, ap, arith, refl, inl, inr}
+use Rattle.std.proofs.Common.{◌≡◌, ◌≢◌, ◌≤◌, ◌<◌, ◌+◌, ◌*◌, ◌-◌, ℕ, zero, suc, Option, Some, None, ap, arith, refl}
+use Rattle.std.proofs.Common.{inl, inr}
 use Rattle.std.proofs.Common.{subst, ◌∙◌, ◌^◌, if◌then◌else◌}
 use Rattle.std.proofs.lemmas.Grind.{pow_more}
 use Rattle.std.proofs.lemmas.Bool.{cases_lt, cases_eq}
@@ -55,7 +56,8 @@ module _ (runs : ℕ) (whole rest reached : ℕ → ℕ) (less : (i : ℕ) → i
     | inr ne ↦ let h = top i l ne in omega (arith, h)
   ])
 
-  pub under_next : (to : ℕ) → under whole reached runs (to + 1) ≡ under whole reached runs to + cover whole rest reached runs to 60
+  pub under_next : (to : ℕ) → under whole reached runs (to + 1) ≡ under whole reached runs to + cover whole rest
+      reached runs to 60
   under_next to = sum_same (λ i. below (to + 1) (whole i) (reached i))
       (λ i. below to (whole i) (reached i) + covered to 60 (whole i) (rest i) (reached i)) runs
       (λ i l. next_part to (whole i) (rest i) (reached i) (less i l))
@@ -120,12 +122,14 @@ module _ (n k half : ℕ) (l : k < n) (is : half ≡ 2 ^ (n - 1 - k)) where
       let h = half_next in
       omega (arith, e, more, h)
 
-  pub bit_up : (count : ℕ → ℕ) (rank value : ℕ) → Brackets count rank value (2 ^ (n - k)) → count (value + half) < rank →
+  pub bit_up : (count : ℕ → ℕ) (rank value : ℕ) → Brackets count rank value (2 ^ (n - k)) → count (value + half) <
+      rank →
       Brackets count rank (value + half) (2 ^ (n - (k + 1)))
   bit_up count rank value old up = subst (λ (h : ℕ). Brackets count rank (value + half) h) half_next
       (halved_up count rank value (2 ^ (n - k)) half half_both old up)
 
-  pub bit_down : (count : ℕ → ℕ) (rank value : ℕ) → Brackets count rank value (2 ^ (n - k)) → rank ≤ count (value + half) →
+  pub bit_down : (count : ℕ → ℕ) (rank value : ℕ) → Brackets count rank value (2 ^ (n - k)) → rank ≤ count (value +
+      half) →
       Brackets count rank value (2 ^ (n - (k + 1)))
   bit_down count rank value old down = subst (λ (h : ℕ). Brackets count rank value h) half_next
       (halved_down count rank value (2 ^ (n - k)) half old down)
@@ -149,7 +153,7 @@ module _ (ds : ℕ → Option ℕ) (minutes low runs : ℕ) (shortest span whole
       (are.each n (omega (arith, h))) (parts n (omega (arith, h))) in
       omega (arith, before, split, here)
 
-  -- no more minutes have a duration than the runs that are not never stand for
+  -- at most as many minutes have a duration as the runs that reach the stop have
   pub few_known : (d : ℕ) → minutes_within ds d minutes ≤ sum_to reached runs
   few_known d =
       let e = ap (λ (n : ℕ). minutes_within ds d n) are.all in

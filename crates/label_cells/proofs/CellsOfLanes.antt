@@ -1,5 +1,6 @@
--- What is selected in one lane is the cell of its stop.
-use Rattle.std.proofs.Common.{◌≡◌, ◌≢◌, ◌<◌, ◌+◌, ◌*◌, ℕ, Bool, List, Option, Some, None, if◌then◌else◌, length, inl, inr, ap, sym, subst, ◌∙◌, arith}
+-- The duration that is selected in a lane is the cell of its stop.
+use Rattle.std.proofs.Common.{◌≡◌, ◌≢◌, ◌<◌, ◌+◌, ◌*◌, ℕ, Bool, List, Option, Some, None, if◌then◌else◌, length, inl}
+use Rattle.std.proofs.Common.{inr, ap, sym, subst, ◌∙◌, arith}
 use Rattle.std.proofs.lemmas.Bool.{cases_lt, ne_eqb}
 use Rattle.rounds.specs.Table.{known_of}
 use Rattle.label_cells.specs.Durations.{IsCellOf}
@@ -15,7 +16,8 @@ counted x ne = ap (λ (b : Bool). if b then None else Some x) (ne_eqb x 42949672
 
 module _ (ds : ℕ → Option ℕ) (minutes low rank l runs : ℕ) (shortest span : ℕ → ℕ) (rows : List SplitRun)
     (are : AreRuns ds minutes shortest span runs)
-    (split : (i : ℕ) → i < runs → IsSplitRun low (shortest i) (span i) (whole_at rows l i) (rest_at rows l i) (reached_at rows l i))
+    (split : (i : ℕ) → i < runs → IsSplitRun low (shortest i) (span i) (whole_at rows l i) (rest_at rows l i)
+    (reached_at rows l i))
     (size : length rows ≡ runs) where
   there : AreRuns ds minutes shortest span (length rows)
   there = subst (λ (n : ℕ). AreRuns ds minutes shortest span n) (sym size) are

@@ -15,7 +15,8 @@ use Rattle.label_cells.specs.declared.share_cells.ShareCells.{ShareCells}
 use Rattle.label_cells.specs.declared.window.WindowLabels.{WindowLabels}
 use Rattle.label_cells.specs.Durations.{IsCellOf, lesser}
 use Rattle.label_cells.specs.Groups.{AreRankCells, cell_at, is_used, stop_at}
-use Rattle.label_cells.specs.ShareCells.{AreOfRanks, ArePicked, AreRanks, AreShareCells, AreStopCells, AreSums, IsOfRank}
+use Rattle.label_cells.specs.ShareCells.{AreOfRanks, ArePicked, AreRanks, AreShareCells, AreStopCells, AreSums}
+use Rattle.label_cells.specs.ShareCells.{IsOfRank}
 use Rattle.label_cells.specs.ShareCells.{IsShareCells}
 use Rattle.label_cells.specs.Sums.{sum_to}
 use Rattle.label_cells.specs.Windows.{AreWindowLabels, Represent, least_walk}
@@ -27,7 +28,8 @@ module _ (w : WindowLabels) (q : Question) (t : DurationTable) (good : AreWindow
     (used : List Bool) (ranks : List ℕ) (cells : List (List ℕ)) (ranked : AreRanks w.minutes q.shares.now ranks)
     (are : AreRankCells w used ranks cells) where
   -- the cell of a stop in a used group
-  stop_cell : (p k share : ℕ) → p < length w.numbers.now → is_used used (slice_index w.numbers.now p) → k < length ranks →
+  stop_cell : (p k share : ℕ) → p < length w.numbers.now → is_used used (slice_index w.numbers.now p) → k < length
+      ranks →
       slice_index q.shares.now k ≡ share →
       IsCell t share p (known_of (cell_at (length ranks) cells (slice_index w.numbers.now p) k))
   stop_cell p k share less is in_ranks of_share =
@@ -57,7 +59,8 @@ module _ (w : WindowLabels) (q : Question) (t : DurationTable) (good : AreWindow
         (stop_cell p k share less is in_ranks of_share)
 
     picked_cells : All (λ (stop : StopNo). stop.0 < length w.numbers.now) q.destinations.now →
-        ((j : ℕ) → j < length q.destinations.now → is_used used (slice_index w.numbers.now (stop_at q.destinations.now j)))
+        ((j : ℕ) → j < length q.destinations.now → is_used used (slice_index w.numbers.now (stop_at
+        q.destinations.now j)))
         → (given : List (Option ℕ)) → ArePicked of_stops q.destinations.now given →
         AreCellsAt t q.destinations.now share given
     picked_cells within marked given picked = record {
@@ -97,7 +100,8 @@ module _ (w : WindowLabels) (q : Question) (t : DurationTable) (good : AreWindow
 
   pub share_cells : All (λ (stop : StopNo). stop.0 < length w.numbers.now) q.destinations.now →
       length q.opportunities.now ≡ length w.numbers.now →
-      ((j : ℕ) → j < length q.destinations.now → is_used used (slice_index w.numbers.now (stop_at q.destinations.now j))) →
+      ((j : ℕ) → j < length q.destinations.now → is_used used (slice_index w.numbers.now (stop_at q.destinations.now
+      j))) →
       ((p : ℕ) → p < length w.numbers.now → slice_index q.opportunities.now p ≢ 0 →
       is_used used (slice_index w.numbers.now p)) → (given : List ShareCells) →
       AreOfRanks (length ranks) cells w.numbers.now q (length ranks) given → AreShareCells t q given
@@ -112,7 +116,8 @@ module _ (w : WindowLabels) (q : Question) (t : DurationTable) (good : AreWindow
         subst (λ (g : ShareCells). IsOfRank (length ranks) cells k w.numbers.now q g)
         (get_or_from_slice_get given k here here at_k) (of.each k here in_ranks) in
         record {
-          cells = picked_cells k share in_ranks is_share one.of_stops one.stops within wanted here.cells.items one.picked;
+          cells = picked_cells k share in_ranks is_share one.of_stops one.stops within wanted here.cells.items
+              one.picked;
           count = one.sums.count;
           access = λ i l. access_sum k share in_ranks is_share one.of_stops one.stops same useful
               (slice_index q.limits.now i) (slice_index here.access.items i) (one.sums.each i l);

@@ -24,7 +24,11 @@ all_above (Some x) walk d l = grind (arith, nat_tests)
 module _ (ds : ℕ → Option ℕ) where
   count_without : (d n : ℕ) → minutes_within (λ m. lesser (ds m) None) d n ≡ minutes_within ds d n
   count_without d zero = refl
-  count_without d (suc n) = let rest = count_without d n in let here = same_without (ds n) d in omega (arith, rest, here)
+  count_without d (suc n) = let rest = count_without d n in let here = same_without (ds n) d in omega (
+    arith,
+    rest,
+    here,
+  )
 
   count_below : (walk d n : ℕ) → d < walk → minutes_within (λ m. lesser (ds m) (Some walk)) d n ≡ minutes_within ds d n
   count_below walk d zero l = refl

@@ -45,9 +45,11 @@ module _ (w : WindowLabels) (used : List Bool) (ranks : List ℕ) (n : ℕ) (old
           let was = before.size in
           let place : length old + k ≡ n * length ranks + k = omega (arith, was) in
           let here : (m : ℕ) → n ≡ m → AreLaneDurations w (16 * m * w.found.width) l ds →
-          IsCellOf ds w.minutes (slice_index ranks k) (known_of (slice_index (slice_index_or new (m * length ranks + k) []) l)) =
+          IsCellOf ds w.minutes (slice_index ranks k) (known_of (slice_index (slice_index_or new (m * length ranks +
+          k) []) l)) =
           λ m same. subst (λ (i : ℕ). AreLaneDurations w (16 * i * w.found.width) l ds →
-          IsCellOf ds w.minutes (slice_index ranks k) (known_of (slice_index (slice_index_or new (i * length ranks + k) []) l)))
+          IsCellOf ds w.minutes (slice_index ranks k) (known_of (slice_index (slice_index_or new (i * length ranks +
+          k) []) l)))
           same (λ those. subst (λ (i : ℕ). IsCellOf ds w.minutes (slice_index ranks k)
           (known_of (slice_index (slice_index_or new i []) l))) place (adds.added k l ds in_ranks h those)) in
           here g e are

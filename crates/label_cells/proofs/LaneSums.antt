@@ -1,5 +1,6 @@
 -- One lane of sums and differences of vectors, of n lanes of 16 bits.
-use Rattle.std.proofs.Common.{◌≡◌, ℕ, ◌+◌, ◌-◌, ◌*◌, ◌/◌, ◌%◌, ◌<◌, ◌≤◌, cond, ltb, min, max, List, length, get_or, replicate}
+use Rattle.std.proofs.Common.{◌≡◌, ℕ, ◌+◌, ◌-◌, ◌*◌, ◌/◌, ◌%◌, ◌<◌, ◌≤◌, cond, ltb, min, max, List, length, get_or}
+use Rattle.std.proofs.Common.{replicate}
 use Rattle.std.proofs.Common.{sym, ◌∙◌, ap, arith}
 use Rattle.std.proofs.lemmas.Simd.{get_or-zip2, length-zip2, get_or-replicate, length-replicate}
 use Rattle.std.proofs.lemmas.Bool.Decides.{nat_tests}
@@ -72,14 +73,16 @@ times a b = (a * b) % 65536
 abbrev pub over : ℕ → ℕ → ℕ
 over a b = a / b
 
-rest_is : (shortest whole : ℕ) → whole ≡ shortest / 60 → shortest ≤ 65535 → minus shortest (times whole 60) ≡ shortest - 60 * whole
+rest_is : (shortest whole : ℕ) → whole ≡ shortest / 60 → shortest ≤ 65535 → minus shortest (times whole 60) ≡
+    shortest - 60 * whole
 rest_is shortest whole is fits = omega (arith, is)
 
 module _ (n : ℕ) where
   pub over_at : (xs : List ℕ) (y l : ℕ) → l < n → length xs ≡ n →
       get_or (zip2 over xs (replicate n y)) l 0 ≡ get_or xs l 0 / y
   over_at xs y l h xl =
-      get_or-zip2 over xs (replicate n y) l 0 0 0 (omega (arith, xl)) (let e = length-replicate {A = ℕ} n y in omega (arith, e))
+      get_or-zip2 over xs (replicate n y) l 0 0 0 (omega (arith, xl)) (let e = length-replicate {A = ℕ} n y in omega
+      (arith, e))
       ∙ ap (λ (k : ℕ). get_or xs l 0 / k) (get_or-replicate {A = ℕ} n l y 0 h)
 
   pub rest_at : (shortest whole : List ℕ) (l : ℕ) → l < n → length shortest ≡ n → length whole ≡ n →
@@ -88,7 +91,8 @@ module _ (n : ℕ) where
   rest_at shortest whole l h ll wl is fits =
       let sixty = replicate {A = ℕ} n 60 in
       let sl : length (replicate {A = ℕ} n 60) ≡ n = length-replicate {A = ℕ} n 60 in
-      let long : length (zip2 times whole (replicate n 60)) ≡ n = length-zip2 times whole (replicate n 60) (wl ∙ sym sl) ∙ wl in
+      let long : length (zip2 times whole (replicate n 60)) ≡ n = length-zip2 times whole (replicate n 60) (wl ∙ sym
+      sl) ∙ wl in
       let mul : get_or (zip2 times whole (replicate n 60)) l 0 ≡ times (get_or whole l 0) 60 =
       get_or-zip2 times whole (replicate n 60) l 0 0 0 (omega (arith, wl)) (omega (arith, sl))
       ∙ ap (λ (k : ℕ). times (get_or whole l 0) k) (get_or-replicate {A = ℕ} n l 60 0 h) in

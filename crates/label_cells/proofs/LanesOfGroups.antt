@@ -7,14 +7,16 @@ use Rattle.label_cells.specs.Durations.{AreLabels}
 use Rattle.label_cells.specs.Runs.{AreEnds}
 use Rattle.label_cells.specs.Windows.{ArePositions, AreSince, lane_of}
 
-module _ (found : List ℕ) (from width k l : ℕ) (room : from + 16 * width ≤ length found) (fits : k ≤ width) (h : l < 16) where
+module _ (found : List ℕ) (from width k l : ℕ) (room : from + 16 * width ≤ length found) (fits : k ≤ width) (h : l <
+    16) where
   in_room : from + l * width + k ≤ length found
   in_room = let row = row_fits l width 16 width h (omega arith) in omega (arith, row, room, fits)
 
   pub length-lane : length (lane_of found from width k l) ≡ k
   length-lane = length-chunk {X = ℕ} (from + l * width) k found in_room
 
-  pub lane_at : (j : ℕ) → j < k → slice_index (lane_of found from width k l) j ≡ slice_index found (from + l * width + j)
+  pub lane_at : (j : ℕ) → j < k → slice_index (lane_of found from width k l) j ≡ slice_index found (from + l * width
+      + j)
   lane_at j less = get_or-chunk {X = ℕ} (from + l * width) k found j 0 less
 
 pub are_labels : (labels bases searched : List ℕ) (first minutes : ℕ) → ArePositions bases searched first minutes →
@@ -38,7 +40,8 @@ nevers k = replicate k 65535
 pub never_labels : (bases searched : List ℕ) (first minutes : ℕ) → ArePositions bases searched first minutes →
     AreLabels (nevers (length searched)) bases searched first minutes
 never_labels bases searched first minutes are =
-    are_labels (nevers (length searched)) bases searched first minutes are (length-replicate {A = ℕ} (length searched) 65535) (record {
+    are_labels (nevers (length searched)) bases searched first minutes are (length-replicate {A = ℕ} (length
+    searched) 65535) (record {
       since = λ j l some. absurd (some (get_or-replicate {A = ℕ} (length searched) j 65535 0 l));
     })
 

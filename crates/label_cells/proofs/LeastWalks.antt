@@ -1,5 +1,6 @@
 -- The lesser of durations, one after another; and the least walk, one walk after another.
-use Rattle.std.proofs.Common.{◌≡◌, ◌≢◌, ◌<◌, ◌+◌, ◌==◌, ℕ, suc, Bool, List, Option, Some, None, min, ap, refl, sym, ◌∙◌, arith}
+use Rattle.std.proofs.Common.{◌≡◌, ◌≢◌, ◌<◌, ◌+◌, ◌==◌, ℕ, suc, Bool, List, Option, Some, None, min, ap, refl, sym}
+use Rattle.std.proofs.Common.{◌∙◌, arith}
 use Rattle.std.proofs.Common.{if◌then◌else◌, inl, inr}
 use Rattle.std.proofs.lemmas.Bool.{cases_eq, ne_eqb, eq-eqb}
 use Rattle.timetable.specs.declared.trips.StopNo.{StopNo}
@@ -21,7 +22,8 @@ known : (x : ℕ) → x ≢ 4294967295 → known_of x ≡ Some x
 known x ne = ap (λ (b : Bool). if b then None else Some x) (ne_eqb x 4294967295 ne)
 
 -- the label that is the lesser of a cell and a walk
-pub known_lowered : (x seconds : ℕ) → seconds < 4294967295 → known_of (min x seconds) ≡ lesser (known_of x) (Some seconds)
+pub known_lowered : (x seconds : ℕ) → seconds < 4294967295 → known_of (min x seconds) ≡ lesser (known_of x) (Some
+    seconds)
 known_lowered x seconds few = elim (cases_eq x 4294967295) [
   | inl never ↦
       let none : known_of x ≡ None = ap (λ (b : Bool). if b then None else Some x) (eq-eqb x 4294967295 never) in

@@ -1,5 +1,6 @@
 -- A row more.
-use Rattle.std.proofs.Common.{◌≡◌, ◌≤◌, ◌<◌, ◌+◌, ◌++◌, ◌∷◌, [], ℕ, List, length, slice_index, get_or, inl, inr, subst, sym, ap, refl, ◌∙◌, arith}
+use Rattle.std.proofs.Common.{◌≡◌, ◌≤◌, ◌<◌, ◌+◌, ◌++◌, ◌∷◌, [], ℕ, List, length, slice_index, get_or, inl, inr}
+use Rattle.std.proofs.Common.{subst, sym, ap, refl, ◌∙◌, arith}
 use Rattle.std.proofs.lemmas.Bool.{cases_lt, cases_eq}
 use Rattle.std.proofs.lemmas.List.{get_or_append_left, get_or_at}
 use Rattle.label_cells.specs.Runs.{IsSplitRun}
@@ -9,13 +10,15 @@ use Rattle.label_cells.specs.declared.split_runs.SplitRun.{SplitRun}
 use Rattle.label_cells.specs.SplitRuns.{whole_at, rest_at, reached_at, no_split}
 
 -- a part span for no more minutes than its run
-pub part_few : (low shortest span whole rest reached : ℕ) → IsSplitRun low shortest span whole rest reached → reached ≤ span
+pub part_few : (low shortest span whole rest reached : ℕ) → IsSplitRun low shortest span whole rest reached → reached
+    ≤ span
 part_few low shortest span whole rest reached part = elim (cases_eq shortest 65535) [
   | inl never ↦ let e = part.never never in omega (arith, e)
   | inr some ↦ let e = part.spans some in omega (arith, e)
 ]
 
-module _ (low : List ℕ) (shortest : ℕ → ℕ → ℕ) (span : ℕ → ℕ) (n : ℕ) (rows : List SplitRun) (row : SplitRun) (long : length rows ≡ n) where
+module _ (low : List ℕ) (shortest : ℕ → ℕ → ℕ) (span : ℕ → ℕ) (n : ℕ) (rows : List SplitRun) (row : SplitRun) (long :
+    length rows ≡ n) where
   old : (i : ℕ) → i < n → get_or (rows ++ row ∷ []) i no_split ≡ get_or rows i no_split
   old i less = get_or_append_left rows (row ∷ []) no_split i (omega (arith, less, long))
 
@@ -23,7 +26,8 @@ module _ (low : List ℕ) (shortest : ℕ → ℕ → ℕ) (span : ℕ → ℕ) 
   new i e = get_or_at rows row [] no_split i (long ∙ e)
 
   pub parts_more : ((l i : ℕ) → l < 16 → i < n →
-      IsSplitRun (slice_index low l) (shortest l i) (span i) (whole_at rows l i) (rest_at rows l i) (reached_at rows l i))
+      IsSplitRun (slice_index low l) (shortest l i) (span i) (whole_at rows l i) (rest_at rows l i) (reached_at rows
+      l i))
       → ((l : ℕ) → l < 16 → IsSplitRun (slice_index low l) (shortest l n) (span n) (slice_index row.whole l)
       (slice_index row.rest l) (slice_index row.span l)) → (l i : ℕ) → l < 16 → i < n + 1 →
       IsSplitRun (slice_index low l) (shortest l i) (span i) (whole_at (rows ++ row ∷ []) l i)

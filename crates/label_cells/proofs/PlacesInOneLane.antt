@@ -1,12 +1,14 @@
 -- How a rank is found in one lane.
-use Rattle.std.proofs.Common.{◌≡◌, ◌≤◌, ◌<◌, ◌≢◌, ◌+◌, ◌-◌, ◌*◌, ◌^◌, ℕ, Bool, cond, ltb, List, length, inl, inr, ap, sym, subst, ◌∙◌, arith}
+use Rattle.std.proofs.Common.{◌≡◌, ◌≤◌, ◌<◌, ◌≢◌, ◌+◌, ◌-◌, ◌*◌, ◌^◌, ℕ, Bool, cond, ltb, List, length, inl, inr, ap}
+use Rattle.std.proofs.Common.{sym, subst, ◌∙◌, arith}
 use Rattle.std.proofs.lemmas.Bool.{cases_lt, lt-ltb, le-ltb}
 use Rattle.label_cells.specs.declared.split_runs.SplitRun.{SplitRun}
 use Rattle.label_cells.specs.Places.{IsPlaced, IsFirstPlaced, IsLeft, IsBetween}
 use Rattle.label_cells.specs.SplitRuns.{AreSmall, under_at, cover_at, whole_at, rest_at, reached_at}
 use Rattle.label_cells.specs.Runs.{Brackets}
 use Rattle.label_cells.specs.Sums.{sum_to}
-use Rattle.label_cells.proofs.CellSelected.{under_none, bit_up, bit_down, few_up, few_down, cover_none, seconds_first, seconds_few, under_all}
+use Rattle.label_cells.proofs.CellSelected.{under_none, bit_up, bit_down, few_up, few_down, cover_none, seconds_first}
+use Rattle.label_cells.proofs.CellSelected.{seconds_few, under_all}
 
 module _ (rows : List SplitRun) (l : ℕ) (small : AreSmall rows) (h : l < 16) where
   less : (i : ℕ) → i < length rows → rest_at rows l i < 60
@@ -107,7 +109,8 @@ module _ (rows : List SplitRun) (l : ℕ) (small : AreSmall rows) (h : l < 16) w
       whole_at rows l i + reached_at rows l i ≤ end) → IsFirstPlaced rows l rank end
   first_placed rank end some top = record {
     some = some;
-    top = λ known. let all = under_all (length rows) (whole_at rows l) (rest_at rows l) (reached_at rows l) less end top in
+    top = λ known. let all = under_all (length rows) (whole_at rows l) (rest_at rows l) (reached_at rows l) less end
+        top in
         omega (arith, all, known);
   }
 

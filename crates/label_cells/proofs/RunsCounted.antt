@@ -20,7 +20,7 @@ one_more to seconds low d whole rest w less few is = grind (arith, nat_tests)
 none_yet : (to seconds whole rest : ℕ) → below to whole 0 + covered to seconds whole rest 0 ≡ 0
 none_yet to seconds whole rest = grind (arith, nat_tests)
 
--- the minutes of one run, whose last has so many whole minutes and seconds
+-- the minutes of one run, given the whole minutes and the seconds of its last duration
 run_counted : (ds : ℕ → Option ℕ) (to seconds low d rest : ℕ) → rest < 60 → seconds ≤ 60 →
     d + 1 ≡ 60 * (low + to) + seconds → (w whole : ℕ) →
     ((l : ℕ) → l < w → ds l ≡ Some (60 * (low + whole) + rest + 60 * (w - 1 - l)))
@@ -30,7 +30,8 @@ run_counted ds to seconds low d rest less few is (suc w) whole counted =
     let before = run_counted ds to seconds low d rest less few is w (whole + 1)
     (λ l h. counted l (omega (arith, h)) ∙ ap Some (let e : 60 * (low + whole) + rest + 60 * (suc w - 1 - l) ≡
     60 * (low + (whole + 1)) + rest + 60 * (w - 1 - l) = omega (arith, h) in e)) in
-    let last : ds w ≡ Some (60 * (low + whole) + rest) = counted w (omega arith) ∙ ap Some (let e : 60 * (low + whole) + rest + 60 * (suc w - 1 - w) ≡ 60 * (low + whole) + rest = omega arith in e) in
+    let last : ds w ≡ Some (60 * (low + whole) + rest) = counted w (omega arith) ∙ ap Some (let e : 60 * (low +
+    whole) + rest + 60 * (suc w - 1 - w) ≡ 60 * (low + whole) + rest = omega arith in e) in
     let here : adds d (ds w) ≡ adds d (Some (60 * (low + whole) + rest)) = ap (adds d) last in
     let more = one_more to seconds low d whole rest w less few is in
     omega (arith, before, here, more)
@@ -46,21 +47,22 @@ none_counted ds d (suc w) none =
 part_counted : (ds : ℕ → Option ℕ) (from to seconds low d shortest span whole rest reached : ℕ) → seconds ≤ 60 →
     d + 1 ≡ 60 * (low + to) + seconds → IsRun ds from shortest span → IsSplitRun low shortest span whole rest reached →
     minutes_within (λ l. ds (from + l)) d span ≡ below to whole reached + covered to seconds whole rest reached
-part_counted ds from to seconds low d shortest span whole rest reached few is run part = elim (cases_eq shortest 65535) [
-  | inl never ↦
-      let none = none_counted (λ l. ds (from + l)) d span (run.never never) in
-      let e = part.never never in
-      let dead : below to whole reached + covered to seconds whole rest reached ≡ 0 =
-      ap (λ (n : ℕ). below to whole n + covered to seconds whole rest n) e ∙ none_yet to seconds whole rest in
-      none ∙ sym dead
-  | inr some ↦
-      let e = part.counted some in
-      let same : span ≡ reached = sym (part.spans some) in
-      run_counted (λ l. ds (from + l)) to seconds low d rest part.less few is span whole
-      (λ l h. run.counted some l h ∙ ap Some (let sum : shortest + 60 * (span - 1 - l) ≡
-      60 * (low + whole) + rest + 60 * (span - 1 - l) = omega (arith, e) in sum))
-      ∙ ap (λ (n : ℕ). below to whole n + covered to seconds whole rest n) same
-]
+part_counted ds from to seconds low d shortest span whole rest reached few is run part = elim (cases_eq shortest
+    65535) [
+      | inl never ↦
+          let none = none_counted (λ l. ds (from + l)) d span (run.never never) in
+          let e = part.never never in
+          let dead : below to whole reached + covered to seconds whole rest reached ≡ 0 =
+          ap (λ (n : ℕ). below to whole n + covered to seconds whole rest n) e ∙ none_yet to seconds whole rest in
+          none ∙ sym dead
+      | inr some ↦
+          let e = part.counted some in
+          let same : span ≡ reached = sym (part.spans some) in
+          run_counted (λ l. ds (from + l)) to seconds low d rest part.less few is span whole
+          (λ l h. run.counted some l h ∙ ap Some (let sum : shortest + 60 * (span - 1 - l) ≡
+          60 * (low + whole) + rest + 60 * (span - 1 - l) = omega (arith, e) in sum))
+          ∙ ap (λ (n : ℕ). below to whole n + covered to seconds whole rest n) same
+    ]
 
 module _ (ds : ℕ → Option ℕ) (minutes low runs : ℕ) (shortest span whole rest reached : ℕ → ℕ)
     (are : AreRuns ds minutes shortest span runs)

@@ -7,7 +7,7 @@ use Rattle.label_cells.specs.Sums.{sum_to}
 use Rattle.label_cells.specs.Runs.{IsRun, AreEnds}
 use Rattle.label_cells.proofs.SumsOfPlaces.{sum_same}
 
--- how many minutes the positions before one stand for
+-- how many minutes wait for positions before j
 abbrev pub before : List ℕ → ℕ → ℕ
 before searched zero = 0
 before searched (suc j) = slice_index searched j + 1
@@ -17,7 +17,7 @@ pub record IsLeft (searched : List ℕ) (ends : List Bool) (j was : ℕ) : Type 
   pub low : was ≤ before searched j
   pub closed : (i : ℕ) → j ≡ i + 1 → slice_index_or ends i false ≡ true → was ≡ before searched j
 
--- of those minutes, those before position j have what the label of position j tells; the others are in runs
+-- of those minutes, those before position j have the durations of its label; the others are in runs
 pub record AreBegun (labels bases searched : List ℕ) (first : ℕ) (ds : ℕ → Option ℕ) (j was : ℕ)
     (shortest span : ℕ → ℕ) (runs : ℕ) : Type 0 where
   pub each : (i : ℕ) → i < runs → IsRun ds (sum_to span i) (shortest i) (span i)
@@ -81,7 +81,7 @@ module _ (labels bases searched : List ℕ) (first minutes : ℕ) (ends : List B
       omega (arith, all, e, end)
 
   module _ (ds : ℕ → Option ℕ) (counted : AreDurations labels bases searched first minutes ds) where
-    -- what a position's label tells of all minutes that are left up to its own
+    -- the durations of all minutes that are left up to a position's own, by its label
     counted_here : (j was runs : ℕ) (shortest span : ℕ → ℕ) → j < length searched →
         AreBegun labels bases searched first ds j was shortest span runs → (m : ℕ) → was ≤ m →
         m ≤ slice_index searched j → IsDurationFrom (slice_index bases j) (first + 60 * m) (slice_index labels j) (ds m)
@@ -105,7 +105,11 @@ module _ (labels bases searched : List ℕ) (first minutes : ℕ) (ends : List B
         slice_index labels j ≤ 65535 →
         IsRun ds was shortest_here (slice_index searched j + 1 - was)
     run_here j was shortest_here runs shortest span l begun low never some fits = record {
-      never = λ e k h. (counted_here j was runs shortest span l begun (was + k) (omega arith) (omega (arith, h, low))).never
+      never = λ e k h. (counted_here j was runs shortest span l begun (was + k) (omega arith) (omega (
+        arith,
+        h,
+        low,
+      ))).never
           (elim (cases_eq (slice_index labels j) 65535) [
             | inl is ↦ is
             | inr ne ↦

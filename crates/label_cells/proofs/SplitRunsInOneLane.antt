@@ -1,5 +1,6 @@
 -- The rows of one lane.
-use Rattle.std.proofs.Common.{◌≡◌, ◌≤◌, ◌<◌, ◌+◌, ℕ, suc, Bool, cond, ltb, List, [], length, slice_index, slice_index_or}
+use Rattle.std.proofs.Common.{◌≡◌, ◌≤◌, ◌<◌, ◌+◌, ℕ, suc, Bool, cond, ltb, List, [], length, slice_index}
+use Rattle.std.proofs.Common.{slice_index_or}
 use Rattle.std.proofs.Common.{ap, ◌∙◌, arith}
 use Rattle.label_cells.specs.Runs.{covered}
 use Rattle.label_cells.specs.declared.split_runs.SplitRun.{SplitRun}
@@ -15,11 +16,13 @@ few_spans rows l i small h less =
     let all = small.spans l h in
     omega (arith, more, all)
 
-pub spans_there : (rows : List SplitRun) (l i : ℕ) → AreSmall rows → l < 16 → i < length rows → reached_at rows l i ≤ 1440
+pub spans_there : (rows : List SplitRun) (l i : ℕ) → AreSmall rows → l < 16 → i < length rows → reached_at rows l i ≤
+    1440
 spans_there rows l i small h less = let few = few_spans rows l i small h less in omega (arith, few)
 
 -- the runs that have fewer seconds cover the minute
-pub fewer_covers : (rows : List SplitRun) (at : List ℕ) (covering : List (List ℕ)) (l seconds : ℕ) → l < 16 → seconds ≤ 64 →
+pub fewer_covers : (rows : List SplitRun) (at : List ℕ) (covering : List (List ℕ)) (l seconds : ℕ) → l < 16 → seconds
+    ≤ 64 →
     AreCovering rows at covering → fewer_at covering l seconds ≡ cover_at rows l (slice_index at l) seconds
 fewer_covers rows at covering l seconds h few are =
     ap (λ (n : ℕ). sum_to (λ i. cond (ltb (slice_index (slice_index_or covering i []) l) seconds) 1 0) n) are.size

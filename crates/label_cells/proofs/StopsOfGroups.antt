@@ -6,7 +6,8 @@ use lib.Lanes.{chunk}
 use Rattle.rounds.specs.Table.{known_of}
 use Rattle.label_cells.specs.declared.window.WindowLabels.{WindowLabels}
 use Rattle.label_cells.specs.Durations.{AreDurations, IsCellOf, lesser}
-use Rattle.label_cells.specs.Groups.{AreGroupCells, AreLaneDurations, AreRankCells, cell_at, group_lane, groups_of, is_used}
+use Rattle.label_cells.specs.Groups.{AreGroupCells, AreLaneDurations, AreRankCells, cell_at, group_lane, groups_of}
+use Rattle.label_cells.specs.Groups.{is_used}
 use Rattle.label_cells.specs.Windows.{AreSince, labels_of, least_walk}
 use Rattle.label_cells.proofs.CellsWithWalks.{cell_walked}
 

@@ -12,13 +12,14 @@ pub record IsDurationFrom (base depart label : ℕ) (duration : Option ℕ) : Ty
   pub never : label ≡ 65535 → duration ≡ None
   pub counted : label ≢ 65535 → duration ≡ Some (base + label - depart)
 
--- the duration of each minute, by the label of the searched minute that stands in for it
+-- the duration of each minute, by the label of the searched minute that it waits for
 pub record AreDurations (labels bases searched : List ℕ) (first minutes : ℕ) (of_minute : ℕ → Option ℕ) :
     Type 0 where
   pub each : (m j wait : ℕ) → m < minutes → StandsIn searched m j wait →
       IsDurationFrom (slice_index bases j) (first + 60 * m) (slice_index labels j) (of_minute m)
 
--- the labels of a stop, one for each searched minute: no label is earlier than its departure, and no base is later, or so
+-- the labels of a stop, one for each searched minute: no label is earlier than its departure, and no base is later,
+-- or so
 -- much earlier that a label couldn't represent the departure
 pub record AreLabels (labels bases searched : List ℕ) (first minutes : ℕ) : Type 0 where
   pub plan : AreMinutes minutes searched
@@ -37,6 +38,6 @@ lesser None walk = walk
 lesser (Some d) None = Some d
 lesser (Some d) (Some walk) = Some (min d walk)
 
--- the cell of a rank: the least duration that so many minutes attain
+-- the cell of a rank: the least duration that `rank` minutes attain
 abbrev pub IsCellOf : (ℕ → Option ℕ) → ℕ → ℕ → Option ℕ → Type 0
 IsCellOf of_minute minutes rank cell = IsLeastOrNone (λ d. rank ≤ minutes_within of_minute d minutes) cell

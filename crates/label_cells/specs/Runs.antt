@@ -15,7 +15,8 @@ pub record AreEnds (labels bases : List ℕ) (ends : List Bool) : Type 0 where
   pub long : length ends ≡ length labels
   pub others : (j : ℕ) → j < length labels → slice_index_or ends j false ≡ false → GoesOn labels bases j
 
--- a run of `span` minutes from minute `from` on: its last minute has the shortest duration, and each minute before it waits
+-- a run of `span` minutes from minute `from` on: its last minute has the shortest duration, and each minute before
+-- it waits
 -- 60 seconds longer; if that is 65535, the stop isn't reached
 pub record IsRun (of_minute : ℕ → Option ℕ) (from shortest span : ℕ) : Type 0 where
   pub never : shortest ≡ 65535 → (l : ℕ) → l < span → of_minute (from + l) ≡ None
@@ -26,7 +27,8 @@ pub record AreRuns (of_minute : ℕ → Option ℕ) (minutes : ℕ) (shortest sp
   pub each : (i : ℕ) → i < runs → IsRun of_minute (sum_to span i) (shortest i) (span i)
   pub all : sum_to span runs ≡ minutes
 
--- the shortest duration of a run, split into whole minutes, counted from `low`, and seconds; and in how many minutes the
+-- the shortest duration of a run, split into whole minutes, counted from `low`, and seconds; and in how many minutes
+-- the
 -- stop is reached
 pub record IsSplitRun (low shortest span whole rest reached : ℕ) : Type 0 where
   pub less : rest < 60

@@ -23,7 +23,7 @@ pub record AreShareCells (t : DurationTable) (q : Question) (given : List ShareC
   pub each : (k share : ℕ) (cells : ShareCells) → slice_get q.shares.now k ≡ Some share →
       slice_get given k ≡ Some cells → IsShareCells t q share cells
 
--- the rank of each share: the least number of minutes that is so many of a hundred
+-- the rank of each share: that percentage of the minutes, rounded up
 pub record AreRanks (minutes : ℕ) (shares ranks : List ℕ) : Type 0 where
   pub count : length ranks ≡ length shares
   pub each : (k : ℕ) → k < length shares → slice_index ranks k ≡ (slice_index shares k * minutes + 99) / 100

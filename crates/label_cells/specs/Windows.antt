@@ -1,4 +1,4 @@
--- What a search leaves of a window, and the durations that this represents.
+-- The labels of a window, and the durations that they represent.
 use Rattle.std.specs.Prelude.{◌≡◌, ◌≢◌, ℕ, ◌+◌, ◌*◌, ◌<◌, ◌≤◌, ◌==◌, zero, suc, List, [], Option, Some, None, length}
 use Rattle.std.specs.Prelude.{if◌then◌else◌, slice_index, slice_index_or}
 use lib.Lanes.{chunk}

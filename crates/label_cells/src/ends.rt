@@ -58,7 +58,8 @@ fn is_end(bases: &[u32], j: usize, same: u16) -> bool
     j + 1 == bases.len() || bases[j] != bases[j + 1] || same == 0
 }
 
-/// Finds the positions at which the runs of a group end, one flag for each position. The group's labels begin at `from`.
+/// Finds the positions at which the runs of a group end, one flag for each position. The group's labels begin at
+/// `from`.
 ///
 /// Its sixteen stops share their runs: if the label of one stop changes, the runs of all end. Out of memory is the only
 /// error.

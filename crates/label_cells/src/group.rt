@@ -119,7 +119,8 @@ fn push_ranks(
     Ok(())
 }
 
-/// Appends the cells of the group whose labels begin at `from`, one list for each rank. Out of memory is the only error.
+/// Appends the cells of the group whose labels begin at `from`, one list for each rank. Out of memory is the only
+/// error.
 pub(crate) fn push_group(
     alloc: Global,
     cells: &mut Vec<Lanes>,

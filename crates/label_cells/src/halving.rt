@@ -1,4 +1,5 @@
-//! The whole minutes and the seconds of a rank, found by bisection: one bit after another, in sixteen stops side by side.
+//! The whole minutes and the seconds of a rank, found by bisection: one bit after another, in sixteen stops side by
+//! side.
 ghost use Rattle.std.specs.Prelude.{◌≡◌, ◌+◌, ◌-◌, ◌^◌, ◌<◌, ◌≤◌, ℕ, length, slice_index};
 ghost use Rattle.label_cells.specs.SplitRuns.{AreCovering, AreSmall};
 ghost use Rattle.label_cells.specs.Places.{IsPlaced, IsFirstPlaced, IsLeft};
@@ -20,7 +21,7 @@ fn power(bit: u32) -> u16
     1 << bit
 }
 
-/// Finds the whole minutes of the duration of a rank, in each stop that so many minutes reach.
+/// Finds the whole minutes of the duration of a rank, in each stop that at least `rank` minutes reach.
 pub(crate) fn whole_of(rows: &[SplitRun], bits: u32, rank: u16) -> Places
     requires small { AreSmall rows.now }
     requires bits { bits ≤ 12 }
@@ -42,8 +43,8 @@ pub(crate) fn whole_of(rows: &[SplitRun], bits: u32, rank: u16) -> Places
     Places { whole, under }
 }
 
-/// Finds the seconds of the duration of a rank among the runs that cover minute `at`. `left` is the rank less the minutes
-/// below `at`.
+/// Finds the seconds of the duration of a rank among the runs that cover minute `at`. `left` is the rank less the
+/// minutes below `at`.
 pub(crate) fn rest_of(
     rows: &[SplitRun],
     covering: &mut [Sixteen],

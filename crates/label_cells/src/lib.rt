@@ -1,9 +1,8 @@
 //! The cells and the access of a row, straight from the narrow labels of a search.
 //!
-//! [`cells_and_access`] is the entry point. It gives the same cells and sums as `cells_of_at` and `access_at` of `shares`,
-//! by the same definitions, but never writes the durations of all minutes. A cell is a nearest-rank percentile. It is
-//! found by bisection (a rank is counted below a value, and the range of values is halved), for sixteen stops side by
-//! side, one in each lane of a vector.
+//! [`cells_and_access`] is the entry point. It gives the same cells and sums as `cells_of_at` and `access_at` of
+//! `shares`, by the same definitions, but never writes the durations of all minutes. A cell is a nearest-rank
+//! percentile. It is found by bisection, for sixteen stops side by side, one in each lane of a vector.
 //!
 //! # Terms
 //!
@@ -11,18 +10,18 @@
 //!   duration is that of the searched minute and the seconds until then.
 //! - *Base*: the second from which the labels of a position count.
 //! - *Group*: sixteen stops with neighbouring numbers.
-//! - *Run*: minutes that all wait for the same position. Neighbouring positions with equal labels and equal bases are one
-//!   run, because a label tells when the stop is reached. The positions of a group are merged only where all its stops
-//!   agree, so its stops share the runs. The durations of a run fall by 60 seconds from minute to minute.
+//! - *Run*: minutes that all wait for the same position. Neighbouring positions with equal labels and equal bases are
+//!   one run, because a label is a time of arrival. The positions of a group are merged only where all its stops agree,
+//!   so its stops share the runs. The durations of a run fall by 60 seconds from minute to minute.
 //! - *Split run*: a run whose last duration is split into whole minutes and seconds.
 //! - A run *covers* minute `d` if one of its durations has `d` whole minutes.
-//! - *Rank*: the number of minutes that a share of the window is, rounded up. The cell is the least duration that so many
-//!   minutes attain.
+//! - *Rank*: a share of the window's minutes, rounded up to a whole number of minutes. The cell is the least duration
+//!   that at least that number of minutes attain.
 //!
 //! # How a cell is found
 //!
 //! The durations of a run below `60 * d` seconds can be counted without listing them: there are
-//! `min(span, d - whole)`. So the whole minutes of a cell are halved first, and then its seconds, among the runs that
+//! `min(span, d - whole)`. So the whole minutes of a cell are bisected first, and then its seconds, among the runs that
 //! cover these minutes. Walks from the origin take as long in each minute, so they come last: the cell is the lesser of
 //! the cell without walks and the least walk.
 //!

@@ -10,7 +10,7 @@ use crate::split_runs::{Sixteen, SplitRun, known, sum_of, top};
 use crate::splitting::{cells_of, past};
 use trip_lanes::Lanes;
 
-/// What the selections of all ranks need to know of a group's split runs.
+/// Facts about a group's split runs that all ranks share.
 #[derive(Clone, Copy)]
 pub(crate) struct Summary {
     /// The whole minutes from which split runs count.

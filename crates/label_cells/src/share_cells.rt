@@ -15,7 +15,7 @@ use std::alloc::{AllocError, Global};
 use timetable::{NEVER, StopNo};
 use trip_lanes::Lanes;
 
-/// What a row asks of durations.
+/// The destinations, shares, opportunities and limits of a row.
 #[derive(Clone, Copy)]
 pub struct Question<'a> {
     /// The stops whose cells are wanted.

@@ -28,7 +28,8 @@ fn add_below(count: Sixteen, to: Sixteen, whole: Sixteen, span: Sixteen) -> Sixt
     requires to { (l : ℕ) → l < 16 → slice_index to l < 4096 }
     requires whole { (l : ℕ) → l < 16 → slice_index whole l ≤ 1092 }
     ensures { (l : ℕ) → l < 16 →
-        slice_index result l ≡ slice_index count l + below (slice_index to l) (slice_index whole l) (slice_index span l) }
+        slice_index result l ≡ slice_index count l + below (slice_index to l) (slice_index whole l) (slice_index span
+        l) }
 {
     (u16x16::from_array(count)
         + u16x16::from_array(to)

@@ -9,8 +9,8 @@ use std::test::Fail;
 use timetable::StopNo;
 use useful_minutes::Found;
 
-/// Minutes 1, 2 and 4 were searched. The stop with number 0 is reached in 70 seconds from minute 1, never from minute 2,
-/// and in 80 seconds from minute 4; so its durations are 130, 70, none, 140 and 80. The stop with number 1 is never
+/// Minutes 1, 2 and 4 were searched. The stop with number 0 is reached in 70 seconds from minute 1, never from minute
+/// 2, and in 80 seconds from minute 4; so its durations are 130, 70, none, 140 and 80. The stop with number 1 is never
 /// reached but by a walk of 500 seconds.
 fn of_shares(alloc: Global, shares: &[u32]) -> Result<Vec<ShareCells>, AllocError>
     requires { All (λ share. share ≤ 100) shares.now }

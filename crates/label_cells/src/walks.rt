@@ -1,5 +1,5 @@
-//! Walks from the origin. They take as long in each minute, so a stop's cell is the lesser of the cell without walks and
-//! the least walk.
+//! Walks from the origin. They take as long in each minute, so a stop's cell is the lesser of the cell without walks
+//! and the least walk.
 ghost use Rattle.std.specs.Prelude.{◌≡◌, ◌≢◌, ◌+◌, ◌*◌, ◌/◌, ◌<◌, ◌≤◌, ◌⊎◌, ℕ, [], length, min, slice_index};
 ghost use Rattle.std.specs.Prelude.{slice_index_or};
 ghost use Rattle.timetable.specs.declared.least.TheConstants.{NEVER as NEVER_VALUE};
@@ -25,7 +25,7 @@ fn lower_lane(cells: &mut [Lanes], at: usize, l: usize, seconds: u32)
     cells[at][l] = cells[at][l].min(seconds);
 }
 
-/// Lowers the cells of a stop to some seconds, for each rank. The stop goes by its number.
+/// Lowers the cells of a stop to some seconds, for each rank. `number` is the stop's.
 fn lower_stop(cells: &mut [Lanes], ranks: usize, number: usize, seconds: u32)
     requires cells { number / 16 * ranks + ranks ≤ length cells.old }
     ensures same { length cells.new ≡ length cells.old }

@@ -1,4 +1,4 @@
-//! What a search leaves of a window of departures: the narrow labels of the searched minutes.
+//! The narrow labels that a search leaves for a window of departures.
 use timetable::StopNo;
 use useful_minutes::Found;
 
@@ -16,7 +16,7 @@ pub struct WindowLabels<'a> {
     pub minutes: u32,
     /// The number of each stop.
     pub numbers: &'a [u32],
-    /// The walks from the origin, and their seconds; a walk of 0 seconds to the origin itself is one of them. Stops go by
-    /// their numbers. There need be none if every minute was searched.
+    /// The walks from the origin, and their seconds; a walk of 0 seconds to the origin itself is one of them. Stops are
+    /// given by their numbers. There need be none if every minute was searched.
     pub walks: &'a [(StopNo, u32)],
 }

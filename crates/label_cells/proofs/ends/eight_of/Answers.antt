@@ -9,4 +9,5 @@ returns c k h =
     let at = c.args.at in
     get_or-chunk {X = ℕ} 0 8 (take (at + 8 - at) (drop at found)) k 0 h
     ∙ (get_or-take (at + 8 - at) (drop at found) (0 + k) 0 (omega arith)
-    ∙ (get_or-drop at found (0 + k) 0 ∙ ap (λ (i : ℕ). get_or found i 0) (let e : at + (0 + k) ≡ at + k = omega arith in e)))
+    ∙ (get_or-drop at found (0 + k) 0 ∙ ap (λ (i : ℕ). get_or found i 0) (let e : at + (0 + k) ≡ at + k = omega arith
+    in e)))

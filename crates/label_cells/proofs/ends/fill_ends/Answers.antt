@@ -1,4 +1,5 @@
-use Rattle.std.proofs.Common.{◌≡◌, ◌≢◌, ◌≤◌, ◌<◌, ◌+◌, ◌*◌, ◌/◌, ◌%◌, ◌++◌, ◌∷◌, [], ℕ, Bool, false, List, length, slice_index, slice_index_or, inl, inr, ap, sym, subst, ◌∙◌, arith}
+use Rattle.std.proofs.Common.{◌≡◌, ◌≢◌, ◌≤◌, ◌<◌, ◌+◌, ◌*◌, ◌/◌, ◌%◌, ◌++◌, ◌∷◌, [], ℕ, Bool, false, List, length}
+use Rattle.std.proofs.Common.{slice_index, slice_index_or, inl, inr, ap, sym, subst, ◌∙◌, arith}
 use Rattle.std.proofs.lemmas.Bool.{cases_lt}
 use Rattle.std.proofs.lemmas.List.{length-append, get_or_append_left, get_or_at}
 use Rattle.label_cells.specs.Runs.{AreEnds, GoesOn}
@@ -60,7 +61,8 @@ loop-j-preserved c =
       size = (let long = ap (λ (xs : List Bool). length xs) pushed in
           let app = length-append ends (end ∷ []) in
           omega (arith, long, app, size));
-      eight = λ inside. subst (λ (b : ℕ). AreSame found from width same b) (let e : j / 8 ≡ (j + 1) / 8 = omega (arith, inside) in e) are;
+      eight = λ inside. subst (λ (b : ℕ). AreSame found from width same b) (let e : j / 8 ≡ (j + 1) / 8 = omega
+          (arith, inside) in e) are;
       others = λ l i h less. subst (λ (xs : List Bool). slice_index_or xs i false ≡ false →
           GoesOn (lane_of found from width (length bases) l) bases i) (sym pushed) (λ is. elim (cases_lt i j) [
             | inl lt ↦ c.loop-j.invariant.others l i h lt
@@ -71,7 +73,8 @@ loop-j-preserved c =
                 subst (λ (p : ℕ). GoesOn (lane_of found from width (length bases) l) bases p) e
                 (goes_on found same bases from width j l (omega (arith, c.requires.space))
                 (omega (arith, c.requires.width, c.requires.positions.too)) h are
-                (c.is_end.ensures.within open_here) (c.is_end.ensures.base open_here) (c.is_end.ensures.label open_here))
+                (c.is_end.ensures.within open_here) (c.is_end.ensures.base open_here) (c.is_end.ensures.label
+                open_here))
           ]);
     }
 
@@ -83,7 +86,8 @@ returns c l h =
     let ends = c.loop-j.ends.items in
     let long = length-lane found c.args.from w.found.width (length bases) l (omega (arith, c.requires.space))
     (omega (arith, c.requires.width, c.requires.positions.too)) h in
-    subst (λ (k : ℕ). AreEnds (lane_of found c.args.from w.found.width k l) bases ends) c.requires.positions.too (record {
+    subst (λ (k : ℕ). AreEnds (lane_of found c.args.from w.found.width k l) bases ends) c.requires.positions.too
+    (record {
       long = (let size = c.loop-j.invariant.size in
           omega (arith, long, size, c.loop-j-test.false, c.loop-j.auto.j-end));
       others = λ i less is. c.loop-j.invariant.others l i h (omega (arith, long, less, c.loop-j-test.false)) is;

@@ -10,5 +10,6 @@ invariant-loop-j v = record {
       slice_index v.window.found.labels.now (v.from + l * v.window.found.width + (v.j / 8) * 8 + k)
       ≡ slice_index v.window.found.labels.now (v.from + l * v.window.found.width + (v.j / 8) * 8 + k + 1);
   others : (l i : ℕ) → l < 16 → i < v.j → slice_index_or v.ends.items i false ≡ false →
-      GoesOn (lane_of v.window.found.labels.now v.from v.window.found.width (length v.window.found.bases.now) l) v.window.found.bases.now i;
+      GoesOn (lane_of v.window.found.labels.now v.from v.window.found.width (length v.window.found.bases.now) l)
+      v.window.found.bases.now i;
 }

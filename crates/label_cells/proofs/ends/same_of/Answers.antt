@@ -10,4 +10,5 @@ returns c k h =
     let next = c.args.next in
     let same = c.args.same in
     sel_at w16 8 eqb here next same (replicate 8 0) k h (omega arith) (omega arith) (omega arith) refl
-    ∙ ap (λ (z : ℕ). cond (eqb (get_or here k 0) (get_or next k 0)) (get_or same k 0) z) (get_or-replicate {A = ℕ} 8 k 0 0 h)
+    ∙ ap (λ (z : ℕ). cond (eqb (get_or here k 0) (get_or next k 0)) (get_or same k 0) z) (get_or-replicate {A = ℕ} 8
+    k 0 0 h)

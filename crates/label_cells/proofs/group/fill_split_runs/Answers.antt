@@ -21,12 +21,16 @@ loop-run-preserved c =
       size = (let long = ap (λ (xs : List SplitRun). length xs) pushed in
           let app = length-append rows (row ∷ []) in
           omega (arith, long, app, size));
-      parts = subst (λ (xs : List SplitRun). (l i : ℕ) → l < 16 → i < n + 1 → IsSplitRun (slice_index low l) (shortest_at runs l i)
+      parts = subst (λ (xs : List SplitRun). (l i : ℕ) → l < 16 → i < n + 1 → IsSplitRun (slice_index low l)
+          (shortest_at runs l i)
           (span_in runs i) (whole_at xs l i) (rest_at xs l i) (reached_at xs l i)) (sym pushed)
-          (parts_more low (shortest_at runs) (span_in runs) n rows row size c.loop-run.invariant.parts c.split.ensures.part);
+          (parts_more low (shortest_at runs) (span_in runs) n rows row size c.loop-run.invariant.parts
+          c.split.ensures.part);
       wholes = subst (λ (xs : List SplitRun). (l i : ℕ) → l < 16 → i < n + 1 → whole_at xs l i ≤ 1092) (sym pushed)
-          (wholes_more low (shortest_at runs) (span_in runs) n rows row size c.loop-run.invariant.wholes c.split.ensures.small);
-      spans = subst (λ (xs : List SplitRun). (l : ℕ) → l < 16 → sum_to (reached_at xs l) (n + 1) ≤ sum_to (span_in runs) (n + 1))
+          (wholes_more low (shortest_at runs) (span_in runs) n rows row size c.loop-run.invariant.wholes
+          c.split.ensures.small);
+      spans = subst (λ (xs : List SplitRun). (l : ℕ) → l < 16 → sum_to (reached_at xs l) (n + 1) ≤ sum_to (span_in
+          runs) (n + 1))
           (sym pushed) (λ l h. spans_more low (shortest_at runs) (span_in runs) n rows row size l
           (c.loop-run.invariant.spans l h) (part_few (slice_index low l) (shortest_at runs l n) (span_in runs n)
           (slice_index row.whole l) (slice_index row.rest l) (slice_index row.span l) (c.split.ensures.part l h)));

@@ -12,7 +12,11 @@ loop-run-init c = record {
 
 pub loop-run-preserved : goal.loop-run-preserved
 loop-run-preserved c = record {
-  fits = λ l h. let is = c.lower_of-lower.ensures l h in let old = c.loop-run.invariant.fits l h in omega (arith, is, old);
+  fits = λ l h. let is = c.lower_of-lower.ensures l h in let old = c.loop-run.invariant.fits l h in omega (
+    arith,
+    is,
+    old,
+  );
   low = λ l i h less.
       let n = c.loop-run.run-index in
       let is = c.lower_of-lower.ensures l h in

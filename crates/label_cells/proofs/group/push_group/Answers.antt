@@ -15,7 +15,8 @@ returns c =
     let runs = c.in_ok-summary.ensures.runs in
     on_ok_weaker {P = AddsRanks c.as_slice-rows.result.now summary.low ranks old new}
     {Q = AddsGroup w c.args.from ranks old new} c.push_ranks.result (λ those.
-    let are = subst (λ (xs : List SplitRun). AddsRanks xs summary.low ranks old new) c.as_slice-rows.ensures.value those in
+    let are = subst (λ (xs : List SplitRun). AddsRanks xs summary.low ranks old new) c.as_slice-rows.ensures.value
+    those in
     record {
       size = are.size;
       kept = are.kept;

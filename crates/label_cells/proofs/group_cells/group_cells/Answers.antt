@@ -2,7 +2,8 @@ use Rattle.std.proofs.Common.{◌≡◌, ◌≤◌, ◌<◌, ◌+◌, ◌*◌, �
 use Rattle.std.proofs.Math.Nat.{mul-le-mul_right}
 use Rattle.label_cells.proofs.GroupCells.{AreCellsBefore, cells_more, cells_skipped}
 use Rattle.label_cells.proofs.group_cells.group_cells.Goals as goal
-use Rattle.label_cells.proofs.group_cells.group_cells.Goals.{then-used-group+in_ok-push_group, else-used-group+in_ok-push_unused}
+use Rattle.label_cells.proofs.group_cells.group_cells.Goals.{then-used-group+in_ok-push_group}
+use Rattle.label_cells.proofs.group_cells.group_cells.Goals.{else-used-group+in_ok-push_unused}
 
 -- the labels of a group lie among those of all
 group_space : (n g width size : ℕ) → g < (n + 15) / 16 → (n + 15) * width + 8 ≤ size →

@@ -22,6 +22,7 @@ returns c =
     c.lower_walks.ensures.walked in
     rw back (record {
       size = same ∙ c.in_ok-cells.ensures.size;
-      each = cell_with_walks w c.args.used.now ranks cells.items new c.in_ok-cells.ensures c.requires.used c.requires.ranks
+      each = cell_with_walks w c.args.used.now ranks cells.items new c.in_ok-cells.ensures c.requires.used
+          c.requires.ranks
           walked;
     })

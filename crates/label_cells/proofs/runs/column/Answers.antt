@@ -17,7 +17,8 @@ loop-l-preserved c =
         | inl lt ↦ get_or-set_other labels n k x 0 (λ e. omega (arith, e, lt)) ∙ c.loop-l.invariant.labels k lt
         | inr ge ↦
             let e : n ≡ k = omega (arith, less, ge) in
-            subst (λ (i : ℕ). slice_index (set labels n x) i ≡ slice_index found (c.args.from + i * c.args.width + c.args.j)) e
+            subst (λ (i : ℕ). slice_index (set labels n x) i ≡ slice_index found (c.args.from + i * c.args.width +
+            c.args.j)) e
             (get_or-set_same labels n x 0 (omega (arith, long, c.loop-l-test.true)))
       ];
     }

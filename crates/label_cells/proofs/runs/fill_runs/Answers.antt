@@ -1,18 +1,22 @@
-use Rattle.std.proofs.Common.{◌≡◌, ◌≤◌, ◌<◌, ◌+◌, ◌*◌, ◌-◌, ◌++◌, ◌∷◌, [], ℕ, Bool, List, Option, Vec, Global, length, slice_index, ap, sym, subst, ◌∙◌, arith}
+use Rattle.std.proofs.Common.{◌≡◌, ◌≤◌, ◌<◌, ◌+◌, ◌*◌, ◌-◌, ◌++◌, ◌∷◌, [], ℕ, Bool, List, Option, Vec, Global, length}
+use Rattle.std.proofs.Common.{slice_index, ap, sym, subst, ◌∙◌, arith}
 use Rattle.label_cells.specs.Durations.{AreDurations}
 use Rattle.label_cells.specs.Runs.{IsRun, AreEnds}
 use Rattle.label_cells.specs.Sums.{sum_to}
-use Rattle.label_cells.proofs.RunsOfPositions.{IsLeft, AreBegun, left_few, left_end, left_on, left_last, run_here, begun_end, begun_on}
+use Rattle.label_cells.proofs.RunsOfPositions.{IsLeft, AreBegun, left_few, left_end, left_on, left_last, run_here}
+use Rattle.label_cells.proofs.RunsOfPositions.{begun_end, begun_on}
 use Rattle.label_cells.specs.declared.runs.Run.{Run}
 use Rattle.label_cells.specs.Windows.{ArePositions, AreSince, lane_of, shortest_at, span_in}
 use Rattle.label_cells.proofs.LanesOfGroups.{length-lane, lane_at, are_labels, nevers, never_labels, never_ends}
-use Rattle.label_cells.proofs.ListsOfRuns.{longer, same_shortest, same_span, new_shortest, new_span, span_more, fits_more}
+use Rattle.label_cells.proofs.ListsOfRuns.{longer, same_shortest, same_span, new_shortest, new_span, span_more}
+use Rattle.label_cells.proofs.ListsOfRuns.{fits_more}
 use Rattle.label_cells.proofs.runs.fill_runs.Goals as goal
 use Rattle.label_cells.proofs.runs.fill_runs.Goals.{then-ends-j+in_ok-push, else-ends-j}
 
 pub bounds-ends-j : goal.bounds-ends-j
 bounds-ends-j c =
-    let long = length-lane c.args.window.found.labels.now c.args.from c.args.window.found.width (length c.args.window.searched.now) 0 c.requires.space
+    let long = length-lane c.args.window.found.labels.now c.args.from c.args.window.found.width (length
+    c.args.window.searched.now) 0 c.requires.space
     c.requires.width (omega arith) in
     let size = (c.requires.ends 0 (omega arith)).long in
     omega (arith, long, size)
@@ -23,11 +27,14 @@ overflow_sub-upto c =
     let bases = c.args.window.found.bases.now in
     let k = length searched in
     let are = never_labels bases searched c.args.window.first c.args.window.minutes c.requires.positions in
-    let long = length-lane c.args.window.found.labels.now c.args.from c.args.window.found.width (length searched) 0 c.requires.space
+    let long = length-lane c.args.window.found.labels.now c.args.from c.args.window.found.width (length searched) 0
+    c.requires.space
     c.requires.width (omega arith) in
-    let mark = never_ends (lane_of c.args.window.found.labels.now c.args.from c.args.window.found.width (length searched) 0) bases c.args.ends.now
+    let mark = never_ends (lane_of c.args.window.found.labels.now c.args.from c.args.window.found.width (length
+    searched) 0) bases c.args.ends.now
     (length searched) long (c.requires.ends 0 (omega arith)) in
-    let low = left_few (nevers (length searched)) bases searched c.args.window.first c.args.window.minutes c.args.ends.now are mark
+    let low = left_few (nevers (length searched)) bases searched c.args.window.first c.args.window.minutes
+    c.args.ends.now are mark
     c.loop-j.j c.loop-j.was c.loop-j-test.true c.loop-j.invariant.left in
     omega (arith, low)
 
@@ -38,7 +45,8 @@ Preserved found from width bases searched first minutes ends j was runs = record
   few : length runs ≤ was;
   fits : (l i : ℕ) → l < 16 → i < length runs → shortest_at runs l i ≤ 65535;
   left : IsLeft searched ends j was;
-  begun : (l : ℕ) (ds : ℕ → Option ℕ) → l < 16 → AreSince (lane_of found from width (length searched) l) bases searched first →
+  begun : (l : ℕ) (ds : ℕ → Option ℕ) → l < 16 → AreSince (lane_of found from width (length searched) l) bases
+      searched first →
       AreDurations (lane_of found from width (length searched) l) bases searched first minutes ds →
       AreBegun (lane_of found from width (length searched) l) bases searched first ds j was (shortest_at runs l)
       (span_in runs) (length runs);
@@ -59,7 +67,8 @@ loop-j-preserved c =
     let long : (l : ℕ) → l < 16 → length (lane l) ≡ length searched =
     λ l h. length-lane found from width (length searched) l c.requires.space c.requires.width h in
     let are = never_labels bases searched first minutes c.requires.positions in
-    let mark = never_ends (lane 0) bases ends (length searched) (long 0 (omega arith)) (c.requires.ends 0 (omega arith)) in
+    let mark = never_ends (lane 0) bases ends (length searched) (long 0 (omega arith)) (c.requires.ends 0 (omega
+    arith)) in
     let j = c.loop-j.j in
     let was = c.loop-j.was in
     let runs = c.loop-j.runs.items in
@@ -80,7 +89,8 @@ loop-j-preserved c =
           let one_longer = longer runs run in
           let begun : (l : ℕ) (ds : ℕ → Option ℕ) → l < 16 → AreSince (lane l) bases searched first →
           AreDurations (lane l) bases searched first minutes ds →
-          AreBegun (lane l) bases searched first ds (j + 1) (slice_index searched j + 1) (shortest_at (runs ++ run ∷ []) l)
+          AreBegun (lane l) bases searched first ds (j + 1) (slice_index searched j + 1) (shortest_at (runs ++ run ∷
+          []) l)
           (span_in (runs ++ run ∷ [])) (length (runs ++ run ∷ [])) = λ l ds h since counted.
           let are_lane = are_labels (lane l) bases searched first minutes c.requires.positions (long l h) since in
           let mark_lane = c.requires.ends l h in
@@ -91,12 +101,19 @@ loop-j-preserved c =
           (let f = w.column-labels.ensures.fits l h in omega (arith, f, label)) in
           let base = are_lane.before j here in
           let one : IsRun ds was (slice_index shortest l) span = run_here (lane l) bases searched first minutes ends
-          are_lane mark_lane ds counted j was (slice_index shortest l) (length runs) (shortest_at runs l) (span_in runs) here
+          are_lane mark_lane ds counted j was (slice_index shortest l) (length runs) (shortest_at runs l) (span_in
+          runs) here
           (old.begun l ds h since counted) low (λ e. w.shortest_of-shortest.ensures.never l h (label ∙ e)) (λ ne.
           let since_here = are_lane.since j here ne in
-          let sum = w.shortest_of-shortest.ensures.counted l h (λ e. ne (sym label ∙ e)) (omega (arith, since_here, base, label)) in
+          let sum = w.shortest_of-shortest.ensures.counted l h (λ e. ne (sym label ∙ e)) (omega (
+            arith,
+            since_here,
+            base,
+            label,
+          )) in
           omega (arith, sum, since_here, base, label)) fits in
-          let new : IsRun ds was (shortest_at (runs ++ run ∷ []) l (length runs)) (span_in (runs ++ run ∷ []) (length runs)) =
+          let new : IsRun ds was (shortest_at (runs ++ run ∷ []) l (length runs)) (span_in (runs ++ run ∷ []) (length
+          runs)) =
           subst (λ (x : ℕ). IsRun ds was x (span_in (runs ++ run ∷ []) (length runs))) (sym (new_shortest runs run l))
           (subst (λ (s : ℕ). IsRun ds was (slice_index shortest l) s) (sym (new_span runs run)) one) in
           subst (λ (n : ℕ). AreBegun (lane l) bases searched first ds (j + 1) (slice_index searched j + 1)
@@ -104,7 +121,8 @@ loop-j-preserved c =
           (begun_end (lane l) bases searched first minutes ends are_lane mark_lane ds counted j was (length runs)
           (shortest_at runs l) (span_in runs) (shortest_at (runs ++ run ∷ []) l) (span_in (runs ++ run ∷ [])) old.all
           (old.begun l ds h since counted) (same_shortest runs run l) (same_span runs run) new) in
-          subst (λ (x : ℕ). Preserved found from width bases searched first minutes ends (j + 1) x c.if-ends-j.runs.items)
+          subst (λ (x : ℕ). Preserved found from width bases searched first minutes ends (j + 1) x
+          c.if-ends-j.runs.items)
           end
           (subst (λ (rs : List Run). Preserved found from width bases searched first minutes ends (j + 1)
           (slice_index searched j + 1) rs) pushed (record {
@@ -135,18 +153,21 @@ all_minutes found bases searched from width first minutes j was ends positions r
     left_last (nevers (length searched)) bases searched first minutes ends
     (never_labels bases searched first minutes positions)
     (never_ends (lane_of found from width (length searched) 0) bases ends (length searched)
-    (length-lane found from width (length searched) 0 room fits (omega arith)) (marks 0 (omega arith))) j was up low left
+    (length-lane found from width (length searched) 0 room fits (omega arith)) (marks 0 (omega arith))) j was up low
+    left
 
 pub returns-clause-all : goal.returns-clause-all
 returns-clause-all c = c.loop-j.invariant.all
-    ∙ all_minutes c.args.window.found.labels.now c.args.window.found.bases.now c.args.window.searched.now c.args.from c.args.window.found.width c.args.window.first
+    ∙ all_minutes c.args.window.found.labels.now c.args.window.found.bases.now c.args.window.searched.now c.args.from
+    c.args.window.found.width c.args.window.first
     c.args.window.minutes c.loop-j.j c.loop-j.was c.args.ends.now c.requires.positions c.requires.space c.requires.width
     c.requires.ends c.loop-j-test.false c.loop-j.auto.j-end c.loop-j.invariant.left
 
 pub returns-clause-few : goal.returns-clause-few
 returns-clause-few c =
     let few = c.loop-j.invariant.few in
-    let all = all_minutes c.args.window.found.labels.now c.args.window.found.bases.now c.args.window.searched.now c.args.from c.args.window.found.width c.args.window.first
+    let all = all_minutes c.args.window.found.labels.now c.args.window.found.bases.now c.args.window.searched.now
+    c.args.from c.args.window.found.width c.args.window.first
     c.args.window.minutes c.loop-j.j c.loop-j.was c.args.ends.now c.requires.positions c.requires.space c.requires.width
     c.requires.ends c.loop-j-test.false c.loop-j.auto.j-end c.loop-j.invariant.left in
     omega (arith, few, all)
@@ -155,7 +176,9 @@ pub returns-clause-runs : goal.returns-clause-runs
 returns-clause-runs c l ds h since counted = record {
   each = (c.loop-j.invariant.begun l ds h since counted).each;
   all = c.loop-j.invariant.all
-      ∙ all_minutes c.args.window.found.labels.now c.args.window.found.bases.now c.args.window.searched.now c.args.from c.args.window.found.width c.args.window.first
-      c.args.window.minutes c.loop-j.j c.loop-j.was c.args.ends.now c.requires.positions c.requires.space c.requires.width
+      ∙ all_minutes c.args.window.found.labels.now c.args.window.found.bases.now c.args.window.searched.now
+      c.args.from c.args.window.found.width c.args.window.first
+      c.args.window.minutes c.loop-j.j c.loop-j.was c.args.ends.now c.requires.positions c.requires.space
+      c.requires.width
       c.requires.ends c.loop-j-test.false c.loop-j.auto.j-end c.loop-j.invariant.left;
 }

@@ -12,8 +12,11 @@ invariant-loop-j v = record {
   fits : (l i : ℕ) → l < 16 → i < length v.runs.items → shortest_at v.runs.items l i ≤ 65535;
   left : IsLeft v.window.searched.now v.ends v.j v.was;
   begun : (l : ℕ) (ds : ℕ → Option ℕ) → l < 16 →
-      AreSince (lane_of v.window.found.labels.now v.from v.window.found.width (length v.window.searched.now) l) v.window.found.bases.now v.window.searched.now v.window.first →
-      AreDurations (lane_of v.window.found.labels.now v.from v.window.found.width (length v.window.searched.now) l) v.window.found.bases.now v.window.searched.now v.window.first v.window.minutes ds →
-      AreBegun (lane_of v.window.found.labels.now v.from v.window.found.width (length v.window.searched.now) l) v.window.found.bases.now v.window.searched.now v.window.first ds v.j v.was
+      AreSince (lane_of v.window.found.labels.now v.from v.window.found.width (length v.window.searched.now) l)
+      v.window.found.bases.now v.window.searched.now v.window.first →
+      AreDurations (lane_of v.window.found.labels.now v.from v.window.found.width (length v.window.searched.now) l)
+      v.window.found.bases.now v.window.searched.now v.window.first v.window.minutes ds →
+      AreBegun (lane_of v.window.found.labels.now v.from v.window.found.width (length v.window.searched.now) l)
+      v.window.found.bases.now v.window.searched.now v.window.first ds v.j v.was
       (shortest_at v.runs.items l) (span_in v.runs.items) (length v.runs.items);
 }

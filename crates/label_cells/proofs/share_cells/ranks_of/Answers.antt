@@ -1,4 +1,5 @@
-use Rattle.std.proofs.Common.{◌≡◌, ◌≤◌, ◌<◌, ◌+◌, ◌*◌, ◌/◌, ◌++◌, ◌∷◌, [], ℕ, List, length, slice_index, sym, subst, refl, arith}
+use Rattle.std.proofs.Common.{◌≡◌, ◌≤◌, ◌<◌, ◌+◌, ◌*◌, ◌/◌, ◌++◌, ◌∷◌, [], ℕ, List, length, slice_index, sym, subst}
+use Rattle.std.proofs.Common.{refl, arith}
 use Rattle.std.proofs.lemmas.List.Elements.{All-get_or}
 use Rattle.label_cells.proofs.PushedElements.{pushed, longer_by_one}
 use Rattle.label_cells.proofs.SharesByRank.{rank_few}
@@ -25,7 +26,13 @@ returns-clause-ranks c = record {
 
 pub returns-clause-few : goal.returns-clause-few
 returns-clause-few c k less =
-    let there : k < length c.args.shares.now = omega (arith, less, c.loop-share.invariant.count, c.loop-share-test.false, c.loop-share.auto.share-index-end) in
+    let there : k < length c.args.shares.now = omega (
+      arith,
+      less,
+      c.loop-share.invariant.count,
+      c.loop-share-test.false,
+      c.loop-share.auto.share-index-end,
+    ) in
     let share = All-get_or (λ (share : ℕ). share ≤ 100) c.args.shares.now k 0 there c.requires.shares in
     let is = c.loop-share.invariant.each k (omega (arith, less, c.loop-share.invariant.count)) in
     let few = rank_few c.args.minutes (slice_index c.args.shares.now k) share in

@@ -23,13 +23,19 @@ loop-i-preserved c =
     record {
       each = λ i l seconds less h few. elim (cases_lt i n) [
         | inl before ↦
-            ap (λ (xs : List ℕ). ltb (slice_index xs l) seconds) (get_or-set_other covering n i here [] (λ e. omega (arith, e, before)))
+            ap (λ (xs : List ℕ). ltb (slice_index xs l) seconds) (get_or-set_other covering n i here [] (λ e. omega
+            (arith, e, before)))
             ∙ c.loop-i.invariant.each i l seconds before h few
         | inr no_less ↦
             let e : n ≡ i = omega (arith, less, no_less) in
             subst (λ (k : ℕ). ltb (slice_index (slice_index_or (set covering n here) k []) l) seconds
             ≡ covers (slice_index at l) seconds (whole_at rows l k) (rest_at rows l k) (reached_at rows l k)) e
-            (ap (λ (xs : List ℕ). ltb (slice_index xs l) seconds) (get_or-set_same covering n here [] (omega (arith, c.loop-i.auto.covering, c.requires.size, c.loop-i-test.true)))
+            (ap (λ (xs : List ℕ). ltb (slice_index xs l) seconds) (get_or-set_same covering n here [] (omega (
+              arith,
+              c.loop-i.auto.covering,
+              c.requires.size,
+              c.loop-i-test.true,
+            )))
             ∙ c.covering_of.ensures l seconds h few)
       ];
     }

@@ -39,7 +39,8 @@ loop-row-preserved c =
                 let e : i ≡ n = omega (arith, less, ge) in
                 let there : reached_at rows l n ≢ 0 = subst (λ (k : ℕ). reached_at rows l k ≢ 0) e ne in
                 let end = c.end_of-end.ensures l h
-                ∙ ap (λ (b : Bool). cond b 0 (whole_at rows l n + reached_at rows l n)) (ne_eqb (reached_at rows l n) 0 there) in
+                ∙ ap (λ (b : Bool). cond b 0 (whole_at rows l n + reached_at rows l n)) (ne_eqb (reached_at rows l n)
+                0 there) in
                 let w = ap (λ (k : ℕ). whole_at rows l k) e in
                 let v = ap (λ (k : ℕ). reached_at rows l k) e in
                 omega (arith, end, is, w, v)

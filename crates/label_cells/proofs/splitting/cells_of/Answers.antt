@@ -1,4 +1,5 @@
-use Rattle.std.proofs.Common.{◌≡◌, ◌<◌, ◌+◌, ◌*◌, ◌%◌, ℕ, List, cond, ltb, get_or, length, replicate, refl, sym, ap, ◌∙◌, arith}
+use Rattle.std.proofs.Common.{◌≡◌, ◌<◌, ◌+◌, ◌*◌, ◌%◌, ℕ, List, cond, ltb, get_or, length, replicate, refl, sym, ap}
+use Rattle.std.proofs.Common.{◌∙◌, arith}
 use Rattle.std.proofs.lemmas.List.{map-id}
 use Rattle.std.proofs.lemmas.Simd.{get_or-replicate, get_or-zip2, length-zip2}
 use Rattle.trip_lanes.proofs.VectorChoices.{chosen, sel_at}
@@ -47,4 +48,5 @@ returns c l h =
     let rank = c.args.rank in
     (λ i. get_or (chosen w32 ltb (map-id known i) (replicate 16 rank) (replicate 16 4294967295)
     (zip2 plus (zip2 times (map-id minutes i) (replicate 16 60)) (map-id rest i))) l 0)
-    ∙ lane known minutes rest rank l h (omega arith) (omega arith) (omega arith) (c.requires.minutes l h) (c.requires.rest l h)
+    ∙ lane known minutes rest rank l h (omega arith) (omega arith) (omega arith) (c.requires.minutes l h)
+    (c.requires.rest l h)

@@ -10,5 +10,6 @@ returns c l h =
     let never = get_or-replicate {A = ℕ} 16 l 65535 0 h in
     let none = get_or-replicate {A = ℕ} 16 l 0 0 h in
     let span = get_or-replicate {A = ℕ} 16 l c.args.span 0 h in
-    sel_at w16 16 eqb shortest (replicate 16 65535) (replicate 16 0) (replicate 16 c.args.span) l h (omega arith) refl refl refl
+    sel_at w16 16 eqb shortest (replicate 16 65535) (replicate 16 0) (replicate 16 c.args.span) l h (omega arith)
+    refl refl refl
     ∙ (λ i. cond (eqb (get_or shortest l 0) (never i)) (none i) (span i))
