@@ -1,5 +1,5 @@
 -- Access is a sum over the stops, to which a stop without opportunities adds nothing.
-use Rattle.std.proofs.Common.{◌≡◌, ◌≢◌, ◌≤◌, ◌<◌, ◌+◌, ◌-◌, ◌*◌, ◌==◌, ℕ, zero, suc, Bool, List, [], ◌∷◌, Option}
+use Rattle.std.proofs.Common.{◌≡◌, ◌≢◌, ◌≤◌, ◌+◌, ℕ, zero, suc, Bool, List, [], ◌∷◌, Option}
 use Rattle.std.proofs.Common.{None, Some, length}
 use Rattle.std.proofs.Common.{slice_index, slice_index_or, min, if◌then◌else◌, ap, refl, inl, inr, sym, ◌∙◌, arith}
 use Rattle.std.specs.Prelude.{nat_le}
@@ -8,7 +8,6 @@ use Rattle.std.proofs.lemmas.Bool.Decides.{nat_tests}
 use Rattle.rounds.specs.Table.{known_of}
 use Rattle.shares.specs.Opportunities.{access_of, counted}
 use Rattle.label_cells.specs.Sums.{sum_to}
-use Rattle.label_cells.proofs.SumsOfPlaces.{sum_same}
 
 sum_first : (f : ℕ → ℕ) (n : ℕ) → sum_to f (suc n) ≡ f 0 + sum_to (λ i. f (suc i)) n
 sum_first f zero = omega arith

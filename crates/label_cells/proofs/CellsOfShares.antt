@@ -1,12 +1,12 @@
 -- Cells by rank are the cells and the access of a table of durations, for each share.
-use Rattle.std.proofs.Common.{◌≡◌, ◌≢◌, ◌≤◌, ◌<◌, ◌+◌, ◌*◌, ◌/◌, ℕ, Bool, List, Option, Some, None, length, slice_get}
+use Rattle.std.proofs.Common.{◌≡◌, ◌≢◌, ◌<◌, ◌+◌, ◌*◌, ◌/◌, ℕ, Bool, List, Option, None, length}
 use Rattle.std.proofs.Common.{slice_index, slice_index_or, ap, sym, subst, ◌∙◌, arith}
 use Rattle.std.specs.List.{All}
 use Rattle.std.proofs.lemmas.List.Elements.{All-get_or}
 use Rattle.std.proofs.lemmas.Option.{slice_get_within, get_or_from_slice_get}
 use Rattle.timetable.specs.declared.trips.StopNo.{StopNo}
 use Rattle.rounds.specs.Table.{DurationTable, at, known_of, IsLeastOrNone}
-use Rattle.shares.specs.Percentiles.{AreCells, AreCellsAt, Attains, IsCell}
+use Rattle.shares.specs.Percentiles.{AreCellsAt, Attains, IsCell}
 use Rattle.shares.specs.Opportunities.{IsAccess, counted}
 use Rattle.shares.proofs.CellsUnique.{cell_unique}
 use Rattle.shares.proofs.MinutesWithinLimits.{cell_alike}
@@ -15,9 +15,8 @@ use Rattle.label_cells.specs.declared.share_cells.ShareCells.{ShareCells}
 use Rattle.label_cells.specs.declared.window.WindowLabels.{WindowLabels}
 use Rattle.label_cells.specs.Durations.{IsCellOf, lesser}
 use Rattle.label_cells.specs.Groups.{AreRankCells, cell_at, is_used, stop_at}
-use Rattle.label_cells.specs.ShareCells.{AreOfRanks, ArePicked, AreRanks, AreShareCells, AreStopCells, AreSums}
+use Rattle.label_cells.specs.ShareCells.{AreOfRanks, ArePicked, AreRanks, AreShareCells, AreStopCells}
 use Rattle.label_cells.specs.ShareCells.{IsOfRank}
-use Rattle.label_cells.specs.ShareCells.{IsShareCells}
 use Rattle.label_cells.specs.Sums.{sum_to}
 use Rattle.label_cells.specs.Windows.{AreWindowLabels, Represent, least_walk}
 use Rattle.label_cells.proofs.AccessByStop.{access_is_sum, counted_same}

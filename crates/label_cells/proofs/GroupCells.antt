@@ -1,13 +1,12 @@
 -- The cells of a group more, and the cells of all stops.
-use Rattle.std.proofs.Common.{◌≡◌, ◌≤◌, ◌<◌, ◌+◌, ◌*◌, ◌/◌, ◌%◌, ℕ, [], Bool, true, false, List, Option, Some, length}
+use Rattle.std.proofs.Common.{◌≡◌, ◌<◌, ◌+◌, ◌*◌, ℕ, [], Bool, true, false, List, Option, length}
 use Rattle.std.proofs.Common.{slice_index, slice_index_or, inl, inr, ap, sym, subst, ◌∙◌, arith}
-use Rattle.std.proofs.Math.Nat.{mul-le-mul_right}
 use Rattle.std.proofs.lemmas.Bool.{cases_lt, both_ways}
 use Rattle.rounds.specs.Table.{known_of}
 use Rattle.useful_minutes.proofs.FilledLabels.{position_before, next_chunks}
 use Rattle.label_cells.specs.declared.window.WindowLabels.{WindowLabels}
 use Rattle.label_cells.specs.Durations.{IsCellOf}
-use Rattle.label_cells.specs.Groups.{AddsGroup, AddsUnused, AreLaneDurations}
+use Rattle.label_cells.specs.Groups.{AddsGroup, AreLaneDurations}
 
 -- the cells of the used groups before one
 pub record AreCellsBefore (w : WindowLabels) (used : List Bool) (ranks : List ℕ) (groups : ℕ) (cells : List (List ℕ)) :

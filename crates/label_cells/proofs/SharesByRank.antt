@@ -1,9 +1,8 @@
 -- The cell of a share is that of its rank.
-use Rattle.std.proofs.Common.{◌≡◌, ◌≤◌, ◌<◌, ◌+◌, ◌*◌, ◌/◌, ℕ, zero, suc, Bool, Option, Some, None, ap, refl, arith}
-use Rattle.std.proofs.Common.{if◌then◌else◌}
+use Rattle.std.proofs.Common.{◌≤◌, ◌+◌, ◌*◌, ◌/◌, ℕ, Option, Some, None, arith}
 use Rattle.std.proofs.Math.Nat.{mul-le-mul_right}
 use Rattle.rounds.specs.Table.{IsLeastOrNone}
-use Rattle.shares.specs.Percentiles.{Attains, is_within, minutes_within}
+use Rattle.shares.specs.Percentiles.{Attains}
 use Rattle.label_cells.specs.Durations.{IsCellOf}
 
 pub cell_for_share : (ds : ℕ → Option ℕ) (n share : ℕ) (cell : Option ℕ) →

@@ -1,12 +1,12 @@
 -- Stops by their numbers: in which lane of which group, and their cells with walks.
-use Rattle.std.proofs.Common.{◌≡◌, ◌≤◌, ◌<◌, ◌+◌, ◌*◌, ◌/◌, ◌%◌, ℕ, Bool, true, false, List, Option, Some, None, length}
-use Rattle.std.proofs.Common.{slice_index, slice_index_or, ap, sym, subst, ◌∙◌, arith}
+use Rattle.std.proofs.Common.{◌≡◌, ◌≤◌, ◌<◌, ◌+◌, ◌*◌, ◌/◌, ◌%◌, ℕ, Bool, List, Option, length}
+use Rattle.std.proofs.Common.{slice_index, ap, sym, subst, arith}
 use Rattle.std.proofs.lemmas.Nat.{row_fits}
 use lib.Lanes.{chunk}
 use Rattle.rounds.specs.Table.{known_of}
 use Rattle.label_cells.specs.declared.window.WindowLabels.{WindowLabels}
 use Rattle.label_cells.specs.Durations.{AreDurations, IsCellOf, lesser}
-use Rattle.label_cells.specs.Groups.{AreGroupCells, AreLaneDurations, AreRankCells, cell_at, group_lane, groups_of}
+use Rattle.label_cells.specs.Groups.{AreGroupCells, AreLaneDurations, cell_at, group_lane, groups_of}
 use Rattle.label_cells.specs.Groups.{is_used}
 use Rattle.label_cells.specs.Windows.{AreSince, labels_of, least_walk}
 use Rattle.label_cells.proofs.CellsWithWalks.{cell_walked}

@@ -1,4 +1,4 @@
-use Rattle.std.proofs.Common.{◌≡◌, ℕ, List, subst}
+use Rattle.std.proofs.Common.{List, subst}
 use Rattle.std.proofs.lemmas.Result.{on_ok_weaker}
 use Rattle.label_cells.specs.declared.split_runs.SplitRun.{SplitRun}
 use Rattle.label_cells.specs.Groups.{AddsGroup, AddsRanks}

@@ -1,4 +1,4 @@
-use Rattle.std.proofs.Common.{◌≡◌, ◌<◌, ℕ, List, length, ap, refl, subst, ◌∙◌, arith}
+use Rattle.std.proofs.Common.{◌≡◌, ◌<◌, ℕ, List, length, ap, refl, subst, ◌∙◌}
 use Rattle.rounds.specs.Table.{known_of}
 use Rattle.rounds.proofs.BoundedStops.{written}
 use Rattle.label_cells.specs.Durations.{lesser}

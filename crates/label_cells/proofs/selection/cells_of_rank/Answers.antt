@@ -1,4 +1,4 @@
-use Rattle.std.proofs.Common.{◌≡◌, ℕ, slice_index, refl}
+use Rattle.std.proofs.Common.{slice_index, refl}
 use Rattle.label_cells.proofs.CellsOfLanes.{cell_in_lane}
 use Rattle.label_cells.proofs.selection.cells_of_rank.Goals as goal
 

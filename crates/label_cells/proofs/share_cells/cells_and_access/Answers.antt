@@ -1,4 +1,4 @@
-use Rattle.std.proofs.Common.{◌≡◌, ◌≤◌, ◌<◌, ◌+◌, ◌*◌, ◌/◌, ℕ, Bool, List, Vec, Global, length, slice_index, ap}
+use Rattle.std.proofs.Common.{◌≡◌, ◌*◌, ℕ, Bool, List, Vec, Global, length, slice_index, ap}
 use Rattle.std.proofs.Common.{subst, sym, ◌∙◌, arith}
 use Rattle.std.proofs.lemmas.Result.{IfOk-weaker}
 use Rattle.rounds.specs.Table.{DurationTable}

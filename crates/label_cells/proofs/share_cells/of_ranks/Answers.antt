@@ -1,6 +1,5 @@
-use Rattle.std.proofs.Common.{◌≡◌, ◌<◌, ◌+◌, ℕ, length, subst, arith}
 use Rattle.label_cells.specs.declared.share_cells.ShareCells.{ShareCells}
-use Rattle.label_cells.specs.ShareCells.{AreOfRanks, IsOfRank}
+use Rattle.label_cells.specs.ShareCells.{IsOfRank}
 use Rattle.label_cells.proofs.PushedElements.{pushed, longer_by_one}
 use Rattle.label_cells.proofs.share_cells.of_ranks.Goals as goal
 

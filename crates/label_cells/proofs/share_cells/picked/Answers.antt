@@ -1,4 +1,4 @@
-use Rattle.std.proofs.Common.{◌≡◌, ◌<◌, ◌+◌, ℕ, Option, None, length, slice_index, refl, arith}
+use Rattle.std.proofs.Common.{◌≡◌, ℕ, Option, None, slice_index, arith}
 use Rattle.rounds.specs.Table.{known_of}
 use Rattle.label_cells.specs.Groups.{stop_at}
 use Rattle.label_cells.proofs.PushedElements.{pushed, longer_by_one}

@@ -1,4 +1,4 @@
-use Rattle.std.proofs.Common.{◌≡◌, ◌<◌, ◌+◌, ℕ, length, slice_index, refl, arith}
+use Rattle.std.proofs.Common.{◌≡◌, ℕ, slice_index, refl, arith}
 use Rattle.label_cells.specs.Groups.{cell_at}
 use Rattle.label_cells.proofs.PushedElements.{pushed, longer_by_one}
 use Rattle.label_cells.proofs.share_cells.stop_cells.Goals as goal

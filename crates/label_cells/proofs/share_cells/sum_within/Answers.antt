@@ -1,4 +1,4 @@
-use Rattle.std.proofs.Common.{◌≡◌, ◌+◌, ℕ, slice_index, if◌then◌else◌, ◌∙◌, ap, arith}
+use Rattle.std.proofs.Common.{ℕ, slice_index, if◌then◌else◌, ◌∙◌, ap, arith}
 use Rattle.std.specs.Prelude.{nat_le}
 use Rattle.rounds.specs.Table.{known_of}
 use Rattle.shares.specs.Opportunities.{counted}

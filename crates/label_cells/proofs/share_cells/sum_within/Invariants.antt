@@ -1,4 +1,4 @@
-use Rattle.std.proofs.Common.{◌≡◌, ◌≤◌, ◌*◌, ℕ, slice_index}
+use Rattle.std.proofs.Common.{◌≡◌, ◌≤◌, ◌*◌, slice_index}
 use Rattle.rounds.specs.Table.{known_of}
 use Rattle.shares.specs.Opportunities.{counted}
 use Rattle.label_cells.specs.Sums.{sum_to}

@@ -1,4 +1,4 @@
-use Rattle.std.proofs.Common.{◌≡◌, ◌<◌, ℕ, length, slice_index, arith}
+use Rattle.std.proofs.Common.{◌≡◌, ℕ, slice_index, arith}
 use Rattle.label_cells.specs.ShareCells.{access_by_stop}
 use Rattle.label_cells.proofs.PushedElements.{pushed, longer_by_one}
 use Rattle.label_cells.proofs.share_cells.sums_within.Goals as goal
