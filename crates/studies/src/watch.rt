@@ -33,10 +33,10 @@ pub trait Watch {
     fn tables_read(&self, feed: &Feed, direct: &Direct, origins: &[StopNo], destinations: &[StopNo])
         ensures told { saw self.now read }
         ensures tables { has_read self.now (record {
-            feed = feed.now;
-            direct = direct.now;
-            origins = origins.now;
-            destinations = destinations.now;
+          feed = feed.now;
+          direct = direct.now;
+          origins = origins.now;
+          destinations = destinations.now;
         }) };
 
     /// The scenario files are read, the runs of the study's days are listed, and the footpaths are closed; no network
@@ -52,11 +52,11 @@ pub trait Watch {
         requires after { saw self.now read }
         ensures told { saw self.now listed }
         ensures days { has_listed self.now (record {
-            feed = feed.now;
-            settings = settings.now;
-            scenarios = scenarios.now;
-            runs = runs.now;
-            feet = feet.now;
+          feed = feed.now;
+          settings = settings.now;
+          scenarios = scenarios.now;
+          runs = runs.now;
+          feet = feet.now;
         }) };
 
     /// The networks are made, and the workers are about to begin.
