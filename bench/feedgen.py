@@ -28,10 +28,10 @@ import sys
 from datetime import datetime, timedelta
 from typing import Iterator, Sequence
 
-from made_lines import Line, Size, draw_lines
-from made_region import draw_region
-from made_streets import Cell, Stop, Stops, Streets, draw_streets, station_at, stops_of
-from made_trips import courses_of, routes_of, write_stop_times
+from made.lines import Line, Size, draw_lines
+from made.region import draw_region
+from made.streets import Cell, Stop, Stops, Streets, draw_streets, station_at, stops_of
+from made.trips import courses_of, routes_of, write_stop_times
 from shared import parser_of, write_lines
 
 SIZES = {

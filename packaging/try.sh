@@ -1,12 +1,13 @@
 #!/bin/sh
-# Installs a Debian package of build.sh into a room of its own, runs the worked example of README there, and removes the
-# package again, which must leave none of its files.
-# usage: packaging/try.sh [--room debian|dpkg|analysts] DEB
-#   debian    a Debian 12 that mmdebstrap or debootstrap makes: wants root and a mirror; its address may stand in MIRROR
-#   dpkg      an empty one by `dpkg --root`, over this machine's libraries: wants root
-#   analysts  a Debian 12 where apt installs the package with all that its tools need (some minutes); the commands of the
-#             pages below run there, and print what the pages say
-# By default debian where that can be had, else dpkg. Status 0: all is right; 1: something isn't; 75: there is no room.
+# Installs the Debian packages of build.sh into a room of their own, runs the worked example of README there, and removes
+# the packages again, which must leave none of their files.
+# usage: packaging/try.sh [--room debian|dpkg|analysts] DEB ..
+#   debian    a Debian 12 that mmdebstrap or debootstrap makes: needs root and a mirror; its address may stand in MIRROR
+#   dpkg      an empty folder for `dpkg --root`, with this machine's libraries, and without the package of the tools,
+#             whose maintainer scripts need a system of their own: needs root
+#   analysts  a Debian 12 where apt installs the packages with all that the tools need (some minutes); the commands of
+#             the pages below run there, and print what the pages say
+# By default debian if that can be had, else dpkg. Status 0: all is right; 1: something isn't; 75: there is no room.
 set -eu
 umask 022
 export LC_ALL=C.UTF-8 PATH="$PATH:/usr/sbin:/sbin" DEBIAN_FRONTEND=noninteractive
@@ -20,8 +21,7 @@ if [ "${1:-}" = --room ]; then
     kind=$2
     shift 2
 fi
-[ $# -eq 1 ] || { sed -n '4,9s/^# //p' "$0" >&2; exit 2; }
-deb=$(realpath "$1")
+[ $# -ge 1 ] || { sed -n '4,10s/^# //p' "$0" >&2; exit 2; }
 [ "$(id -u)" = 0 ] || { echo "$0: only root can set up a room" >&2; exit $NO_ROOM; }
 room=$(mktemp -d)
 # debootstrap that is cut off may leave what it mounted
@@ -60,14 +60,13 @@ if [ "$kind" = analysts ]; then
     # shellcheck disable=SC2086
     (cd "$room/made" && python3 -m zipfile -c "$inside/study/town.zip" $feed)
     cp "$room/made/opportunities.csv" "$inside/study/jobs.csv"
-    cp "$deb" "$inside/tmp/ttm.deb"
-    cp "$here/packaging/pages.py" "$inside/tmp/pages.py"
+    cp "$@" "$here/packaging/pages.py" "$inside/tmp"
     mkdir "$inside/study/made"
     cp "$room/made/"* "$inside/study/made/"
     cp /etc/resolv.conf "$inside/etc/resolv.conf"
     suggested="python3-matplotlib python3-h5py python3-geopandas python3-jinja2 python3-flask libjs-leaflet"
     suggested="$suggested python3-scipy python3-pyosmium"
-    chroot "$inside" sh -c "apt-get update -q && apt-get install -q -y unzip zip $suggested /tmp/ttm.deb" > "$room/log" 2>&1 \
+    chroot "$inside" sh -c "apt-get update -q && apt-get install -q -y unzip zip $suggested /tmp/*.deb" > "$room/log" 2>&1 \
         || { tail "$room/log" >&2; exit 1; }
     # bash hands files over by /dev/fd, as a machine has it
     mount -t proc proc "$inside/proc"
@@ -78,16 +77,23 @@ if [ "$kind" = analysts ]; then
     echo "the commands of the pages ran in a Debian of their own, and printed what the pages say"
     exit
 fi
+packages=
+for deb; do
+    package=$(dpkg-deb --field "$deb" Package)
+    [ $kind = dpkg ] && [ "$package" = python3-ttm-tools ] || { packages="$packages $package"; cp "$deb" "$room"; }
+done
+# what the packages depend on is left out: it takes minutes to download
 if [ "$kind" = debian ]; then
-    cp "$deb" "$inside/tmp/ttm.deb"
-    install_it() { chroot "$inside" dpkg --install /tmp/ttm.deb; }
-    remove_it() { chroot "$inside" dpkg --purge ttm; }
+    cp "$room"/*.deb "$inside/tmp"
+    install_them() { chroot "$inside" sh -c 'dpkg --force-depends --install /tmp/*.deb'; }
+    # shellcheck disable=SC2086
+    remove_them() { chroot "$inside" dpkg --force-depends --purge $packages; }
     run_it() { chroot "$inside" "$@"; }
 else
-    # maintainer scripts can't be run in an empty room; they are told by DPKG_ROOT where it is
     in_room="dpkg --root=$inside --log=$inside/var/log/dpkg.log --force-depends --force-script-chrootless"
-    install_it() { $in_room --install "$deb"; }
-    remove_it() { $in_room --purge ttm; }
+    install_them() { $in_room --install "$room"/*.deb; }
+    # shellcheck disable=SC2086
+    remove_them() { $in_room --purge $packages; }
     run_it() { PATH="$inside/usr/bin:$PATH" "$@"; }
 fi
 
@@ -95,7 +101,7 @@ awk '/^    \$ crates\/ttm\/out\/ttm$/ { on = 1; next } on && /^    / { print sub
     "$here/README.md" > "$room/wanted"
 [ -s "$room/wanted" ] || { echo "README.md: no worked example" >&2; exit 1; }
 find "$inside" -xdev -path "$inside/var" -prune -o -print | sort > "$room/before"
-install_it > "$room/log" 2>&1 || { cat "$room/log" >&2; exit 1; }
+install_them > "$room/log" 2>&1 || { cat "$room/log" >&2; exit 1; }
 run_it ttm > "$room/made"
 cmp "$room/wanted" "$room/made"
 run_it ttm --help > "$room/help"
@@ -103,8 +109,9 @@ grep -q '^Usage: ' "$room/help"
 if run_it python3 --version > /dev/null 2>&1 && [ -e "$inside/usr/bin/ttm-tools" ]; then
     run_it ttm-tools --help > "$room/help"
     grep -q '^usage: ttm-tools ' "$room/help"
+    run_it ttm-tools --version
 fi
-remove_it > "$room/log" 2>&1 || { cat "$room/log" >&2; exit 1; }
+remove_them > "$room/log" 2>&1 || { cat "$room/log" >&2; exit 1; }
 find "$inside" -xdev -path "$inside/var" -prune -o -print | sort > "$room/after"
 left=$(comm -13 "$room/before" "$room/after" | grep ttm || true)
 [ -z "$left" ] || { echo "left behind: $left" >&2; exit 1; }

@@ -17,9 +17,11 @@ class Packages:
 
     def __init__(self, program: Path, room: Path) -> None:
         self.program, self.room = program, room
-        self.deb, self.tar, self.wheel = self.made("once")
+        self.files = self.made("once")
+        self.debs, self.tar, self.wheel = self.files[:3], self.files[3], self.files[4]
         self.tree, self.folder = room / "tree", room / "folder"
-        self.output("dpkg-deb", "--extract", self.deb, self.tree)
+        for deb in self.debs:
+            self.output("dpkg-deb", "--extract", deb, self.tree)
         self.folder.mkdir()
         self.output("tar", "--extract", "--file", self.tar, "--directory", self.folder, "--strip-components=1")
 
@@ -32,20 +34,26 @@ class Packages:
             raise AssertionError(f"{command[0]}: status {ran.returncode}: {ran.stderr}")
         return ran.stdout
 
-    def made(self, name: str) -> tuple[Path, Path, Path]:
-        """The Debian package, the tar file and the wheel, made into a folder."""
-        said = self.output(PACKAGING / "build.sh", "--out", self.room / name, self.program)
-        deb, tar, wheel = map(Path, said.split())
-        return deb, tar, wheel
+    def made(self, name: str) -> list[Path]:
+        """The Debian packages of the program, the tools and the documentation, the tar file and the wheel."""
+        printed = self.output(PACKAGING / "build.sh", "--out", self.room / name, self.program)
+        files = [Path(line) for line in printed.split()]
+        kinds = [path.name.split("_")[0] for path in files[:3]] + [path.suffix for path in files[3:]]
+        assert kinds == ["ttm", "python3-ttm-tools", "ttm-doc", ".gz", ".whl"], files
+        return files
+
+    def field(self, package: int, name: str) -> str:
+        """A field of a Debian package."""
+        return self.output("dpkg-deb", "--field", self.debs[package], name).strip()
 
     def share(self, name: str) -> str:
-        """A file of the package below share; unpacked where it is."""
+        """A file of the packages below share, decompressed."""
         data = (self.tree / "usr/share" / name).read_bytes()
         return (gzip.decompress(data) if name.endswith(".gz") else data).decode()
 
     def install(self, kind: str) -> None:
-        """Installs the package into a room of a kind, and runs the example there."""
-        command = [str(PACKAGING / "try.sh"), "--room", kind, str(self.deb)]
+        """Installs the packages into a room of a kind, and runs the example there."""
+        command = [str(PACKAGING / "try.sh"), "--room", kind, *map(str, self.debs)]
         ran = subprocess.run(command, capture_output=True, text=True, timeout=SECONDS)
         if ran.returncode == NO_ROOM:
             pytest.skip(ran.stderr.strip())

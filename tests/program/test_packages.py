@@ -1,18 +1,21 @@
-"""The tar file, the Debian package and the wheel of the built program, each built twice: what is in them, whether they
+"""The Debian packages, the tar file and the wheel of the built program, each built twice: what is in them, whether they
 install, and that they run the worked example of README.
 
-`dpkg` installs the package into an empty room, and into a Debian 12 of its own where mmdebstrap and a mirror are there:
-otherwise that test is skipped, and so is one that needs root or `man`.
+`dpkg` installs the packages into an empty folder, and into a Debian 12 of their own if mmdebstrap and a mirror can be
+had: otherwise that test is skipped, and so is one that needs root or `man`. Without the packages that `build.sh` needs
+all are skipped.
 """
 
 from __future__ import annotations
 
+import hashlib
 import os
 import re
 import shutil
 import subprocess
 import sys
 import tempfile
+import zipfile
 from collections.abc import Iterator
 from pathlib import Path
 
@@ -22,9 +25,15 @@ from packed import Packages
 
 ROOT = Path(__file__).resolve().parents[2]
 PYTHON = "/usr/bin/python3"  # that of Debian's packages
-COMMANDS = ("ttm", "ttm-tools")
 PATH = os.environ["PATH"] + ":/usr/sbin"
-BASH = """source "$1"; COMP_WORDS=("${@:3}"); COMP_CWORD=$(($# - 3)); "$2"; echo "${COMPREPLY[*]}" """
+HELPERS = "/usr/share/bash-completion/bash_completion"
+BASH = f"""
+source {HELPERS}; source "$1"; COMP_WORDS=("${{@:2}}"); COMP_CWORD=$(($# - 2)); COMP_LINE="${{*:2}}"
+COMP_POINT=${{#COMP_LINE}}; complete -p "$2" > /dev/null && "$(complete -p "$2" | sed 's/.*-F //; s/ .*//')" "$2"
+echo "${{COMPREPLY[*]}}"
+"""
+LAYOUT = re.compile("can't break line|cannot adjust line")  # warnings on narrow columns, which lintian ignores, too
+VERSION = re.compile(r'^pub const VERSION: &str = "(.*)";$', re.M)
 
 pytestmark = pytest.mark.xdist_group("packages")  # built once
 
@@ -32,6 +41,9 @@ pytestmark = pytest.mark.xdist_group("packages")  # built once
 @pytest.fixture(scope="module")
 def of(one_build: str) -> Iterator[Packages]:
     """The packages, unpacked."""
+    for needed in ("dh", "help2man", "sphinx-build", "shtab"):
+        if shutil.which(needed, path=PATH) is None:
+            pytest.skip(f"no {needed} on this machine")
     with tempfile.TemporaryDirectory(prefix="ttm-packages-") as folder:
         yield Packages(Path(one_build), Path(folder))
 
@@ -45,24 +57,50 @@ def example() -> str:
 
 def test_same_bytes_again(of: Packages) -> None:
     """the same commit and program give the same bytes"""
-    for first, second in zip((of.deb, of.tar, of.wheel), of.made("again")):
+    for first, second in zip(of.files, of.made("again"), strict=True):
         assert (first.name, first.read_bytes()) == (second.name, second.read_bytes()), f"{first.name} differs"
 
 
 def test_program_is_the_built_one(of: Packages) -> None:
-    """both have the program byte for byte, but for its symbols"""
+    """each has the program byte for byte, but for its symbols"""
     bare = of.room / "stripped"
     shutil.copy(of.program, bare)
     if shutil.which("strip"):
         of.output("strip", "--strip-unneeded", bare)
-    for item in (of.tree / "usr/bin/ttm", of.folder / "bin/ttm"):
-        assert item.read_bytes() == bare.read_bytes(), f"{item} differs"
+    wheel = zipfile.ZipFile(of.wheel)
+    packed = [wheel.read(name) for name in wheel.namelist() if name.endswith("/bin/ttm")]
+    for program in [(of.tree / "usr/bin/ttm").read_bytes(), (of.folder / "bin/ttm").read_bytes(), *packed]:
+        assert program == bare.read_bytes()
+    assert len(packed) == 1
+    assert hashlib.sha256(bare.read_bytes()).hexdigest() in of.share("doc/ttm/PROVED")
 
 
 def test_every_file_in_both(of: Packages) -> None:
-    """the tar file has what the package has"""
+    """the tar file has what the packages have, and no links out of it"""
     names = [sorted(str(path.relative_to(top)) for path in top.rglob("*")) for top in (of.tree / "usr", of.folder)]
     assert names[0] == names[1], set(names[0]) ^ set(names[1])
+    assert [path for path in of.folder.rglob("*") if not path.exists()] == []
+
+
+def newest() -> str:
+    """The version at the top of the changelog."""
+    found = re.search(r"^## (\S+)", (ROOT / "CHANGELOG.md").read_text(), re.M)
+    assert found, "CHANGELOG.md: no version"
+    return found[1]
+
+
+def test_all_have_one_version(of: Packages) -> None:
+    """the packages, the tools and the changelog have one version"""
+    version = newest()
+    assert of.output(PYTHON, of.folder / "bin/ttm-tools", "--version") == f"ttm-tools {version}\n"
+    assert [of.field(package, "Version").split("+")[0] for package in range(3)] == [version] * 3
+    assert of.tar.name.split("-")[1] == of.wheel.name.split("-")[1] == version
+
+
+def test_program_has_the_version() -> None:
+    """the program has the version of the changelog"""
+    version = VERSION.search((ROOT / "crates/command_line/src/version.rt").read_text())
+    assert version and version[1] == newest()
 
 
 def test_toolchain_is_named(of: Packages) -> None:
@@ -97,27 +135,31 @@ def test_html_needs_no_network(of: Packages) -> None:
 
 
 def test_licence_and_changes_are_said(of: Packages) -> None:
-    """the package says which licence it has, who keeps it, and of which commit it is"""
-    assert "No licence was chosen yet" in of.share("doc/ttm/copyright")
-    version = of.output("dpkg-deb", "--field", of.deb, "Version").strip()
-    assert of.share("doc/ttm/changelog.gz").startswith(f"ttm ({version}) unstable; ")
-    keeper = of.output("dpkg-deb", "--field", of.deb, "Maintainer")
-    assert re.fullmatch(r"[^<>]+ <[^<>@ ]+@[^<>@ ]+\.[^<>@ ]+>\n", keeper), keeper
+    """each package says which licence it has, who maintains it, and of which commit it is"""
+    for package, name in enumerate(("ttm", "python3-ttm-tools", "ttm-doc")):
+        assert "No licence was chosen yet" in of.share(f"doc/{name}/copyright")
+        assert of.share(f"doc/{name}/changelog.gz").startswith(f"ttm ({of.field(package, 'Version')}) unstable; ")
+        maintainer = of.field(package, "Maintainer")
+        assert re.fullmatch(r"[^<>]+ <[^<>@ ]+@[^<>@ ]+\.[^<>@ ]+>", maintainer), maintainer
 
 
 def test_lintian_finds_no_error(of: Packages) -> None:
-    """lintian finds no error in the package"""
+    """lintian finds no error in the packages"""
     if shutil.which("lintian", path=PATH) is None:
         pytest.skip("no lintian on this machine")
-    ran = subprocess.run(["lintian", "--fail-on", "error", str(of.deb)], capture_output=True, text=True)
+    ran = subprocess.run(["lintian", "--fail-on", "error", *map(str, of.debs)], capture_output=True, text=True)
     assert ran.returncode == 0, ran.stdout + ran.stderr
 
 
 def test_sample_feed_is_taken(of: Packages) -> None:
-    """the sample feed has less than a megabyte, and no fault"""
+    """the sample feed has less than a megabyte and no errors, and the tools write it to a folder"""
     feed = of.tree / "usr/share/doc/ttm/examples/town.zip"
     assert feed.stat().st_size < 1_000_000 and (feed.parent / "jobs.csv").is_file()
-    assert "no errors" in of.output(PYTHON, of.folder / "bin/ttm-tools", "prepare", "--check", feed)
+    tools, there = of.folder / "bin/ttm-tools", of.room / "sample"
+    assert "no errors" in of.output(PYTHON, tools, "prepare", "--check", feed)
+    assert of.output(PYTHON, tools, "docs", "--sample", there) == f"{there}/town.zip\n{there}/jobs.csv\n"
+    for name in ("town.zip", "jobs.csv"):
+        assert (there / name).read_bytes() == (feed.parent / name).read_bytes()
 
 
 def test_tools_say_that_python_is_not_there(of: Packages) -> None:
@@ -141,54 +183,69 @@ def test_tools_of_the_folder_run(of: Packages) -> None:
 
 
 def test_control_says_what_is_needed(of: Packages) -> None:
-    """the package depends on the libraries of C alone, recommends what all tools need, and suggests what some need"""
-    fields = ("Depends", "Recommends", "Suggests", "Description")
-    depends, recommends, suggests, about = (of.output("dpkg-deb", "--field", of.deb, name) for name in fields)
-    heavy = "matplotlib h5py geopandas scipy pyosmium flask jinja2".split()
-    for name in (f"python3-{heavy_name}" for heavy_name in heavy):
-        assert name in suggests and name in about and name not in recommends, name
-    assert re.fullmatch(r"libc6( \(>= 2\.\d+\))?(, libgcc-s1)?\n", depends), depends
-    assert "python3-numpy" in recommends and "python3-pandas" in recommends, recommends
+    """the program needs the C library alone; the tools depend on what all of them need, and suggest what some need"""
+    depends = of.field(0, "Depends")
+    assert re.fullmatch(r"libc6( \(>= 2\.\d+\))?(, libgcc-s1( \(>= [\d.]+\))?)?", depends), depends
+    assert of.field(0, "Recommends") == of.field(1, "Recommends") == ""
+    depends, suggests, about = (of.field(1, name) for name in ("Depends", "Suggests", "Description"))
+    for name in "matplotlib h5py geopandas scipy pyosmium flask jinja2".split():
+        assert f"python3-{name}" in suggests and f"python3-{name}" in about and f"python3-{name}" not in depends, name
+    for name in ("ttm (>= ", "python3-numpy (>= 1:1.24)", "python3-pandas (>= 1.5)", "python3-pyproj", "python3-tqdm"):
+        assert name in depends, depends
 
 
 def test_manuals_have_every_option(of: Packages) -> None:
     """the manual pages have each option of the helps"""
-    programs: tuple[list[object], ...] = ([of.program], [sys.executable, of.folder / "bin/ttm-tools"])
-    for name, program in zip(COMMANDS, programs):
+    tools: list[object] = [PYTHON, of.folder / "bin/ttm-tools"]
+    names = re.findall(r"^    (\w+)", of.output(*tools, "--help"), re.M)
+    assert "walks" in names and "docs" in names, names
+    pages: dict[str, list[object]] = {"ttm": [of.program], "ttm-tools": tools}
+    pages |= {f"ttm-tools-{name}": [*tools, name] for name in names}
+    for name, program in pages.items():
         page = of.share(f"man/man1/{name}.1.gz").replace("\\-", "-")
         options = re.findall(r"(?<![\w-])--[a-z][\w-]*", of.output(*program, "--help"))
         missing = [option for option in options if option not in page]
-        assert not missing, f"{name}.1: {missing}"
+        assert options and not missing, f"{name}.1: {missing}"
 
 
 def test_manuals_are_read_without_warnings(of: Packages) -> None:
     """man reads the manual pages without a warning"""
     if not shutil.which("man"):
         pytest.skip("no man on this machine")
-    for name in COMMANDS:
-        page = of.tree / f"usr/share/man/man1/{name}.1.gz"
+    pages = sorted((of.tree / "usr/share/man").rglob("*.gz"))
+    assert {page.parent.name for page in pages} == {"man1", "man5", "man7"}
+    for page in pages:
         command = ["man", "--warnings", "-E", "UTF-8", "-l", "-Tutf8", "-Z", str(page)]
         environment = {**os.environ, "LC_ALL": "C.UTF-8", "MANWIDTH": "100"}
         ran = subprocess.run(command, env=environment, capture_output=True, text=True)
-        assert (ran.returncode, ran.stderr) == (0, ""), ran.stderr
+        warnings = [line for line in ran.stderr.splitlines() if not LAYOUT.search(line)]
+        assert (ran.returncode, warnings) == (0, []), page
 
 
 def test_words_are_completed(of: Packages) -> None:
     """bash completes options, commands and files"""
+    if not os.path.isfile(HELPERS):
+        pytest.skip("no bash-completion on this machine")
     completions = of.tree / "usr/share/bash-completion/completions"
     wanted = [
         (("ttm", "--wo"), "--workers"),
         (("ttm", "--feed", "doc"), "docs"),
         (("ttm", "--date", "doc"), ""),
         (("ttm", "READ"), "README.md"),
+        (("ttm", "--footpaths", "READ"), "README.md"),
         (("ttm-tools", "com"), "compare"),
         (("ttm-tools", "walks", "--lim"), "--limit"),
+        (("ttm-tools", "walks", "doc"), "docs"),
+        (("ttm-tools", "walks", "--limit", "doc"), ""),
+        (("ttm-tools", "access", "READ"), "README.md"),
+        (("ttm-tools", "access", "--decay", "lin"), "linear"),
+        (("ttm-tools", "access", "--demand", "READ"), "README.md"),
     ]
     for typed, found in wanted:
-        function = "_" + typed[0].replace("-", "_")
-        script = f"cd {ROOT}; {BASH}"
-        completed = of.output("bash", "--norc", "-c", script, "bash", completions / typed[0], function, *typed)
+        script = f"cd {ROOT}; PATH={of.folder}/bin:$PATH; {BASH}"
+        completed = of.output("bash", "--norc", "-c", script, "bash", completions / typed[0], *typed)
         assert completed == found + "\n", f"{typed}: {completed}"
+    assert of.share("zsh/vendor-completions/_ttm-tools").startswith("#compdef ttm-tools\n")
 
 
 def test_wheel_says_what_an_index_asks(of: Packages) -> None:
@@ -210,19 +267,36 @@ def test_wheel_is_installed_by_pip(of: Packages) -> None:
         pytest.skip(f"no virtual environment can be made: {why}")
     of.output(venv / "bin/pip", "install", "--no-index", "--no-deps", of.wheel, PIP_DISABLE_PIP_VERSION_CHECK="1")
     assert of.output(venv / "bin/ttm") == example()
-    assert (venv / "share/ttm/PROVED").read_text() == of.share("doc/ttm/PROVED")
-    assert "usage: ttm-tools" in of.output(venv / "bin/ttm-tools", "--help")
+    data = next((venv / "lib").rglob("ttm_tools/data"))
+    assert (data / "PROVED").read_text() == of.share("doc/ttm/PROVED")
+    assert of.output(venv / "bin/ttm-tools", "docs", "--path") == f"{data}/html/docs/README.html\n"
+    page = of.output(venv / "bin/ttm-tools", "page", "--help", COLUMNS="1000")
+    assert f"default {data}/leaflet" in page
+    for name in ("leaflet.min.js", "leaflet.css"):
+        assert (data / "leaflet" / name).read_bytes() == Path("/usr/share/javascript/leaflet", name).read_bytes()
+    assert "Redistribution and use in source and binary forms" in (data / "leaflet/LICENSE").read_text()
     found = "import ttm_tools.engine.arguments as it; print(it.program_at(None))"
     assert of.output(venv / "bin/python", "-c", found) == f"{venv}/bin/ttm\n"
 
 
+def test_wheel_is_installed_for_a_user(of: Packages) -> None:
+    """installed by pip for one user, the tools find the program and the documentation"""
+    base = {"PYTHONUSERBASE": str(of.room / "base"), "PIP_DISABLE_PIP_VERSION_CHECK": "1"}
+    options = ["--user", "--no-index", "--no-deps", "--break-system-packages", "--no-warn-script-location"]
+    of.output(PYTHON, "-m", "pip", "install", *options, of.wheel, **base)
+    page = of.output(of.room / "base/bin/ttm-tools", "docs", "--path", **base)
+    assert page.startswith(f"{of.room}/base/lib/") and Path(page.strip()).is_file()
+    found = "import ttm_tools.engine as it; print(it.program_at(None))"
+    assert of.output(PYTHON, "-c", found, **base) == f"{of.room}/base/bin/ttm\n"
+
+
 def test_installed_by_dpkg(of: Packages) -> None:
-    """installed by dpkg into an empty room, it gives the worked example, and is removed whole"""
+    """installed by dpkg into an empty folder, they give the worked example, and are removed whole"""
     of.install("dpkg")
 
 
 def test_installed_in_debian(of: Packages) -> None:
-    """installed in a Debian 12 of its own, it gives the worked example, and is removed whole"""
+    """installed in a Debian 12 of their own, they give the worked example, and are removed whole"""
     if not any(shutil.which(name, path=PATH) for name in ("mmdebstrap", "debootstrap")):
         pytest.skip("neither mmdebstrap nor debootstrap on this machine")
     of.install("debian")

@@ -9,6 +9,7 @@ import re
 import subprocess
 import tempfile
 import threading
+import time
 import tty
 from operator import attrgetter
 from pathlib import Path
@@ -20,6 +21,7 @@ from running import SECONDS, Left, Words, in_a_room, left_by, start
 
 README = Path(__file__).resolve().parents[2] / "README.md"
 TOOLCHAIN = re.compile(r"^    rattle-kit-\S+ logic (\S+)$", re.M)
+MIB, GIB = 1 << 20, 1 << 30
 FEW = 6  # files that may be open at once: three are before the first is read
 NO_OPTION = """error: unexpected argument '--nothing' found
 
@@ -54,12 +56,29 @@ def steady(report: str) -> str:
     return report
 
 
+def available() -> int:
+    """The bytes that the machine has free for programs."""
+    rows = Path("/proc/meminfo").read_text().splitlines()
+    return next(1024 * int(row.split()[1]) for row in rows if row.startswith("MemAvailable:"))
+
+
+def figures(report: str, name: str) -> list[int]:
+    return [int(figure) for figure in re.findall(rf"^ttm: {name}: (\d+)$", report, re.M)]
+
+
 @pytest.mark.parametrize("report", REPORTS, ids=attrgetter("name"))
 def test_report(program: str, report: Report) -> None:
     """What a report tells; all else is as without one."""
+    began, free = time.monotonic(), available()
     out, err, status = left_by(program, [*report.words.split(), "--report"])
+    took = time.monotonic() - began
     plain = left_by(program, report.words.split())
     assert (out, steady(err), status) == (plain[0], report.told, plain[2])
+    # the machine's memory is shared, so it can have changed by a few gigabytes
+    assert all(abs(figure - free) <= 4 * GIB for figure in figures(err, "bytes that the machine has free"))
+    assert all(MIB <= figure <= 64 * MIB for figure in figures(err, "bytes taken at most"))
+    times = re.findall(r"^ttm: time: (\d+):(\d\d):(\d\d)$", err, re.M)
+    assert all(int(hours) * 3600 + int(minutes) * 60 + int(seconds) <= took for hours, minutes, seconds in times)
 
 
 def test_a_matrix_that_cannot_be_written_is_told(program: str) -> None:
@@ -84,7 +103,7 @@ def test_help_is_a_success_on_the_standard_output_alone(program: str) -> None:
 
 
 def test_the_version_is_told_alone(program: str) -> None:
-    assert left_by(program, ["--version"]) == ("ttm 2.0.0\n", "", 0)
+    assert left_by(program, ["--version"]) == ("ttm 2.1.0\n", "", 0)
 
 
 def test_readme_lists_a_toolchain_of_the_logic_at_hand() -> None:

@@ -2,6 +2,8 @@
 
 import argparse
 import importlib.util
+import re
+import shutil
 import subprocess
 import sys
 from pathlib import Path
@@ -164,12 +166,22 @@ def test_some_of_many_names_are_told_with_how_many_more() -> None:
     assert first_few([f"c{n}" for n in range(1234)]) == "c0, c1, c2, c3 and 1,230 more"
 
 
-def test_pip_builds_the_package_without_network_or_other_packages(room: Room) -> None:
-    if subprocess.run([sys.executable, "-m", "pip", "--version"], capture_output=True).returncode:
-        pytest.skip("without pip")
-    tools, out = Path(LAUNCHER).parent, room.path("there")
-    arguments = ["install", "--no-index", "--no-deps", "--disable-pip-version-check", "--target", out, str(tools)]
-    ran = subprocess.run([sys.executable, "-m", "pip", *arguments], capture_output=True, text=True)
+def test_the_version_is_that_of_the_changelog() -> None:
+    changelog = (Path(LAUNCHER).parents[1] / "CHANGELOG.md").read_text(encoding="utf-8")
+    newest = re.search(r"^## (\S+)", changelog, re.MULTILINE)
+    assert newest and launched("--version").stdout.decode() == f"ttm-tools {newest[1]}\n"
+
+
+def test_pip_builds_the_package_without_network(room: Room) -> None:
+    if not all(map(importlib.util.find_spec, ("pip", "setuptools", "wheel"))):
+        pytest.skip("without pip, setuptools or wheel")
+    tools, copy, out = Path(LAUNCHER).parent, room.folder / "tools", room.path("there")
+    shutil.copytree(tools / "src", copy / "src")  # setuptools writes next to the sources
+    for name in ("pyproject.toml", "setup.py"):
+        shutil.copy(tools / name, copy)
+    arguments = ["install", "--no-index", "--no-deps", "--no-build-isolation", "--disable-pip-version-check"]
+    command = [sys.executable, "-m", "pip", *arguments, "--target", out, str(copy)]
+    ran = subprocess.run(command, capture_output=True, text=True)
     assert ran.returncode == 0, ran.stderr
     result = {str(path.relative_to(out)) for path in Path(out).rglob("*") if path.is_file() and path.suffix != ".pyc"}
     own = {

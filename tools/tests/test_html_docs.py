@@ -45,8 +45,35 @@ def test_a_missing_documentation_is_one_line(room: Room, folder: Path, opened: l
     assert error.startswith("ttm-tools docs: the documentation isn't installed: ") and error.count("\n") == 1
 
 
-def test_a_package_and_a_clone_have_their_places() -> None:
+def test_a_wheel_a_package_and_a_clone_have_their_places() -> None:
     package = Path(docs.__file__).parents[1]
-    places = [str(place) for place in docs.places()]
-    assert places[0].endswith("/share/ttm/html")
-    assert places[1:] == [f"{package.parents[3]}/share/doc/ttm/html", f"{package.parents[2]}/packaging/out/html"]
+    html = ["data/html", f"{package.parents[3]}/share/doc/ttm/html", f"{package.parents[2]}/packaging/out/html"]
+    assert [str(place) for place in docs.places()] == [str(package / place) for place in html]
+
+
+def test_the_sample_is_written_where_it_is_wanted(
+    room: Room, monkeypatch: pytest.MonkeyPatch, opened: list[str]
+) -> None:
+    monkeypatch.setattr(docs, "DATA", room.folder / "data")
+    out, error, status = room.ran("docs", "--sample", str(room.folder / "there"))
+    assert (out, status) == ("", 1) and error.startswith("ttm-tools docs: the sample isn't installed: ")
+    (room.folder / "data" / "sample").mkdir(parents=True)
+    for name in ("town.zip", "jobs.csv"):
+        (room.folder / "data" / "sample" / name).write_text(f"bytes of {name}")
+    out, error, status = room.ran("docs", "--sample", str(room.folder / "there"))
+    assert (out.split(), error, status) == ([f"{room.folder}/there/{name}" for name in docs.SAMPLE], "", 0)
+    assert [(room.folder / "there" / name).read_text() for name in docs.SAMPLE] == [
+        f"bytes of {name}" for name in docs.SAMPLE
+    ]
+    assert opened == []
+
+
+def test_the_sample_replaces_nobody_elses_file(room: Room, monkeypatch: pytest.MonkeyPatch) -> None:
+    monkeypatch.setattr(docs, "DATA", room.folder / "data")
+    (room.folder / "data" / "sample").mkdir(parents=True)
+    for name in ("town.zip", "jobs.csv"):
+        (room.folder / "data" / "sample" / name).write_text("new")
+    (room.folder / "jobs.csv").write_text("own jobs")
+    out, error, status = room.ran("docs", "--sample", str(room.folder))
+    assert (out, status) == ("", 1) and "did not write this file" in error, error
+    assert (room.folder / "jobs.csv").read_text() == "own jobs" and not (room.folder / "town.zip").exists()

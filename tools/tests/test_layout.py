@@ -41,6 +41,7 @@ BELONGS_TO = {
     "points": "places",
     "prepare.check": "gtfs",
     "r5py": "compat",
+    "shipped": "core",
     "views.page": "web",
     "walks": "streets",
 }

@@ -1,4 +1,4 @@
 //! What `--version` tells after the program's name.
 
 /// The version of the program.
-pub const VERSION: &str = "2.0.0";
+pub const VERSION: &str = "2.1.0";

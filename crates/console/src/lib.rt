@@ -11,6 +11,6 @@ mod lines;
 mod machine;
 mod memory;
 
-pub use lines::{shown, tell_count, tell_count_of, tell_line, warn};
+pub use lines::{shown, shown_limit_is_as_stated, tell_count, tell_count_of, tell_line, warn};
 pub use machine::Console;
 pub use memory::{Memory, memory_of};

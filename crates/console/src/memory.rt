@@ -1,5 +1,5 @@
 //! What a system reports about memory: lines of a name, a number of kilobytes, and `kB`.
-ghost use Rattle.std.specs.Prelude.{◌≡◌, ◌%◌, IfSome, is_none};
+ghost use Rattle.std.specs.Prelude.{◌≡◌, ◌*◌, ◌%◌, IfSome, option_map};
 
 use table_records::number;
 
@@ -50,7 +50,7 @@ fn kilobytes(text: &[u8]) -> Option<u64>
 
 /// The bytes of some kilobytes.
 fn bytes_of(kilobytes: Option<u32>) -> Option<u64>
-    ensures none { is_none result ≡ is_none kilobytes }
+    ensures bytes { result ≡ option_map (λ kilobytes. kilobytes * 1024) kilobytes }
     ensures whole { IfSome result (λ bytes. bytes % 1024 ≡ 0) }
 {
     match kilobytes {

@@ -45,7 +45,7 @@ After a refusal, the same command with --report explains it: the value that is w
 ";
 
 /// The whole text of the version.
-const VERSION_TEXT: &str = "ttm 2.0.0\n";
+const VERSION_TEXT: &str = "ttm 2.1.0\n";
 
 /// The text that arguments give in place of a study, if `clap` has one for them.
 fn told(alloc: Global, words: &[&str]) -> Result<Option<String>, AllocError> {

@@ -1,5 +1,8 @@
 //! Which dates the calendars of a feed cover, and the nearest to a date on which a trip runs.
 
+ghost use Rattle.std.specs.Prelude.{IfSome, ◌≤ℤ◌};
+ghost use Rattle.jiff.specs.Words.{epoch_day};
+
 use console::{Console, tell_line};
 use gtfs_tables::{CalendarRow, ExceptionRow, Feed};
 use jiff::civil::Date;
@@ -49,7 +52,9 @@ fn covered_dates(feed: &Feed) -> Option<Dates> {
 }
 
 /// The dates that rows of `calendar.txt` cover.
-fn scheduled_dates(calendar: &[CalendarRow]) -> Option<Dates> {
+fn scheduled_dates(calendar: &[CalendarRow]) -> Option<Dates>
+    ensures { IfSome result (λ dates. epoch_day dates.first ≤ℤ epoch_day dates.last) }
+{
     let mut dates = None;
     for row in calendar {
         if row.first <= row.last {
@@ -71,14 +76,32 @@ fn with_added(dates: Option<Dates>, exceptions: &[ExceptionRow]) -> Option<Dates
 }
 
 /// Dates that reach from a first one to a last one, and beyond as far as others do.
-fn joined(dates: Option<Dates>, first: Date, last: Date) -> Dates {
+fn joined(dates: Option<Dates>, first: Date, last: Date) -> Dates
+    ensures { epoch_day first ≤ℤ epoch_day last → epoch_day result.first ≤ℤ epoch_day result.last }
+{
     match dates {
         Some(dates) => Dates {
-            first: dates.first.min(first),
-            last: dates.last.max(last),
+            first: earlier(dates.first, first),
+            last: later(dates.last, last),
         },
         None => Dates { first, last },
     }
+}
+
+/// The earlier of two dates.
+fn earlier(a: Date, b: Date) -> Date
+    ensures first { epoch_day result ≤ℤ epoch_day a }
+    ensures last { epoch_day result ≤ℤ epoch_day b }
+{
+    if a < b { a } else { b }
+}
+
+/// The later of two dates.
+fn later(a: Date, b: Date) -> Date
+    ensures first { epoch_day a ≤ℤ epoch_day result }
+    ensures last { epoch_day b ≤ℤ epoch_day result }
+{
+    if a < b { b } else { a }
 }
 
 /// The dates that the calendars cover.

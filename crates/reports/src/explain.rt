@@ -1,5 +1,7 @@
 //! What the line of a fault can't say: the column, its value, and what is allowed.
-ghost use Rattle.std.specs.Prelude.{◌≡◌, map};
+ghost use Rattle.std.specs.Prelude.{◌≡◌, IfSome, map, true};
+ghost use Rattle.csv.specs.Records.{fields_of};
+ghost use Rattle.table_records.specs.Checks.{Finds, refuses};
 ghost use Rattle.reports.specs.Explain as spec;
 
 use crate::advice::{advice_for, edit_limit, limit_of};
@@ -63,7 +65,15 @@ fn of_feed(
         What::TimesGoBack => back_line(alloc, &record_at(alloc, bytes?, fault.at)?),
         what => {
             let found = record_at(alloc, bytes?, fault.at)?;
-            refused_line(alloc, &found, what, checks_of(fault.file).fields, inputs)
+            let checks = checks_of(fault.file).fields;
+            let Check(column, rule, _) = refused_check(
+                alloc,
+                &found,
+                what,
+                checks,
+                inputs.feed.stops,
+            )?;
+            field_line(alloc, column, found.text(column), words_of(rule))
         }
     }
 }
@@ -129,26 +139,29 @@ fn bytes_of<'a>(inputs: &Inputs<'a>, file: FileName) -> Option<&'a [u8]> {
     }
 }
 
-/// The field of a record that a check refused: the first one, in the order of the checks.
-fn refused_line(
+/// The check that refused a record with this fault: the first one that can have, given the bytes of `stops.txt`.
+fn refused_check(
     alloc: Global,
     found: &Found,
     what: What,
     checks: &[Check],
-    inputs: &Inputs<'_>,
-) -> Option<String> {
+    stops: Option<&[u8]>,
+) -> Option<Check>
+    ensures { IfSome result (λ check. Finds check (fields_of found.now.header) (fields_of found.now.row) what) }
+{
     for check in checks {
         let Check(column, rule, wrong) = *check;
-        let text = found.text(column);
-        if wrong == what && refuses(alloc, rule, text, inputs.feed.stops)? {
-            return field_line(alloc, column, text, words_of(rule));
+        if wrong == what && may_refuse(alloc, rule, found.text(column), stops)? {
+            return Some(*check);
         }
     }
     None
 }
 
 /// Whether a rule may have refused a text, given the bytes of `stops.txt`; none where there is no memory to find out.
-fn refuses(alloc: Global, rule: Rule, text: &[u8], stops: Option<&[u8]>) -> Option<bool> {
+fn may_refuse(alloc: Global, rule: Rule, text: &[u8], stops: Option<&[u8]>) -> Option<bool>
+    ensures { IfSome result (λ may. may ≡ true → refuses rule text.now ≡ true) }
+{
     if rule == Rule::Place {
         Some(!is_named(alloc, stops?, b"stop_id", text)?)
     } else {

@@ -1,5 +1,9 @@
 //! How large the matrix of a study is, and whether it fits into memory.
 
+ghost use Rattle.std.specs.Prelude.{◌≡◌};
+ghost use Rattle.workers.specs.Study.{study_of};
+ghost use Rattle.reports.specs.Sizes as spec;
+
 use console::{Console, tell_count, warn};
 use std::alloc::Global;
 use workers::Study;
@@ -15,19 +19,25 @@ const NO_ROOM: &str = "the machine may not have memory for the matrix; \
     ttm-tools split makes parts of the origins, and ttm-tools join joins their matrices";
 
 /// How many rows a study has.
-pub(crate) fn row_count(study: &Study<'_>) -> u64 {
+pub(crate) fn row_count(study: &Study<'_>) -> u64
+    ensures { result ≡ spec.row_count (study_of study.now) }
+{
     (study.networks.len() as u64).saturating_mul(study.origins.len() as u64)
 }
 
 /// How many cells a study has.
-fn cell_count(study: &Study<'_>) -> u64 {
+fn cell_count(study: &Study<'_>) -> u64
+    ensures { result ≡ spec.cell_count (study_of study.now) }
+{
     row_count(study)
         .saturating_mul(study.destinations.len() as u64)
         .saturating_mul(study.shares.len() as u64)
 }
 
 /// How many sums of access a study has.
-fn sum_count(study: &Study<'_>) -> u64 {
+fn sum_count(study: &Study<'_>) -> u64
+    ensures { result ≡ spec.sum_count (study_of study.now) }
+{
     row_count(study)
         .saturating_mul(study.withins.len() as u64)
         .saturating_mul(study.shares.len() as u64)

@@ -1,6 +1,6 @@
 mod CellsOfAllStops
-mod MinutesWithinLimits
-mod MinutesCounted
+pub mod MinutesWithinLimits
+pub mod MinutesCounted
 mod Masks
 mod RankBitByBit
 mod RankAmongMinutes

@@ -29,7 +29,7 @@ count_past ds d n (suc k) none =
     omega (arith, more, rest, last)
 
 -- the first minutes, and those after them
-count_split : (ds : ℕ → Option ℕ) (d n k : ℕ) →
+pub count_split : (ds : ℕ → Option ℕ) (d n k : ℕ) →
     minutes_within ds d (n + k) ≡ minutes_within ds d n + minutes_within (λ l. ds (n + l)) d k
 count_split ds d n zero = let e = ap (λ (j : ℕ). minutes_within ds d j) (let e : n + 0 ≡ n = omega arith in e) in
     omega (arith, e)

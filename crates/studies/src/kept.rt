@@ -5,7 +5,7 @@ ghost use Rattle.studies.specs.Kept.{IsKept};
 ghost use Rattle.studies.specs.Settings.{SettingsFit};
 ghost use Rattle.studies.specs.Stages.{AreTables, IsFeedOf, IsOfNoRun};
 ghost use Rattle.studies.specs.Study.{AreNetworks, Tells};
-ghost use Rattle.studies.specs.Watched.{listed};
+ghost use Rattle.studies.specs.Watched.{HasReadTables, listed};
 
 use crate::boxes::{direct_from, feed_from};
 use crate::fault::StudyFault;
@@ -48,6 +48,8 @@ pub fn keep<'a, W: Watch>(
     ensures kept { IfOk result (λ kept. IsKept kept) }
     ensures files { IfOk result (λ kept. inputs_of kept.inputs ≡ inputs_of inputs.now) }
     ensures settings { IfOk result (λ kept. kept.settings.now ≡ settings.now) }
+    ensures told { IfOk result (λ _. HasReadTables (W.has_read watch.now) (W.has_listed watch.now)
+        (inputs_of inputs.now) settings.now) }
     ensures fault { IfErr result (λ e. Tells e (inputs_of inputs.now) settings.now) }
 {
     let prepared = prepare(alloc, inputs, settings, watch)?;
@@ -69,6 +71,8 @@ pub(crate) fn prepare<'a, W: Watch>(
     ensures tables { IfOk result (λ p. AreTables (inputs_of inputs.now) p.kept.feed.value p.tables.value) }
     ensures networks { IfOk result (λ p. AreNetworks (inputs_of inputs.now) settings.now p.kept.networks.items) }
     ensures listed { IfOk result (λ _. W.saw watch.now listed) }
+    ensures told { IfOk result (λ _. HasReadTables (W.has_read watch.now) (W.has_listed watch.now)
+        (inputs_of inputs.now) settings.now) }
     ensures fault { IfErr result (λ e. Tells e (inputs_of inputs.now) settings.now) }
     ensures no_run { IfErr result IsOfNoRun }
 {

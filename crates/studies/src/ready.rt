@@ -5,7 +5,7 @@ ghost use Rattle.studies.specs.Ready.{IsReady};
 ghost use Rattle.studies.specs.Settings.{SettingsFit};
 ghost use Rattle.studies.specs.Stages.{IsOfNoRun};
 ghost use Rattle.studies.specs.Study.{IsStudyText, Tells, TellsBy};
-ghost use Rattle.studies.specs.Watched.{SawAll, SawFault, listed};
+ghost use Rattle.studies.specs.Watched.{HasReadTables, SawAll, SawFault, listed};
 
 use crate::fault::StudyFault;
 use crate::inputs::Inputs;
@@ -48,6 +48,8 @@ pub fn ready_study<'a, W: Watch>(
     requires settings { SettingsFit settings.now }
     ensures ready { IfOk result (λ study. IsReady (inputs_of inputs.now) settings.now study) }
     ensures listed { IfOk result (λ _. W.saw watch.now listed) }
+    ensures told { IfOk result (λ _. HasReadTables (W.has_read watch.now) (W.has_listed watch.now)
+        (inputs_of inputs.now) settings.now) }
     ensures fault { IfErr result (λ e. Tells e (inputs_of inputs.now) settings.now) }
     ensures no_run { IfErr result IsOfNoRun }
 {

@@ -4,7 +4,7 @@
 ghost use Rattle.std.specs.Prelude.{IfErr, IfOk};
 ghost use Rattle.studies.specs.Inputs.{AreWithinLimit, inputs_of};
 ghost use Rattle.studies.specs.Settings.{SettingsFit};
-ghost use Rattle.studies.specs.Watched.{SawAll, SawFault};
+ghost use Rattle.studies.specs.Watched.{HasReadTables, SawAll, SawFault};
 ghost use Rattle.studies.specs.Study.{IsStudyText, Tells, TellsBy};
 
 use crate::fault::StudyFault;
@@ -58,6 +58,8 @@ pub fn watch_study<G: Gate + Sync, W: Watch, R: Threads + Wait + Sync>(
     requires files { AreWithinLimit (inputs_of inputs.now) }
     requires settings { SettingsFit settings.now }
     ensures text { IfOk result (λ text. IsStudyText (inputs_of inputs.now) settings.now text.items) }
+    ensures tables { IfOk result (λ _. HasReadTables (W.has_read watch.now) (W.has_listed watch.now)
+        (inputs_of inputs.now) settings.now) }
     ensures told { IfOk result (λ _. SawAll (W.saw watch.now) (inputs_of inputs.now) settings.now) }
     ensures told_fault { IfErr result (λ e. SawFault (W.saw watch.now) e (inputs_of inputs.now) settings.now) }
     ensures fault { IfErr result (λ e. Tells e (inputs_of inputs.now) settings.now) }

@@ -14,7 +14,7 @@ if TYPE_CHECKING:
     from .engine.refusals import EngineError
     from .matrices.result import Result
 
-__version__ = "0.1.0"
+__version__ = "2.1.0"
 MODULES = {
     "ArgumentError": "core.errors",
     "EngineArguments": "engine.arguments",

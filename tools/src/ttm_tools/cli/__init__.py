@@ -35,6 +35,7 @@ def parser_of() -> Parser:
     """All commands with their options."""
     about = "Tools for analysts, before and after a run of ttm. `ttm-tools COMMAND --help` lists a command's options."
     parser = Parser(prog="ttm-tools", description=about)
+    parser.add_argument("--version", action="version", version=f"ttm-tools {__version__}", help="print the version")
     commands = parser.add_subparsers(dest="command", metavar="COMMAND", required=True)
     for name in COMMANDS:
         module = importlib.import_module(f".{name}", __package__)

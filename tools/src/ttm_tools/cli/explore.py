@@ -5,6 +5,7 @@ from ..core.console import say
 from ..core.errors import ArgumentError, needs
 from ..core.folders import scratch
 from ..core.limits import MOST_PORT
+from ..shipped import LEAFLET
 from .options import Parser, Range, decimals
 
 if TYPE_CHECKING:
@@ -25,8 +26,9 @@ has copies of them.
 
 `ttm` keeps the network in memory and answers the page. The page sends requests to nobody else, and only this machine
 can send requests to it: the address has a token that changes with each start. Ctrl-C ends it. Only --out is written to.
-Needs flask, jinja2, pandas and Leaflet from Debian's libjs-leaflet. Memory: that of a run of ttm, 100 MB, and 35 bytes
-for each stop time, journeys and changes included. While a changed network starts, `ttm` takes its memory twice."""
+Needs flask, jinja2, pandas and Leaflet (in the wheel, or Debian's libjs-leaflet). Memory: that of a run of ttm, 100 MB,
+and 35 bytes for each stop time, journeys and changes included. While a changed network starts, `ttm` takes its memory
+twice."""
 
 
 def describe(parser: Parser) -> None:
@@ -50,7 +52,7 @@ def describe(parser: Parser) -> None:
     parser.add_number("--port", "the port of the page; 0 takes a free one", Range("", 0, MOST_PORT), default=0)
     parser.add_flag("--no-browser", "print the address alone", "a browser opens it")
     parser.add_program()
-    parser.add_text("--leaflet", "FOLDER", "the folder of Leaflet", default="/usr/share/javascript/leaflet")
+    parser.add_text("--leaflet", "FOLDER", "the folder of Leaflet", default=LEAFLET)
 
 
 def options_of(args: argparse.Namespace) -> "ExploreOptions":

@@ -1,6 +1,7 @@
 """How options are described: each with its meaning, its unit, its range, and its default."""
 
 import argparse
+import datetime
 import functools
 import math
 import os
@@ -12,12 +13,10 @@ from ..core.console import say
 from ..core.errors import ArgumentError, InputError
 from ..core.limits import DETOUR, MOST_DAYS, MOST_FOOT_SECONDS, MOST_NUMBER, MOST_RIDES, WALKING_SPEED
 from ..core.text import first_few
-from ..core.times import is_minute
+from ..core.times import DATES_ALLOWED, day_of, is_minute
 from ..views.picture_files import picture_name
 
 if TYPE_CHECKING:
-    import datetime
-
     from ..core.arrays import Floats
     from ..gtfs.stops import Stops
     from ..matrices import Matrix
@@ -60,10 +59,8 @@ class Range:
 decimals = functools.partial(Range, whole=False)
 
 
-def day(text: str) -> "datetime.date":
+def day(text: str) -> datetime.date:
     """A day, as `ttm` writes it or as ISO 8601 does."""
-    from ..core.times import DATES_ALLOWED, day_of
-
     try:
         return day_of(text)
     except ValueError:

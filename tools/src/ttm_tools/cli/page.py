@@ -3,6 +3,7 @@ import argparse
 from ..core.errors import ArgumentError, needs
 from ..core.files import output
 from ..core.limits import MOST_NUMBER
+from ..shipped import LEAFLET
 from .options import Parser, Range, decimals, opened, scenarios_of
 
 SUMMARY = "one HTML file to send, with travel times and access to explore in a browser"
@@ -21,9 +22,9 @@ from all. If the feed has points, only these are shown: as squares if their file
 --edits draws what a scenario's file removes from the base, and adds to it if the base has a file, too; for a feed of
 ttm-tools scenarios, its own files are the default.
 
-Needs jinja2, pandas, with --streets scipy and osmium, and Leaflet from Debian's libjs-leaflet, which is written into
-the page with its licence. The same arguments and files give the same bytes. Memory: some 200 MB, a byte for each cell
-of the page, and 110 bytes for each stop time of the feed."""
+Needs jinja2, pandas, with --streets scipy and osmium, and Leaflet (in the wheel, or Debian's libjs-leaflet), which is
+written into the page with its licence. The same arguments and files give the same bytes. Memory: some 200 MB, a byte
+for each cell of the page, and 110 bytes for each stop time of the feed."""
 
 OPTION_NAMES = {"scenarios": "scenario", "arguments": "words"}  # of fields, where they differ
 
@@ -56,7 +57,7 @@ def describe(parser: Parser) -> None:
     what = "the address of a background map, such as https://tiles.example/{z}/{x}/{y}.png"
     parser.add_text("--tiles", "URL", what, without="none, and the page needs no network")
     parser.add_text("--attribution", "TEXT", "whom the page names for that map; --tiles needs it", without="nobody")
-    parser.add_text("--leaflet", "FOLDER", "the folder of Leaflet", default="/usr/share/javascript/leaflet")
+    parser.add_text("--leaflet", "FOLDER", "the folder of Leaflet", default=LEAFLET)
     parser.add_out("the file of the page", "", "page.html")
     parser.add_matrix()
 

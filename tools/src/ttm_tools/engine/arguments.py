@@ -11,7 +11,10 @@ from typing import Mapping, Sequence
 from ..core.errors import MissingDependencyError
 from ..core.times import as_ttm_reads
 
-INSTALLED = Path(sysconfig.get_path("scripts")) / "ttm"  # where pip installs the wheel's program
+PACKAGES = Path(__file__).resolve().parents[2]
+IS_OF_USER = PACKAGES == Path(sysconfig.get_path("purelib", "posix_user")).resolve()  # by pip install --user
+SCHEME = "posix_user" if IS_OF_USER else sysconfig.get_default_scheme()
+INSTALLED = Path(sysconfig.get_path("scripts", SCHEME)) / "ttm"  # where pip installs the wheel's program
 BUILT = Path(__file__).resolve().parents[4] / "crates" / "ttm" / "out" / "ttm"  # in a clone
 Pathlike = str | os.PathLike[str]
 

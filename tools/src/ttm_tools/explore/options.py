@@ -3,6 +3,8 @@
 import datetime
 from dataclasses import dataclass, field
 
+from ..shipped import LEAFLET
+
 SHARES = (10, 25, 50, 75, 90)  # percent, between which the page's slider chooses
 OF_NO_OPTION = ("window", "shares", "date", "name", "generated", "most_walk")  # fields that no option has the name of
 
@@ -27,7 +29,7 @@ class ExploreOptions:
     ahead: int = 1
     title: str | None = None
     program: str | None = None
-    leaflet: str = "/usr/share/javascript/leaflet"
+    leaflet: str = LEAFLET
     name: str | None = None  # of the feed, where the one that is explored was made of it
     generated: bool = False  # whether feed and walks are in a folder that goes with the exploration
     most_walk: int = 1800  # seconds, at the end of the page's slider

@@ -17,6 +17,7 @@ from .. import __version__
 from ..core.console import say
 from ..core.errors import InputError
 from ..core.files import all_in, atomic_path, outputs_noted, remove, sha256_of_file
+from ..shipped import DATA
 
 RECORDS = "stages"
 LOCK, MARK = ".lock", "a folder of ttm-tools study\n"
@@ -60,8 +61,9 @@ def key_of(facts: Any) -> str:
 
 @cache
 def sum_of_tools() -> str:
-    """The sum of the tools themselves, by their version and their files."""
-    files = sorted(path for path in PACKAGE.rglob("*") if path.is_file() and "__pycache__" not in path.parts)
+    """The sum of the tools themselves, by their version and their files; of a wheel without what else it has."""
+    found = (path for path in PACKAGE.rglob("*") if path.is_file() and "__pycache__" not in path.parts)
+    files = sorted(path for path in found if DATA not in path.parents)
     return key_of([__version__, [[str(path.relative_to(PACKAGE)), sha256_of_file(path)] for path in files]])
 
 

@@ -11,8 +11,8 @@ from ..core.files import remove, sha256_of_file
 from ..core.locks import is_locked, lock_file
 from ..gtfs.stops import read_stops
 from ..matrices import BASE, TODAY, open_matrix
+from ..shipped import LEAFLET
 from ..views.page.document import leaflet_files
-from ..views.page.settings import LEAFLET
 from .checks import check_shown
 from .cutting import FIRST, PARTS, remove_others, remove_parts, shape_noted, study_key, trial
 from .elsewhere import Means

@@ -18,11 +18,11 @@ from ...core.errors import MissingDependencyError
 from ...core.limits import DETOUR, WALKING_SPEED
 from ...core.text import display_text
 from ...matrices import Share
+from ...shipped import LEAFLET
 from .content import Content
 from .lines import Lines
 from .parts import Element, blocks_of, part, rows_in_block
 from .places import degrees_of, rings_of
-from .settings import LEAFLET
 from .streets import ASIDE, PageStreets
 
 ASSETS = Path(__file__).resolve().parent / "assets"

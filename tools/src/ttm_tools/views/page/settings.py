@@ -3,9 +3,8 @@
 from dataclasses import dataclass, field
 
 from ...core.limits import DETOUR, WALKING_SPEED
+from ...shipped import LEAFLET
 from ...walks import NEAR
-
-LEAFLET = "/usr/share/javascript/leaflet"
 
 
 @dataclass(frozen=True, kw_only=True)
