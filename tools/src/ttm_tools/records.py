@@ -7,6 +7,7 @@ in a text as Python's surrogate escapes and written back as they were. What peop
 
 import csv
 import math
+from collections import Counter
 from dataclasses import dataclass
 from pathlib import Path
 from typing import Any, BinaryIO, Callable, Iterable, Iterator, Sequence
@@ -50,8 +51,8 @@ def places_of(header: Sequence[str], path: str | Path, needed: Sequence[str]) ->
 
 def refuse_alike(path: str | Path, header: Sequence[str], names: Iterable[str]) -> None:
     """Refuses a file that has two columns of one of these names: which of them is meant can't be known."""
-    heads = [column.strip(" ") for column in header]
-    twice = next((name for name in names if heads.count(name) > 1), None)
+    counts = Counter(column.strip(" ") for column in header)
+    twice = next((name for name in names if counts[name] > 1), None)
     if twice is not None:
         raise BadInput(path, f"two columns {shown(twice)}", record=1)
 

@@ -159,7 +159,7 @@ def read_areas(path: str, called: Columns) -> Points:
     from .features import number_columns, valid
 
     frame = read_frame(path)
-    twice = next((name for name in frame.columns if list(frame.columns).count(name) > 1), None)
+    twice = next(iter(frame.columns[frame.columns.duplicated()]), None)
     if twice is not None:
         raise BadInput(path, f"two columns {shown(str(twice))}")
     if called.identifier not in frame.columns:
