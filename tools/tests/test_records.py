@@ -3,6 +3,7 @@
 import io
 import math
 import random
+import time
 from typing import Callable
 
 import numpy as np
@@ -65,6 +66,15 @@ def test_a_number_that_is_none_is_told_by_its_record(room: Room) -> None:
     with pytest.raises(InputError) as seen:
         columns.numbers_of(found["a"], path, "a")
     assert str(seen.value) == f"{path}: record 3: a 'x' is not a number"
+
+
+def test_a_name_that_stands_twice_is_found_among_as_many_as_there_may_be_stops() -> None:
+    names = [f"S{number}" for number in range(65_535)]
+    begin = time.process_time()
+    tables.refuse_alike("wide.csv", names, names)
+    with pytest.raises(InputError, match="wide.csv: record 1: two columns S65534"):
+        tables.refuse_alike("wide.csv", [*names, "S65534 "], names)
+    assert time.process_time() - begin < 10, "comparing all pairs of names takes minutes"
 
 
 def test_lines_are_joined_of_pieces() -> None:

@@ -6,6 +6,7 @@ surrogate escapes in a text, and are written unchanged. `text.display_text` deco
 
 import csv
 import math
+from collections import Counter
 from dataclasses import dataclass
 from pathlib import Path
 from typing import Any, BinaryIO, Iterable, Iterator, Sequence
@@ -50,8 +51,8 @@ def column_positions(header: Sequence[str], path: str | Path, needed: Sequence[s
 
 def refuse_alike(path: str | Path, header: Sequence[str], names: Iterable[str]) -> None:
     """Raise an `InputError` if one of the named columns appears twice."""
-    heads = [column.strip(" ") for column in header]
-    twice = next((name for name in names if heads.count(name) > 1), None)
+    counts = Counter(column.strip(" ") for column in header)
+    twice = next((name for name in names if counts[name] > 1), None)
     if twice is not None:
         raise InputError(path, f"two columns {display_text(twice)}", record=1)
 

@@ -3,6 +3,7 @@ records those of the scenarios; and that of one, which has its trips alone.
 """
 
 import shutil
+from collections import Counter
 from dataclasses import dataclass
 from functools import cached_property
 from pathlib import Path
@@ -53,8 +54,8 @@ class Written:
 
 
 def written_of(base: Base, finished: Sequence[Finished], alone: bool) -> Written:
-    added = [route for scenario in finished for route in scenario.state.lines]
-    shared = frozenset(route for route in added if added.count(route) > 1)
+    added = Counter(route for scenario in finished for route in scenario.state.lines)
+    shared = frozenset(route for route, count in added.items() if count > 1)
     return Written(base, finished, new.Names(base, shared, alone))
 
 

@@ -152,7 +152,7 @@ def read_table(path: str, called: Columns) -> Points:
 def read_areas(path: str, called: Columns) -> Points:
     """A point inside each area of a file, with the area, or each of its points; columns of text have labels."""
     frame = read_frame(path)
-    twice = next((name for name in frame.columns if list(frame.columns).count(name) > 1), None)
+    twice = next(iter(frame.columns[frame.columns.duplicated()]), None)
     if twice is not None:
         raise InputError(path, f"two columns {display_text(str(twice))}")
     if called.identifier not in frame.columns:
