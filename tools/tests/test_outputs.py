@@ -183,11 +183,14 @@ def test_temporary_folders_of_other_machines_stay_and_those_of_killed_runs_go(
 ) -> None:
     """Hosts share the folder of temporary files: a process number of another host means nothing here."""
     monkeypatch.setattr(tempfile, "tempdir", str(room.folder))
-    for name in ("ttm-tools-feed.live", "ttm-tools-feed.left", "ttm-tools-feed.4194303.old"):
+    names = ["ttm-tools-feed.live", "ttm-tools-feed.left", "ttm-tools-feed.new", "ttm-tools-feed.4194303.old"]
+    for name in names:
         (room.folder / name).mkdir()
         (room.folder / name / "data").write_text(name)
-    for name in ("ttm-tools-feed.live", "ttm-tools-feed.left"):
+    for name in names[:3]:
         (room.folder / name / "lock").touch()
+    for name in names[:2]:  # the third one is so young that its process may not have locked it yet
+        os.utime(room.folder / name, (0, 0))
     other = subprocess.Popen(
         ["flock", "--no-fork", room.path("ttm-tools-feed.live/lock"), "sh", "-c", "echo; exec sleep 600"],
         stdout=subprocess.PIPE,
@@ -199,6 +202,7 @@ def test_temporary_folders_of_other_machines_stay_and_those_of_killed_runs_go(
             assert list(inner.iterdir()) == []
             assert {path.name for path in room.folder.iterdir()} == {
                 "ttm-tools-feed.live",
+                "ttm-tools-feed.new",
                 "ttm-tools-feed.4194303.old",
                 inner.parent.name,
             }

@@ -6,6 +6,7 @@ import itertools
 import os
 import secrets
 import tempfile
+import time
 from dataclasses import dataclass
 from pathlib import Path
 from typing import Iterator
@@ -15,19 +16,22 @@ from .locks import is_locked, locked
 
 TAKEN = (errno.ENOTEMPTY, errno.EEXIST, errno.ENOTDIR)  # another process was first
 LOCK = "lock"  # lock file of a temporary folder
+YOUNG = 60  # seconds in which a process may not have locked its new folder yet
 
 
 @contextlib.contextmanager
 def scratch(what: str) -> Iterator[Path]:
     """Yield a temporary folder, locked as long as it exists.
 
-    Unlocked ones of this user are removed first: a killed run left them. The lock also protects folders of other
-    machines that share the disk.
+    Unlocked ones of this user are removed first, unless they are new: a killed run left them. The lock also protects
+    folders of other machines that share the disk.
     """
     for other in Path(tempfile.gettempdir()).glob("ttm-tools-*"):
         with contextlib.suppress(OSError):
             lock = other / LOCK
-            if other.stat().st_uid == os.getuid() and lock.is_file() and not is_locked(lock):
+            found = other.stat()
+            is_left = found.st_uid == os.getuid() and time.time() - found.st_mtime > YOUNG and lock.is_file()
+            if is_left and not is_locked(lock):
                 remove(other)
     with tempfile.TemporaryDirectory(prefix=f"ttm-tools-{what}.") as folder:
         room = Path(folder) / "room"
