@@ -17,7 +17,7 @@ import lock
 import repository
 from repository import Count
 
-BUILT = "built-of"  # the name of a note beside a library: the digest of the files that it was built of
+BUILT = "built-of"  # the name of a file next to a library: the digest of the files that it was built from
 
 
 def note_built(root: Path) -> None:

@@ -1,6 +1,6 @@
 """The user's cache: prepared feeds, streets, and walks between points and stops.
 
-It lies in the folder that TTM_CACHE names, else in `ttm-tools` of XDG_CACHE_HOME or ~/.cache. Each entry is a folder
+It is in the folder that TTM_CACHE names, else in `ttm-tools` of XDG_CACHE_HOME or ~/.cache. Each entry is a folder
 named by the checksum of everything it depends on. Entries may be removed at any time.
 """
 
@@ -45,7 +45,7 @@ def sum_of_source(path: str) -> str:
 
 
 def cached_entry(kind: str, key: str, make: Callable[[Path], None]) -> Path:
-    """Return the entry of a key; a missing one is made in a temporary folder, and renamed when it is complete."""
+    """Return the entry of a key. A missing entry is written in a temporary folder, renamed when it is complete."""
     room = cache_folder() / kind
     entry = room / key
     if entry.is_dir():

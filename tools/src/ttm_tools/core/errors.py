@@ -29,7 +29,7 @@ class InputError(TtmError, ValueError):
     Attributes
     ----------
     file
-        The file, or the argument that stands for one.
+        The file, or the argument that has no file.
     record
         The number of the record; the header is record 1.
     column

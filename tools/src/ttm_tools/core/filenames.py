@@ -12,7 +12,7 @@ CHECKSUM_DIGITS = 8
 
 
 def file_name(name: str) -> str:
-    """Return a name as a file name; a long one is cut and ends with digits of its checksum."""
+    """Return a name as a file name. A long name is cut, and ends with digits of its checksum."""
     name_in_file = re.sub(r"[^\w.-]", "_", display_text(name)).lstrip(".") or "_"
     written = name_in_file.encode("utf-8", "replace")
     if len(written) <= LONGEST:

@@ -39,7 +39,7 @@ def records(path: str | Path) -> Iterator[tuple[int, list[str]]]:
 
 
 def column_positions(header: Sequence[str], path: str | Path, needed: Sequence[str]) -> dict[str, int]:
-    """Return the position of each column; raises an `InputError` if a needed one is missing."""
+    """Return the position of each column; raises an `InputError` if a needed column is missing."""
     places: dict[str, int] = {}
     for place, name in enumerate(header):
         places.setdefault(name.strip(" "), place)

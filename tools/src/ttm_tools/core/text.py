@@ -15,7 +15,7 @@ KEEP_E = ("ouses", "auses", "fuses", "muses", "cuses")  # houses, causes, excuse
 
 
 def printed(text: str) -> str:
-    """Return a text with `?` in place of each unprintable character, as `ttm` prints it."""
+    """Return a text with `?` for each unprintable character, as `ttm` prints it."""
     if text.isascii() and text.isprintable():
         return text
     return "".join("?" if unicodedata.category(sign) in UNPRINTABLE else sign for sign in text)

@@ -23,7 +23,7 @@ WARNING = "ttm: warning: "
 class EngineError(InputError):
     """The engine ended without a matrix.
 
-    The attributes of `InputError` are filled as far as the engine names them.
+    The attributes of `InputError` are set if the engine names them.
 
     Attributes
     ----------

@@ -173,7 +173,7 @@ def read_frame(path: str) -> Any:
 
 
 def text_of(value: Any) -> str:
-    """A field of a frame as it would stand in a table; nothing where it is missing."""
+    """A field of a frame as a table would have it; an empty text if it is missing."""
     if value is None or value != value:
         return ""
     if isinstance(value, (bool, np.bool_)):

@@ -18,7 +18,7 @@ OUTSIDE, OUTSIDE_COLUMNS = "inputs/outside.csv", ("column", "outside")  # sums o
 
 
 class FeedInputs(Protocol):
-    """The feed of a study as the stages so far left it."""
+    """The feed of a study after the stages that have run."""
 
     study: Study
     feed: str  # its folder, relative to the study's

@@ -31,8 +31,8 @@ class PageSettings:
     leaflet: str = LEAFLET
     within: int | None = None  # seconds, the limit with which the page opens; without it, the first of the matrix
     nearest: list[float] = field(default_factory=list)  # how many of the nearest opportunities are looked for
-    walk: int = 600  # seconds that one walks on from a stop at most
+    walk: int = 600  # the longest walk from a stop, in seconds
     speed: float = WALKING_SPEED  # metres a second
     detour: float = DETOUR  # metres of way for a metre of straight line
-    streets: str | None = None  # a file of OpenStreetMap, along whose ways one walks on
+    streets: str | None = None  # an OpenStreetMap file with the ways for these walks
     near: float = NEAR  # the greatest distance of a stop from a way, metres
