@@ -5,7 +5,7 @@ from dataclasses import dataclass
 
 from summaries import Results, Summary, ratio, sum_of_turns, summary_of
 
-RANGE, TEXTBOOK, TWO_HOURS = "range RAPTOR", "textbook RAPTOR", "120 minutes"
+RANGE, TEXTBOOK, TOOLS, TWO_HOURS = "range RAPTOR", "textbook RAPTOR", "ttm-tools", "120 minutes"
 Measured = Callable[[Results], Summary | None]
 
 
@@ -48,15 +48,13 @@ def search_goals() -> Iterator[Goal]:
     for feed in ("town, every third trip", "city, every third trip", "region"):
         yield Goal(f"{feed}: times as fast as range RAPTOR", faster("search", feed, TWO_HOURS, RANGE), 1.8, True, few)
     for feed, bound in {"city": 8.5, "metropolis": 7.0}.items():
-        measured = faster("search", feed, TWO_HOURS, TEXTBOOK)
-        yield Goal(f"{feed}: times as fast as textbook RAPTOR", measured, bound, True)
+        yield Goal(f"{feed}: times as fast as {TEXTBOOK}", faster("search", feed, TWO_HOURS, TEXTBOOK), bound, True)
     for feed in ("city", "metropolis"):
         drawn = f"{feed}, stops in a drawn order"
         yield Goal(
             f"{drawn}, over the feed's order", over_feeds(drawn, feed), 1.05, why="Labels lie elsewhere in the caches."
         )
-    changes = over_feeds("city, change times of 90 s", "city")
-    yield Goal("city: the search with change times, over none", changes, 1.3)
+    yield Goal("city: the search with change times, over none", over_feeds("city, change times of 90 s", "city"), 1.3)
     one = "A search computes at least 16 minutes together, and range RAPTOR one at a time."
     for feed in ("city", "region"):
         for minutes in (1, 4):
@@ -94,7 +92,7 @@ def job_goals() -> Iterator[Goal]:
     yield Goal("metropolis: memory of each further thread, MB", each_worker, 60)
     yield Goal("metropolis: reading, over the csv crate's pass", reading, 2.0)
     name = "city, cells of 425 m, four windows on three dates"
-    yield Goal("a study of a city, s", figure("study", name, "clock", "ttm-tools"), 600)
+    yield Goal("a study of a city, s", figure("study", name, "clock", TOOLS), 600)
 
 
 def reading(results: Results) -> Summary | None:
@@ -119,16 +117,15 @@ def conversation_goals() -> Iterator[Goal]:
     yield Goal("city: memory after 100,000 questions, over 100", memory_growth, 1.05)
     two = "While a changed network starts, the one before it still answers, so both are in memory."
     for feed, click in {"city": 200, "metropolis": 600}.items():
-        yield Goal(f"{feed}: click to picture, ms", figure("explore", feed, "click to picture", "ttm-tools"), click)
-        last = figure("explore", feed, "the last of a hundred clicks a second", "ttm-tools")
+        yield Goal(f"{feed}: click to picture, ms", figure("explore", feed, "click to picture", TOOLS), click)
+        last = figure("explore", feed, "the last of a hundred clicks a second", TOOLS)
         yield Goal(f"{feed}: the last of a hundred clicks, ms", last, 2 * click)
-        yield Goal(f"{feed}: a slider, ms", figure("explore", feed, "a slider", "ttm-tools"), 50)
-        memory = figure("explore", feed, "memory above a run", "ttm-tools")
+        yield Goal(f"{feed}: a slider, ms", figure("explore", feed, "a slider", TOOLS), 50)
+        memory = figure("explore", feed, "memory above a run", TOOLS)
         yield Goal(f"{feed}: memory of explore above a run, MB", memory, 300)
-        second = figure("explore", feed, "memory above a run while a second network starts", "ttm-tools")
+        second = figure("explore", feed, "memory above a run while a second network starts", TOOLS)
         yield Goal(f"{feed}: the same while a second network starts, MB", second, 300, why=two)
-    change = figure("explore", "city", "a route every five minutes", "ttm-tools")
-    yield Goal("city: a changed route in explore, s", change, 3)
+    yield Goal("city: a changed route in explore, s", figure("explore", "city", "a route every five minutes", TOOLS), 3)
 
 
 def gate_goals() -> Iterator[Goal]:

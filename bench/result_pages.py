@@ -22,7 +22,7 @@ and run:
 
 `bench/run.py --quick` takes five minutes; `--help` lists the parts. The baselines are in `bench/raptor`, and
 `bench/feedgen.py` generates the networks. Where two programs compute the same, the benchmark compares the sums of all
-results, and fails if they differ.
+results, and fails if they differ. A click opens what is folded.
 """
 NOT_MEASURED = "The search was not measured yet: run `python3 bench/run.py` and `python3 bench/run.py --tables`."
 

@@ -3,10 +3,12 @@
 import textwrap
 from collections.abc import Callable, Iterator, Sequence
 
-from goals import RANGE, TEXTBOOK, TWO_HOURS, faster
+from goals import RANGE, TEXTBOOK, TOOLS, TWO_HOURS, faster
 from summaries import Results, Summary, ratio, shown, sum_of_turns
 
-TTM, TOOLS = "ttm", "ttm-tools"
+TTM = "ttm"
+UNFOLDED, FOLDED = ("## {}\n", ""), ("<details>\n<summary>{}</summary>\n", "\n</details>\n")  # begin and end
+OF_FOLDED = ("workers", "reading", "conversation", "commands", "explore", "gate")
 
 
 def cell(found: Summary | float | None) -> str:
@@ -181,13 +183,14 @@ def gate(results: Results) -> Iterator[str]:
 
 
 def section_of(part: str, lines: Callable[[Results], Iterator[str]]) -> Callable[[Results], str]:
-    """The section of a part: its heading and what follows; nothing if it wasn't measured."""
+    """The section of a part, folded or not: its heading and what follows; nothing if it wasn't measured."""
 
     def section(results: Results) -> str:
         if part not in results.rows:
             return ""
         heading, *rest = lines(results)
-        return "\n".join([f"## {heading}\n", *(wrapped(text) + "\n" for text in rest)])
+        begin, end = FOLDED if part in OF_FOLDED else UNFOLDED
+        return "\n".join([begin.format(heading), *(wrapped(text) + "\n" for text in rest)]) + end
 
     return section
 
@@ -197,8 +200,8 @@ OF_PARTS = {
     "windows": windows,
     "rows": rows_of_study,
     "jobs": jobs,
-    "workers": workers,
     "destinations": destinations,
+    "workers": workers,
     "reading": reading,
     "conversation": conversation,
     "commands": commands,
