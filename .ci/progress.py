@@ -21,7 +21,7 @@ IN_USE = 0.85  # of the processors, while crates are proved
 PAUSE = 60  # seconds between two reports at least
 SLOWEST = 10
 PROVED = re.compile(r"rt: \w+(: its tests are)? (proved|is kept: .*)")
-TRIED = re.compile(r"rt: must-fail .*")
+BEGUN = re.compile(r"rt: \w+: trying its must-fail edits \((\d+)\)")
 CRATE = re.compile(r"--crate-name\0(\w+)")
 
 
@@ -46,7 +46,7 @@ class Progress:
     def __init__(self, crates: int, edits: int) -> None:
         self.began = self.reported = time.monotonic()
         self.crates, self.edits = crates, edits
-        self.proved = self.tried = 0
+        self.proved = self.begun = 0
         self.expected = 0.0
 
     def expect(self) -> None:
@@ -60,13 +60,13 @@ class Progress:
     def read(self, line: str) -> None:
         """Counts what a line of `rt ci` says to be done."""
         self.proved += bool((found := PROVED.fullmatch(line)) and not found[1])
-        self.tried += bool(TRIED.fullmatch(line))
+        self.begun += int(begun[1]) if (begun := BEGUN.fullmatch(line)) else 0
         if time.monotonic() - self.reported > PAUSE:
             self.report()
 
     def report(self, part: str = "") -> None:
         self.reported = time.monotonic()
-        part = part or f"{self.proved} of {self.crates} crates proved, {self.tried} of {self.edits} edits tried"
+        part = part or f"{self.proved} of {self.crates} crates proved, {self.begun} of {self.edits} edits begun"
         print(f"-- {minutes(self.reported - self.began)} of {minutes(self.expected)} at most: {part}", flush=True)
 
 

@@ -127,6 +127,13 @@ def test_the_gate_says_how_long_it_takes_and_what_took_longest(small: Gate) -> N
     assert any(re.fullmatch(r" +\d+ s  \.ci/tools_checks\.py", line) for line in lines[lines.index(SLOWEST) :])
 
 
+def test_proofs_and_must_fail_edits_are_counted_as_rt_ci_names_them() -> None:
+    where = progress.Progress(crates=2, edits=5)
+    for line in ("rt: lower proved", "rt: lower: its tests are proved", "rt: lower: trying its must-fail edits (3)"):
+        where.read(line)
+    assert (where.proved, where.begun) == (1, 3)
+
+
 def test_the_script_is_counted_and_gets_the_built_programs_next(small: Gate) -> None:
     small.repository.write(gate.CHECKS, SCRIPT)
     run = small.run()
