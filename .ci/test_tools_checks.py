@@ -60,3 +60,18 @@ def test_only_tests_in_a_browser_are_run_again(
 def test_a_folder_without_a_report_fails(tmp_path: Path, monkeypatch: pytest.MonkeyPatch) -> None:
     monkeypatch.setattr(tools_checks, "ROOT", tmp_path)
     assert tools_checks.tested(".", "--no-such-option") == Count(0, 1, 0)
+
+
+@pytest.mark.parametrize(
+    "script, absent, count",
+    [("exit 0", [], Count(1)), ("exit 1", [], Count(0, 1)), ("exit 1", ["r-base-core"], Count(skipped=1))],
+)
+def test_the_r_package_is_one_check_or_skipped(
+    script: str, absent: list[str], count: Count, tmp_path: Path, monkeypatch: pytest.MonkeyPatch
+) -> None:
+    (tmp_path / "r").mkdir()
+    (tmp_path / "r/check.sh").write_text(f'#!/bin/sh\n[ "$*" = ttm ] && {script}\n')
+    (tmp_path / "r/check.sh").chmod(0o755)
+    monkeypatch.setattr(tools_checks, "ROOT", tmp_path)
+    monkeypatch.setattr(tools_checks, "lacking", lambda group: absent)
+    assert tools_checks.check_r_package(Path("ttm")) == count

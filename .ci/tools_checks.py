@@ -3,8 +3,8 @@
 
     tools_checks.py                  layout, types, and the tests that don't run the program
     tools_checks.py --quick          these tests alone, without those in a browser, which takes longest to install
-    tools_checks.py PROGRAM TRIALS   the tests of the tools that run the built `ttm`, and tests/program with the built
-                                     `growth_trials`, too
+    tools_checks.py PROGRAM TRIALS   the tests of the tools that run the built `ttm`, tests/program with the built
+                                     `growth_trials`, and the R package
 
 `black`, `flake8` and `mypy` read tools/pyproject.toml and .flake8; `pytest` runs the tests in one process for each
 processor. What is missing is installed from Debian if that takes at most five minutes. A linter that can't be
@@ -26,6 +26,7 @@ from repository import PIPED, Count
 
 ROOT = Path(__file__).resolve().parent.parent
 OF_PROGRAM = "tests/program"
+OF_QGIS = "qgis"
 REPEATS = 2  # runs of each hostile trial with several threads: what they meet depends on their order
 CONFIGURED = "tools/pyproject.toml"
 MYPY = ["mypy", "--no-error-summary", "--cache-dir", os.devnull, "--config-file", CONFIGURED]
@@ -34,6 +35,7 @@ LINTERS = [
     ["flake8"],
     MYPY,
     [*MYPY, OF_PROGRAM],  # its `conftest` has the name of another
+    [*MYPY, OF_QGIS],
 ]
 
 
@@ -74,6 +76,17 @@ def tested(folder: str, *options: str) -> Count:
     return Count(tests - failed - skipped, max(failed, 1 if status else 0), skipped)
 
 
+def check_r_package(program: Path) -> Count:
+    """Runs R CMD check, the examples and the tests of the R package, which count as one check."""
+    absent = lacking("r")
+    if absent:
+        print(f"skipped: the R package, without {', '.join(absent)}")
+        return Count(skipped=1)
+    status = run([str(ROOT / "r/check.sh"), str(program)], ROOT)
+    print(f"r/check.sh: {'passed' if status == 0 else 'FAILED'}", flush=True)
+    return Count(status == 0, status != 0)
+
+
 def test(built: list[str], is_quick: bool) -> Count:
     """Runs the tests that run these built programs, or without any those that run none."""
     absent = lacking("tests")
@@ -88,11 +101,20 @@ def test(built: list[str], is_quick: bool) -> Count:
         program, trials = (Path(path).resolve() for path in built)
         count = tested("tools", "-m", "program", f"--program={program}", *at_once)
         options = [f"--program={program}", f"--trials={trials}", f"--repeat={REPEATS}"]
-        return count + tested(OF_PROGRAM, *options, *at_once)
+        count += tested(OF_PROGRAM, *options, *at_once) + check_r_package(program)
+        return count + of_qgis("-m", "program", f"--program={program}", *at_once)
     count = tested("tools", "-m", "not program", *at_once)
     for folder in ("bench", "tests/sources") if is_quick else ("bench", "tests/sources", ".ci"):
         count += tested(folder, *at_once)
-    return count
+    return count if is_quick else count + of_qgis("-m", "not program", *at_once)
+
+
+def of_qgis(*options: str) -> Count:
+    """Runs the tests of the plugin, where Debian's QGIS is installed."""
+    if lacking(OF_QGIS):
+        print(f"skipped: the tests of the plugin for QGIS, without {', '.join(lacking(OF_QGIS))}")
+        return Count(skipped=1)
+    return tested(OF_QGIS, *options)
 
 
 def main() -> int:
@@ -101,7 +123,8 @@ def main() -> int:
     built = [] if is_quick else arguments
     if len(built) not in (0, 2):
         sys.exit("usage: tools_checks.py [--quick | PROGRAM TRIALS]")
-    groups = ["tests"] if is_quick else ["tests", "browser", "packaging"] if built else ["tests", "linters", "browser"]
+    more = ["browser", OF_QGIS, *(["packaging", "r"] if built else ["linters"])]
+    groups = ["tests", *([] if is_quick else more)]
     install(*groups)
     missing = [package for group in groups for package in lacking(group)]
     if missing:

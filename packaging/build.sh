@@ -1,6 +1,7 @@
 #!/bin/sh
 # Builds packages of a proved program, the tools and the documentation: three for Debian (ttm, python3-ttm-tools and
-# ttm-doc), a tar file with the files of all three, and a wheel for pip. The same commit and program give the same bytes.
+# ttm-doc), a tar file with the files of all three, a wheel for pip, and the plugin for QGIS as a zip file. The same
+# commit and program give the same bytes.
 # The documentation is written to FOLDER/html, too, where ttm-tools docs of a clone finds it.
 # usage: packaging/build.sh [--out FOLDER] [PROGRAM]
 #   FOLDER   where they are written; packaging/out by default
@@ -16,7 +17,7 @@ if [ "${1:-}" = --out ]; then
     out=$(cd "$2" && pwd)
     shift 2
 fi
-[ $# -le 1 ] || { sed -n '5,7s/^# //p' "$0" >&2; exit 2; }
+[ $# -le 1 ] || { sed -n '6,8s/^# //p' "$0" >&2; exit 2; }
 program=${1:-$here/crates/ttm/out/ttm}
 [ $# -eq 1 ] || [ -x "$program" ] || (cd "$here/crates/ttm" && rt run > /dev/null)
 program=$(realpath "$program")
@@ -77,18 +78,22 @@ gzip -9n "$tarred"
 # The wheel, which has the documentation, and Leaflet with its licence, too.
 mkdir "$data/leaflet"
 cp /usr/share/javascript/leaflet/leaflet.min.js /usr/share/javascript/leaflet/leaflet.css "$data/leaflet"
-cp tools/src/ttm_tools/views/page/assets/leaflet_licence.txt "$data/leaflet/LICENSE"
+cp tools/src/ttm_tools/web/page/assets/leaflet_licence.txt "$data/leaflet/LICENSE"
 cp engine/PROVED "$data"
 cp -r _build/html "$data/html"
 rm -rf tools/build tools/.pybuild tools/src/*.egg-info
 TTM_ENGINE=$source/engine/ttm python3 -m build --wheel --no-isolation --outdir "$room" tools > "$room/log" 2>&1 \
     || { tail -n 30 "$room/log" >&2; exit 1; }
 
+# The plugin for QGIS.
+python3 "$here/packaging/plugin.py" "$room" > /dev/null
+
 # Each gets its name when it is complete.
 mkdir -p "$out"
 rm -rf "$out/html"
 cp -r _build/html "$out/html"
-for file in "$room"/ttm_*.deb "$room"/python3-ttm-tools_*.deb "$room"/ttm-doc_*.deb "$tarred.gz" "$room"/*.whl; do
+for file in "$room"/ttm_*.deb "$room"/python3-ttm-tools_*.deb "$room"/ttm-doc_*.deb "$tarred.gz" "$room"/*.whl \
+    "$room"/ttm_processing-*.zip; do
     cp "$file" "$out/new" && mv "$out/new" "$out/$(basename "$file")"
     echo "$out/$(basename "$file")"
 done

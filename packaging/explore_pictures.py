@@ -11,6 +11,7 @@ Chromium, Pillow, flask and jinja2.
 
 import contextlib
 import io
+import shutil
 import subprocess
 import sys
 from pathlib import Path
@@ -25,7 +26,7 @@ from shared import DATE, TOOLS, parser_of as parser_of  # noqa: E402
 START, END, CELL = "B00170S", "B00088N", "r10c07"
 ROUTE, EVERY = "0013 (L0013)", "6"  # minutes
 GRID = "300"  # metres
-SIZE = 1120, 760
+SIZE = 1280, 800
 COLOURS = 256
 IDLE = "while (document.body.dataset.busy === '1') await new Promise((it) => setTimeout(it, 20)); await show();"
 NAMES = (
@@ -41,7 +42,8 @@ NAMES = (
 @contextlib.contextmanager
 def served(feed: Path, program: str | None, *more: str) -> Iterator[str]:
     """A server of a feed while the block runs: its address."""
-    jobs = ["--opportunities", str(feed / "opportunities.csv")]
+    shutil.copy(feed / "opportunities.csv", feed / "jobs.csv")  # the page calls them as the file
+    jobs = ["--opportunities", str(feed / "jobs.csv")]
     words = [str(feed), "--date", DATE, *jobs, *(["--program", program] if program else []), "--no-browser", *more]
     process = subprocess.Popen([sys.executable, TOOLS, "explore", *words], stdout=subprocess.PIPE, text=True)
     try:
@@ -56,24 +58,24 @@ def pictures_of_stops(browser: Browser) -> Iterator[bytes]:
     """What a stop reaches, with a journey and without; the route that is changed; and the change in two ways."""
     browser.click(START)
     browser.press("#areas")
-    browser.press("#clicks [value=end]")
+    browser.press("#tools [value=end]")
     browser.click(END)
-    browser.press("#clicks [value=start]")
+    browser.press("#tools [value=start]")
     browser.awaited("while (journey.found === null) await new Promise((it) => setTimeout(it, 20));")
     yield picture_of(browser)
     browser.run("journey.end = -1")
     yield picture_of(browser)
     browser.press("#areas")
     browser.awaited("await routes.read_;")
-    browser.press("#change-part summary")
+    browser.press("#tools [value=route]")
     browser.choose("route", ROUTE)
     browser.run("document.getElementById('headway-every').value = arguments[0]", EVERY)
-    yield picture_of(browser, "#change-part")
+    yield picture_of(browser)
     browser.press("#headway")
     browser.awaited(IDLE)
-    browser.run("document.getElementById('change-part').open = false")
-    yield picture_of(browser, "#heading")
-    browser.press("#beside")
+    browser.press("#tools [value=start]")
+    yield picture_of(browser)
+    browser.press("#view-beside")
     yield picture_of(browser)
 
 
@@ -83,12 +85,10 @@ def pictures_of_cells(browser: Browser) -> Iterator[bytes]:
     yield picture_of(browser)
 
 
-def picture_of(browser: Browser, selector: str = "") -> bytes:
-    """The window, with the panel from its beginning or from a part on; nothing has the focus."""
+def picture_of(browser: Browser) -> bytes:
+    """The window, with the answer from its beginning on; nothing has the focus."""
     browser.run("document.activeElement.blur(); document.getElementById('tip').hidden = true")
-    browser.run("document.getElementById('panel').scrollTop = 0")
-    if selector:
-        browser.run("document.querySelector(arguments[0]).scrollIntoView()", selector)
+    browser.run("document.getElementById('answer').scrollTop = 0")
     browser.settle()
     found: bytes = browser.driver.get_screenshot_as_png()
     return found

@@ -21,7 +21,7 @@ from explore_pictures import ROOT, Browser, fewer_colours, parser_of
 
 PAGES = ("tutorial", "howto/plans", "howto/points")  # in the order in which their commands run
 MAPS = {"lost.png": "picture.png", "tram.png": "tram.png", "doors.png": "cells.png"}  # names there, and in docs/images
-PAGE, SIZE = "page.png", (960, 675)
+PAGE, SIZE = "page.png", (1280, 800)
 
 
 def lay_out(folder: Path, program: Path) -> None:

@@ -13,7 +13,7 @@ from setting import Setting, printed, stop
 from shared import DATE, Study, kilobytes, stops_of, there, write_origins
 
 sys.path.insert(0, str(ROOT / "tools" / "src"))
-from ttm_tools import Network  # noqa: E402
+from ttm_tools.compat.network import Network  # noqa: E402
 from ttm_tools.engine.conversation import Conversation  # noqa: E402
 
 ONE_MINUTE = ["--from", "07:00", "--to", "07:00"]
@@ -97,7 +97,7 @@ def many(setting: Setting, feed: str) -> None:
 
 
 def in_python(setting: Setting, feed: str) -> None:
-    """Questions of `ttm_tools.Network`, whose answers are pandas frames; the first one starts the process."""
+    """Questions of `compat.network.Network`, whose answers are pandas frames; the first one starts the process."""
     folder = str(setting.feeds.folder(feed))
     stops = [stop_id for path in drawn_origins(setting, feed, 10) for stop_id in stops_of(path)]
     walks = next(iter(there(folder, "footpaths.csv")), None)

@@ -4,8 +4,9 @@ one byte at a time; each file cut short after every byte.
 
     hostile.py PROGRAM [GROWTH_TRIALS]
 
-Over four small studies, the last of several shares and limits: the text of the matrix comes whole and right, or a line
-and the status that belong to what was refused, and nothing else. With the built program of crates/growth_trials each
+Over six small studies, some of several shares and limits: the text of the matrix comes whole and right, or a line
+and the status that belong to what was refused, and nothing else. A file that is cut short gives the matrix of the
+second program, or the line of its first error. With the built program of crates/growth_trials each
 public call that takes memory is refused each growth in turn, too: it gives the right value, or says out of memory and
 gives it when made again. In a conversation (`ttm --ask`) each growth, start, open, read and write is refused in turn,
 too: one answer alone says it, or the conversation ends before its first answer; where its own input can't be read or
@@ -20,10 +21,11 @@ import subprocess
 import sys
 import tempfile
 from pathlib import Path
-from typing import Mapping, Sequence
+from typing import Mapping, NamedTuple, Sequence
 
 import plain
 import small
+from first_error import first_error
 
 # the small feed with a station, a day of its own and a headway, and the analyst's own files
 FILES = {
@@ -36,17 +38,31 @@ FILES = {
     "transfers.txt": "from_stop_id,to_stop_id,transfer_type,min_transfer_time\nS,S,2,120\nB,C,2,1500\n",
     "to.csv": "stop_id\nC\nB\n",
 }
+# the small feed as it is, and two scenarios
+PLAIN = {**small.FEED, **{name: small.OWN[name] for name in ("cut.csv", "late.csv")}}
 ASKED = "--feed . --date 20260504 --from 08:00 --to 08:00 --trips 2 --walk 300 --share 50 --within 1800 --tries 2"
 OWN = "--footpaths walks.csv --opportunities chances.csv --origins origins.csv --destinations to.csv"
 SHARES = ASKED.replace("--share 50 --within 1800", "--share 1,25,50,75,100 --within 700,1800")
 SEVERAL = SHARES.replace("--from 08:00 --to 08:00", "--from 07:58 --to 08:01")
-# the arguments of each study
+
+
+class Study(NamedTuple):
+    """The files of a folder, by their names, and the arguments of a run there."""
+
+    files: Mapping[str, str]
+    arguments: Sequence[str]
+
+
 STUDIES = [
-    f"{ASKED} --workers 1 cut.csv late.csv",
-    f"{ASKED} --workers 2 cut.csv late.csv",
-    f"{ASKED} --workers 2 {OWN} cut.csv late.csv",
-    f"{SEVERAL} --workers 2 {OWN} cut.csv",
+    Study(FILES, f"{ASKED} --workers 1 cut.csv late.csv".split()),
+    Study(FILES, f"{ASKED} --workers 2 cut.csv late.csv".split()),
+    Study(FILES, f"{ASKED} --workers 2 {OWN} cut.csv late.csv".split()),
+    Study(FILES, f"{SEVERAL} --workers 2 {OWN} cut.csv".split()),
+    Study(PLAIN, f"{ASKED.replace('300', '0')} --workers 1 cut.csv late.csv".split()),
+    Study(PLAIN, f"{ASKED.replace('300', '0')} --workers 2 cut.csv late.csv".split()),
 ]
+# those whose files are cut short
+CUT = [STUDIES[2], STUDIES[5]]
 
 # a conversation and its questions; the last but one is a fault
 TALK = f"{ASKED} --ask --workers 2 --footpaths walks.csv cut.csv"
@@ -72,15 +88,15 @@ Answer = tuple[int, str, str]  # a status and both outputs
 class Trial:
     """The program in a folder of small files."""
 
-    def __init__(self, program: str, room: str) -> None:
+    def __init__(self, program: str, room: str, files: Mapping[str, str] = FILES) -> None:
         self.program, self.room, self.passed, self.failed = os.path.abspath(program), Path(room), 0, 0
         self.given: bytes | None = None  # what the program reads from its standard input
         self.library = str(self.room / "refuse.so")
         source = Path(__file__).with_name("refuse.c")
         subprocess.run(["cc", "-O2", "-shared", "-fPIC", "-o", self.library, source], check=True)
-        self.folder = self.room / "feed"
+        self.folder, self.files = self.room / "feed", files
         self.folder.mkdir()
-        for name, text in FILES.items():
+        for name, text in files.items():
             (self.folder / name).write_text(text)
 
     def run(
@@ -121,22 +137,23 @@ class Trial:
         if not right:
             print(f"wrong: {what}: status {answer[0]}, told {answer[2]!r}\n{answer[1]}", flush=True)
 
-    def matrix(self, arguments: Sequence[str]) -> str | None:
-        """What the plain second program gives; none where it can't read the files."""
+    def by_definition(self, arguments: Sequence[str]) -> Answer:
+        """What a run gives by the plain second program: the matrix, or the line of the first error."""
         text, here = io.StringIO(), os.getcwd()
         os.chdir(self.folder)
         try:
+            line = first_error(arguments)
+            if line is not None:
+                return 2, "", line
             plain.write_matrix(arguments, text)
-            return text.getvalue()
-        except Exception:
-            return None
+            return 0, text.getvalue(), ""
         finally:
             os.chdir(here)
 
     def wanted(self, arguments: Sequence[str]) -> str:
         """What is printed where nothing is refused."""
-        matrix = self.matrix(arguments)
-        assert matrix is not None
+        status, matrix, line = self.by_definition(arguments)
+        assert (status, line) == (0, "")
         return matrix
 
     def refuse_each(self, arguments: Sequence[str], what: str, slow: bool = False) -> int:
@@ -185,13 +202,11 @@ class Trial:
     def cut_each(self, arguments: Sequence[str]) -> tuple[int, int]:
         """Cuts each file short after every byte; gives how many prefixes there were, and how many were accepted."""
         tried = accepted = 0
-        for name, text in FILES.items():
+        for name, text in self.files.items():
             for count in range(len(text)):
                 (self.folder / name).write_text(text[:count])
                 answer = self.run(arguments)
-                refused = answer[0] == 2 and answer[1] == "" and re.fullmatch(r"ttm: .+\n", answer[2])
-                right = answer == (0, self.matrix(arguments), "") if answer[0] == 0 else bool(refused)
-                self.judge(f"{name} cut after {count} bytes", right, answer)
+                self.judge(f"{name} cut after {count} bytes", answer == self.by_definition(arguments), answer)
                 tried, accepted = tried + 1, accepted + (answer[0] == 0)
             (self.folder / name).write_text(text)
         return tried, accepted
@@ -213,8 +228,7 @@ class Talk(Trial):
         arguments = TALK.replace("--ask ", "").split()
         replaced = [arguments.index(item) for item in question[::2] if item in arguments]
         kept = [word for at, word in enumerate(arguments) if at not in replaced and at - 1 not in replaced]
-        text = self.matrix([*question, *kept])
-        assert text is not None
+        text = super().wanted([*question, *kept])
         return f"answer 0 {len(text)}\n{text}".encode()
 
     def wanted(self, arguments: Sequence[str]) -> str:
@@ -254,19 +268,23 @@ def tell_refusals(trial: Trial, name: str, arguments: Sequence[str]) -> None:
 def main() -> int:
     if len(sys.argv) not in (2, 3):
         sys.exit("usage: hostile.py PROGRAM [GROWTH_TRIALS]")
+    trials = []
+    for number, study in enumerate(STUDIES, 1):
+        with tempfile.TemporaryDirectory(prefix="ttm-hostile-") as room:
+            trials.append(Trial(sys.argv[1], room, study.files))
+            tell_refusals(trials[-1], f"study {number}", study.arguments)
+            if study in CUT:
+                tried, accepted = trials[-1].cut_each(study.arguments)
+                print(f"prefixes: {tried}, of which {accepted} were accepted", flush=True)
     with tempfile.TemporaryDirectory(prefix="ttm-hostile-") as room:
-        trial = Trial(sys.argv[1], room)
-        for number, study in enumerate(STUDIES, 1):
-            tell_refusals(trial, f"study {number}", study.split())
-        tried, accepted = trial.cut_each(STUDIES[2].split())
-        print(f"prefixes: {tried}, of which {accepted} were accepted", flush=True)
-        if len(sys.argv) == 3:
-            trial.refuse_calls(os.path.abspath(sys.argv[2]))
-    with tempfile.TemporaryDirectory(prefix="ttm-hostile-") as room:
-        talk = Talk(sys.argv[1], room)
-        tell_refusals(talk, "conversation", TALK.split())
-    failed = trial.failed + talk.failed
-    print(f"{trial.passed + talk.passed} passed, {failed} failed")
+        trials.append(Talk(sys.argv[1], room))
+        tell_refusals(trials[-1], "conversation", TALK.split())
+    if len(sys.argv) == 3:
+        with tempfile.TemporaryDirectory(prefix="ttm-hostile-") as room:
+            trials.append(Trial(sys.argv[1], room))
+            trials[-1].refuse_calls(os.path.abspath(sys.argv[2]))
+    failed = sum(trial.failed for trial in trials)
+    print(f"{sum(trial.passed for trial in trials)} passed, {failed} failed")
     return 1 if failed else 0
 
 

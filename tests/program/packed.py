@@ -3,6 +3,7 @@
 import gzip
 import os
 import subprocess
+import zipfile
 from pathlib import Path
 
 import pytest
@@ -12,13 +13,19 @@ NO_ROOM = 75
 SECONDS = 1800
 
 
+def files_in(path: Path) -> dict[str, bytes]:
+    """The files in a zip file."""
+    with zipfile.ZipFile(path) as packed:
+        return {name: packed.read(name) for name in packed.namelist()}
+
+
 class Packages:
     """What `packaging/build.sh` makes of a program, unpacked."""
 
     def __init__(self, program: Path, room: Path) -> None:
         self.program, self.room = program, room
         self.files = self.made("once")
-        self.debs, self.tar, self.wheel = self.files[:3], self.files[3], self.files[4]
+        self.debs, (self.tar, self.wheel, self.plugin) = self.files[:3], self.files[3:]
         self.tree, self.folder = room / "tree", room / "folder"
         for deb in self.debs:
             self.output("dpkg-deb", "--extract", deb, self.tree)
@@ -35,11 +42,11 @@ class Packages:
         return ran.stdout
 
     def made(self, name: str) -> list[Path]:
-        """The Debian packages of the program, the tools and the documentation, the tar file and the wheel."""
+        """The Debian packages of the program, the tools and the documentation, the tar file, the wheel, the plugin."""
         printed = self.output(PACKAGING / "build.sh", "--out", self.room / name, self.program)
         files = [Path(line) for line in printed.split()]
         kinds = [path.name.split("_")[0] for path in files[:3]] + [path.suffix for path in files[3:]]
-        assert kinds == ["ttm", "python3-ttm-tools", "ttm-doc", ".gz", ".whl"], files
+        assert kinds == ["ttm", "python3-ttm-tools", "ttm-doc", ".gz", ".whl", ".zip"], files
         return files
 
     def field(self, package: int, name: str) -> str:

@@ -21,7 +21,7 @@ from pathlib import Path
 
 import pytest
 
-from packed import Packages
+from packed import Packages, files_in
 
 ROOT = Path(__file__).resolve().parents[2]
 PYTHON = "/usr/bin/python3"  # that of Debian's packages
@@ -186,7 +186,7 @@ def test_control_says_what_is_needed(of: Packages) -> None:
     """the program needs the C library alone; the tools depend on what all of them need, and suggest what some need"""
     depends = of.field(0, "Depends")
     assert re.fullmatch(r"libc6( \(>= 2\.\d+\))?(, libgcc-s1( \(>= [\d.]+\))?)?", depends), depends
-    assert of.field(0, "Recommends") == of.field(1, "Recommends") == ""
+    assert [of.field(package, "Recommends") for package in range(3)] == [""] * 3  # apt would install them
     depends, suggests, about = (of.field(1, name) for name in ("Depends", "Suggests", "Description"))
     for name in "matplotlib h5py geopandas scipy pyosmium flask jinja2".split():
         assert f"python3-{name}" in suggests and f"python3-{name}" in about and f"python3-{name}" not in depends, name
@@ -280,7 +280,7 @@ def test_wheel_is_installed_by_pip(of: Packages) -> None:
 
 
 def test_wheel_is_installed_for_a_user(of: Packages) -> None:
-    """installed by pip for one user, the tools find the program and the documentation"""
+    """installed by pip for one user, the tools find the program, the documentation and the sample"""
     base = {"PYTHONUSERBASE": str(of.room / "base"), "PIP_DISABLE_PIP_VERSION_CHECK": "1"}
     options = ["--user", "--no-index", "--no-deps", "--break-system-packages", "--no-warn-script-location"]
     of.output(PYTHON, "-m", "pip", "install", *options, of.wheel, **base)
@@ -288,6 +288,10 @@ def test_wheel_is_installed_for_a_user(of: Packages) -> None:
     assert page.startswith(f"{of.room}/base/lib/") and Path(page.strip()).is_file()
     found = "import ttm_tools.engine as it; print(it.program_at(None))"
     assert of.output(PYTHON, "-c", found, **base) == f"{of.room}/base/bin/ttm\n"
+    there, examples = of.room / "sample_of_wheel", of.tree / "usr/share/doc/ttm/examples"
+    of.output(of.room / "base/bin/ttm-tools", "docs", "--sample", there, **base)
+    assert files_in(there / "town.zip") == files_in(examples / "town.zip")  # debhelper writes the zip file again
+    assert (there / "jobs.csv").read_bytes() == (examples / "jobs.csv").read_bytes()
 
 
 def test_installed_by_dpkg(of: Packages) -> None:

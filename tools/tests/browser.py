@@ -84,6 +84,10 @@ class Browser:
         """What an element shows to people; nothing where it is hidden."""
         return str(self.driver.find_element("id", identifier).text)
 
+    def content(self, identifier: str) -> str:
+        """The text of an element, also of one that is folded."""
+        return str(self.run("return document.getElementById(arguments[0]).textContent", identifier))
+
     def address(self) -> str:
         """What stands behind # in the address, once it is written."""
         self.awaited("await new Promise((it) => setTimeout(it, ADDRESS_EVERY + 50));")

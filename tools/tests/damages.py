@@ -10,9 +10,9 @@ from typing import Callable, Sequence
 
 from random_feeds import Drawn
 from ttm_tools import cli
-from ttm_tools.gtfs import feeds
-from ttm_tools.prepare import likely, report
-from ttm_tools.prepare.check import check
+from ttm_tools.gtfs import feeds, likely
+from ttm_tools.gtfs.check import check
+from ttm_tools.gtfs.fault_report import fault_lines, fault_rows
 from ttm_tools.gtfs.fields import FILES
 
 Records = list[list[str]]
@@ -300,7 +300,7 @@ def first_fault_differs(program: str, seed: int, room: Path) -> str:
         (folder / "stops.txt").write_bytes(b"\xef\xbb\xbf" + (folder / "stops.txt").read_bytes())
     read = feeds.read_feed(folder, room)
     faults = check(read)
-    assert all(likely.sentences(read)) and len(list(report.fault_rows(faults))) >= len(faults)
-    mine = "".join(line + "\n" for line in list(report.fault_lines(faults))[:1])
+    assert all(likely.sentences(read)) and len(list(fault_rows(faults))) >= len(faults)
+    mine = "".join(line + "\n" for line in list(fault_lines(faults))[:1])
     printed = matrix_of(program, folder)[2].decode()
     return "" if mine == printed else f"seed {seed}: {', '.join(feed.done)}: {mine!r} and {printed!r}"

@@ -82,8 +82,8 @@ def write_trips(room: Room, draw: random.Random, name: str) -> None:
     room.write(f"{name}/transfers.txt", "from_stop_id,to_stop_id,transfer_type,min_transfer_time", walks)
 
 
-def rows_of(folder: Path, name: str) -> list[Row]:
-    path = folder / f"{name}.txt"
+def rows_of(folder: Path, name: str, kind: str = "txt") -> list[Row]:
+    path = folder / f"{name}.{kind}"
     if not path.is_file():
         return []
     with open(path, newline="") as file:

@@ -16,8 +16,8 @@ from ttm_tools.core.errors import InputError
 from ttm_tools.core.times import as_clock
 from ttm_tools.core.toml_file import Entry, LineNumbers
 from ttm_tools.gtfs.fields import FILES
+from ttm_tools.plans.apply import carried_out
 from ttm_tools.plans.base import Base, read_base
-from ttm_tools.plans.carrying_out import carried_out
 from ttm_tools.plans.nearness import sentences_on_nearer
 from ttm_tools.plans.plan_file import PlannedScenario
 

@@ -107,6 +107,6 @@ def noted_figures(monkeypatch: pytest.MonkeyPatch) -> dict[str, FigureTexts]:
         noted[f"{folder.rpartition('.')[2]}/{name}"] = FigureTexts([text.get_text() for text in figure.texts], key)
         write(path, figure)
 
-    for module in ("ttm_tools.study.maps", "ttm_tools.study.results"):
+    for module in ("ttm_tools.study.results.maps", "ttm_tools.study.results.tables"):
         monkeypatch.setattr(f"{module}.write_picture", write_noted)
     return noted

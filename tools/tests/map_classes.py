@@ -24,7 +24,7 @@ def is_in_range(label: str, value: float) -> bool:
     numbers = [number_in(text) for text in re.findall(r"[\d,.]+", label)]
     if label.startswith(("less than", "up to")):
         return value < numbers[0] if label.startswith("less") else value <= numbers[0]
-    if label.startswith("more than") or label.endswith("and more"):
+    if label.startswith("more than") or label.endswith("or more"):
         return value > numbers[0] if label.startswith("more") else value >= numbers[0]
     return numbers[0] <= value <= numbers[-1]
 
@@ -32,25 +32,21 @@ def is_in_range(label: str, value: float) -> bool:
 def is_time_in(label: str, seconds: float) -> bool:
     if math.isnan(seconds) or label == "not reached":
         return math.isnan(seconds) and label == "not reached"
-    is_first = label.startswith(("up to", "more than"))
-    return is_in_range(label, seconds / 60) and (is_first or seconds / 60 > number_in(label.split()[0]))
+    return is_in_range(label, math.ceil(seconds / 60))
 
 
 def is_change_in(label: str, part: float, lost: str, gained: str) -> bool:
-    """Whether a loss, or a gain below 0, is in a class such as `5 to 15 min slower`."""
+    """Whether a loss, or a gain below 0, is in a class such as `5 to 14 min slower`, which has 14.9 minutes."""
     if label.startswith("less than"):
         return abs(part) < number_in(label.split()[2])
     numbers = [number_in(text) for text in re.findall(r"\d+", label)]
-    is_inside = numbers[0] <= abs(part) < (numbers[1] if len(numbers) > 1 else math.inf)
+    is_inside = numbers[0] <= abs(part) < (numbers[1] + 1 if len(numbers) > 1 else math.inf)
     return is_inside and label.endswith(lost if part > 0 else gained)
 
 
 def is_time_change_in(label: str, before: float, after: float) -> bool:
     gone, new = math.isnan(after), math.isnan(before)
-    if gone or new:
-        return label.split(":")[0] == ("not reached in either" if gone and new else "cut off" if gone else "new")
-    return (
-        ":" not in label
-        and label != "not reached in either"
-        and is_change_in(label, (after - before) / 60, "slower", "faster")
-    )
+    named = {(True, True): "not reached in either", (True, False): "cut off", (False, True): "newly reached"}
+    if gone or new or label in named.values():
+        return label == named.get((gone, new))
+    return is_change_in(label, (after - before) / 60, "slower", "faster")

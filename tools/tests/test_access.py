@@ -129,7 +129,7 @@ def plain_nearest(times: list[Cell], numbers: list[float], count: float) -> str:
 @pytest.mark.parametrize("seed", range(6))
 def test_drawn_matrices_measure_as_plain_formulas_say(town: Town, seed: int, monkeypatch: pytest.MonkeyPatch) -> None:
     draw = random.Random(seed)
-    monkeypatch.setattr("ttm_tools.matrices.matrix.CELLS_AT_ONCE", draw.choice([1, 20, 1000]))
+    monkeypatch.setattr("ttm_tools.matrices.base.CELLS_AT_ONCE", draw.choice([1, 20, 1000]))
     stops = [f"s{number}" for number in range(draw.randrange(2, 12))]
     times: list[Cell] = ["", 0, 600, *[draw.randrange(7200) for _ in range(9)]]
     rows = {name: draw.choices(times, k=len(stops)) for name in stops}

@@ -14,9 +14,9 @@ from ttm_tools.core.errors import InputError
 from ttm_tools.gtfs.projection import Projection
 from ttm_tools.gtfs.stops import Stops, read_stops
 from ttm_tools.matrices import open_matrix
-from ttm_tools.points.areas import AREAS_FILE, areas_beside
-from ttm_tools.points.shown import select_points
-from ttm_tools.points.table import read_points
+from ttm_tools.places.areas import AREAS_FILE, areas_beside
+from ttm_tools.places.read import read_points
+from ttm_tools.places.selection import select_points
 
 pytest.importorskip("geopandas")
 # the zone a reaches far to the north; b has a hole; c is two parts
@@ -145,7 +145,7 @@ def test_a_map_draws_areas_with_their_holes(town: Town, monkeypatch: pytest.Monk
     (left, right), (bottom, top) = axes.get_xlim(), axes.get_ylim()
     assert right - left > 0.04 * 111 and top - bottom > 0.05 * 110  # the areas' own extent
     monkeypatch.undo()
-    assert figure(town, monkeypatch, "times", "--origin", "a")[2][0].startswith("up to 10  (2)")
+    assert figure(town, monkeypatch, "times", "--origin", "a")[2][0].startswith("up to 10 min  (2)")
 
 
 @pytest.mark.parametrize("kind", ["geojson", "gpkg"])

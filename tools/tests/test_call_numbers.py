@@ -8,12 +8,12 @@ import pytest
 
 from drawn_plans import DrawnPlan
 
-from ttm_tools.explore.timetables import timetable_of
 from ttm_tools.gtfs import call_numbers, growing, reading
 from ttm_tools.gtfs.stops import read_stops
 from ttm_tools.gtfs.tables import read_table
 from ttm_tools.gtfs.timetable import read_timetable
 from ttm_tools.plans.base import read_base, read_taken_base
+from ttm_tools.web.timetables import timetable_of
 
 COLUMNS = ("begins", "stop", "arrive", "depart", "row")
 

@@ -13,7 +13,8 @@ from helpers import Town, read, town_matrix  # noqa: E402
 from test_maps import figure  # noqa: E402
 from ttm_tools.matrices import Matrix, Share, Sums, open_matrix, write_open_matrix  # noqa: E402
 from ttm_tools.matrices.csv_matrix import CsvMatrix  # noqa: E402
-from ttm_tools.views.pictures import breaks_of, labels_of_counts  # noqa: E402
+from ttm_tools.views.classes import count_labels  # noqa: E402
+from ttm_tools.views.map_content import breaks_of  # noqa: E402
 
 
 class Tenths(CsvMatrix):
@@ -40,6 +41,14 @@ def test_an_open_matrix_file_keeps_decimals(tenths: Town) -> None:
     assert [row["access"] for row in read(Path(out).read_text())] == ["0.3", "0.3", "0.2", "0.4"]
 
 
+def test_the_type_of_decimals_is_real(tenths: Town) -> None:
+    words = ["long", "--access", "--csvt", "--out", tenths.path("access.csv")]
+    assert tenths.ran(*words, tenths.file)[2] == 0
+    assert Path(tenths.path("access.csvt")).read_text() == '"String","Integer","String","Integer","Real"\n'
+    assert tenths.ran(*words, tenths.path("matrix.csv"))[2] == 0
+    assert Path(tenths.path("access.csvt")).read_text() == '"String","Integer","String","Integer","Integer"\n'
+
+
 def test_compare_lists_and_sums_decimals(tenths: Town) -> None:
     out, errors, status = tenths.ran("compare", "--by", "origin", "--listed", "access", tenths.file)
     assert status == 0
@@ -57,7 +66,7 @@ def test_compare_lists_and_sums_decimals(tenths: Town) -> None:
 def test_maps_show_decimals(tenths: Town, monkeypatch: pytest.MonkeyPatch) -> None:
     texts, _, key = figure(tenths, monkeypatch, "access", "--unit", "jobs", "--scenario", "cut")
     assert texts[1] == "Half of 2 stops reach at least 0.3 jobs; the most is 0.4"
-    assert key[:2] == ["less than 0.25  (1)", "0.35 and more  (1)"]
+    assert key[:2] == ["less than 0.25  (1)", "0.35 or more  (1)"]
     texts, _, key = figure(tenths, monkeypatch, "difference", "--unit", "jobs")
     assert texts[1] == "Of 2 stops 1 loses, 1 gains; the greatest loss: 33 % (0.1 jobs) at Alpha (A)"
     assert key[:2] == ["25 % or more lost  (1)", "25 % or more gained  (1)"]
@@ -66,7 +75,7 @@ def test_maps_show_decimals(tenths: Town, monkeypatch: pytest.MonkeyPatch) -> No
 def test_classes_of_decimals_share_their_breaks() -> None:
     breaks = breaks_of(np.array([0.0, 19.5, 45.5]))
     assert breaks == (10, 20, 30, 40)
-    assert labels_of_counts(breaks, False) == ["less than 10", "10 to 20", "20 to 30", "30 to 40", "40 and more"]
+    assert count_labels(breaks, False) == ["less than 10", "10 to 20", "20 to 30", "30 to 40", "40 or more"]
     assert breaks_of(np.array([0.0, 0.0])) == (1,)
 
 

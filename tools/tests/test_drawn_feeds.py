@@ -14,7 +14,7 @@ import pytest
 from drawn_feeds import FIRST, TABLES, Row, contents, rows_of, runs_on, seconds_of, write_drawn_feed
 from helpers import METRE, Room
 from ttm_tools.gtfs.stops import read_stops
-from ttm_tools.walks import Pace, straight_walks
+from ttm_tools.streets.walks import Pace, straight_walks
 
 GLOBE = 180 / (math.pi * METRE)  # metres from its middle
 

@@ -2,8 +2,11 @@
 
 import csv
 import itertools
+import json
 import random
+import re
 from pathlib import Path
+from typing import Sequence
 
 import pytest
 from pyproj import Geod
@@ -49,6 +52,62 @@ def test_drawn_people_count_in_the_cell_in_which_they_live(room: Room, seed: int
     whole = sum(float(cell["people"]) for cell in cells)
     sentence = f"{people}: {outside:g} of {sum(numbers):g} people are outside all cells"
     assert 0 < whole < sum(numbers) and sentence in errors.splitlines()
+
+
+def area_of(corners: Sequence[tuple[float, float]]) -> float:
+    """The area within corners."""
+    pairs = zip(corners, [*corners[1:], *corners[:1]])
+    return abs(sum(y * u - v * x for (y, x), (v, u) in pairs)) / 2
+
+
+def area_in_square(corners: list[tuple[float, float]], half: float) -> float:
+    """The area of a convex polygon in a square around 0, which cuts it side by side (Sutherland and Hodgman 1974)."""
+    for axis, sign in itertools.product((0, 1), (1, -1)):
+        kept = list[tuple[float, float]]()
+        for one, other in zip(corners, [*corners[1:], *corners[:1]]):
+            before, after = sign * one[axis] - half, sign * other[axis] - half
+            if before <= 0:
+                kept.append(one)
+            if before * after < 0:
+                part = before / (before - after)
+                kept.append((one[0] + part * (other[0] - one[0]), one[1] + part * (other[1] - one[1])))
+        corners = kept
+    return area_of(corners) if corners else 0.0
+
+
+@pytest.mark.parametrize("seed", range(4))
+def test_drawn_people_of_areas_are_shared_out_as_plain_clipping_says(room: Room, seed: int) -> None:
+    pytest.importorskip("geopandas")
+    draw, features, triangles = (
+        random.Random(seed),
+        list[dict[str, object]](),
+        list[tuple[list[tuple[float, float]], int]](),
+    )
+    for number in range(12):
+        north, east = draw.uniform(-700, 700), draw.uniform(-700, 1700)
+        corners = [(north + draw.uniform(-350, 350), east + draw.uniform(-350, 350)) for _ in range(3)]
+        spots = [(y * NORTHWARDS, 1 + x * EASTWARDS) for y, x in corners]
+        ring = [[x, y] for y, x in [*spots, spots[0]]]
+        properties = {"id": number, "people": draw.randrange(1, 900)}
+        shape = {"type": "Polygon", "coordinates": [ring]}
+        features.append({"type": "Feature", "geometry": shape, "properties": properties})
+        triangles.append((spots, properties["people"]))
+    path = Path(room.path("areas.geojson"))
+    path.write_text(json.dumps({"type": "FeatureCollection", "features": features}))
+    arguments = ["--grid", str(SIDE), "--people", str(path), "--out", room.path("doors"), "--limit", "300", *PACE]
+    _, errors, status = room.ran("points", feed(room), *arguments)
+    assert status == 0, errors
+    inside = 0.0
+    for cell in read(Path(room.path("doors/feed/points.csv")).read_text()):
+        wanted = 0.0
+        for spots, people in triangles:
+            corners = [offsets(cell, spot) for spot in spots]
+            wanted += people * area_in_square(corners, SIDE / 2) / area_of(corners)
+        assert float(cell["people"]) == pytest.approx(wanted, rel=3e-4, abs=0.02)
+        inside += wanted
+    whole = sum(people for _, people in triangles)
+    (lost,) = re.findall(r"areas\.geojson: ([\d.]+) of (\d+) people are outside all cells", errors)
+    assert int(lost[1]) == whole and float(lost[0]) == pytest.approx(whole - inside, abs=0.2) and inside > whole / 20
 
 
 def write_drawn_feed(room: Room, draw: random.Random, name: str) -> Path:

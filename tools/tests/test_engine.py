@@ -25,7 +25,7 @@ def test_each_block_of_the_page_runs(room: Room, program: str, monkeypatch: pyte
         pytest.skip("docs/howto/python.md is missing")
     monkeypatch.setenv("TTM_PROGRAM", program)
     blocks = re.findall(r"^```python\n(.*?)^```$", PAGE.read_text(), re.MULTILINE | re.DOTALL)
-    assert len(blocks) == 8
+    assert len(blocks) == 9
     names: dict[str, object] = {}
     with standing_in(room.folder):
         for block in blocks:
@@ -103,7 +103,7 @@ def test_without_a_name_the_scenario_is_that_others_are_compared_with() -> None:
 
 
 def test_all_public_names_are_found_by_tab() -> None:
-    assert {"ArgumentError", "matrix", "EngineError"} <= set(dir(ttm_tools))
+    assert {"ArgumentError", "open_network", "EngineError"} <= set(dir(ttm_tools))
     assert ttm_tools.ArgumentError is ArgumentError
 
 

@@ -14,8 +14,8 @@ import pytest
 from helpers import CALENDAR, STOP_TIMES, Room
 from test_damages import damaged
 from ttm_tools.gtfs.stops import read_stops
-from ttm_tools.measures.journeys import Leg, Search, cell, durations, journey
-from ttm_tools.measures.search_network import NEVER, Schedule
+from ttm_tools.journeys.search import Leg, Search, cell, durations, journey
+from ttm_tools.journeys.network import NEVER, Schedule
 from ttm_tools.gtfs.footpaths import read_walks
 from ttm_tools.gtfs.timetable import read_edits, read_timetable, runs_of
 from ttm_tools.views.itineraries import parts_of
@@ -323,7 +323,7 @@ def draw_town(room: Room, draw: random.Random) -> list[str]:
 
 def test_drawn_towns_have_the_durations_of_the_other_program(room: Room, monkeypatch: pytest.MonkeyPatch) -> None:
     plain, _ = others()
-    monkeypatch.setattr("ttm_tools.measures.journeys.AT_ONCE", 3)
+    monkeypatch.setattr("ttm_tools.journeys.search.AT_ONCE", 3)
     changed = sum(compare(room, plain, draw_town(room, random.Random(seed))) for seed in range(12))
     assert changed > 100
 

@@ -77,6 +77,8 @@ def minutes(browser: Browser) -> dict[str, int]:
 
 def slide(browser: Browser, identifier: str, value: int) -> None:
     """Moves a slider to a value by keys: from its end on, so that each step is one key."""
+    unfold = "for (let it = element(arguments[0]).closest('details'); it; it = it.parentElement.closest('details'))"
+    browser.run(f"{unfold} it.open = true", identifier)
     element = browser.driver.find_element("id", identifier)
     now, step = int(element.get_attribute("value")), int(element.get_attribute("step"))
     element.send_keys((RIGHT if value > now else LEFT) * (abs(value - now) // step))
@@ -111,7 +113,7 @@ def test_sliders_ask_again_or_do_not(served: Explored, browser: Browser) -> None
     slide(browser, "last", 480)
     browser.click("A")
     turn = browser.run("return live.turn")
-    slide(browser, "percentile", 4)
+    browser.choose("percentile", "Most days (90 % of departures)")
     slide(browser, "minutes", 25)
     slide(browser, "step", 15)
     assert browser.run("return live.turn") == turn  # all percentiles came with the answer
@@ -127,9 +129,9 @@ def test_percentiles_by_hand(served: Explored, browser: Browser) -> None:
     """From 08:00 to 08:09 the bus to B takes 5, 14, 13 .. 6 minutes: a tenth of the departures has 5, half has 9."""
     browser.click("A")
     assert [minutes(browser)["B"]] == [9]
-    slide(browser, "percentile", 0)
+    browser.choose("percentile", "Best tenth of departures")
     assert minutes(browser)["B"] == 5
-    slide(browser, "percentile", 4)
+    browser.choose("percentile", "Most days (90 % of departures)")
     assert minutes(browser)["B"] == 13
 
 
@@ -176,12 +178,12 @@ def test_a_route_is_taken_out_undone_and_redone_by_clicks(served: Explored, brow
     browser.press("#take-out")
     changed(browser)
     assert browser.run("return head.scenarios") == ["today", "changed"]
-    assert browser.text("told") == (
-        "changed compared with today: of 4 places 1 cut off, 0 slower by 2 minutes or more, 0 faster, 0 new."
-    )
-    assert browser.text("within-picture").startswith("Within the picture: of 4 places 1 cut off")
+    assert browser.text("heading") == "changed, compared with today"
+    assert browser.text("told") == "1 of 4 places cut off"
+    assert browser.text("headline") == "\u22124,000 jobs"  # those at D
+    assert browser.text("within-picture") == "In this view: 1 of 4 places cut off"
     assert browser.text("changes") == "remove route 2 (Q)"
-    assert browser.text("changes-told").startswith("changed: 1 remove_route Q: trips 4 taken out")
+    assert browser.content("changes-told").startswith("changed: 1 remove_route Q: trips 4 taken out")
     assert "removed trips" in browser.text("lines-key")
     assert browser.colour("D") == "#000000"
     browser.press("#undo")
@@ -222,6 +224,7 @@ def test_how_often_how_fast_and_where_a_route_ends(served: Explored, browser: Br
     assert minutes(browser)["B"] == 7
     browser.press("#undo")
     changed(browser)
+    browser.press("#route-more summary")
     browser.press("#speed")  # by a fifth: four minutes to B in place of five
     changed(browser)
     assert minutes(browser)["B"] == 8
@@ -238,7 +241,6 @@ def test_a_line_is_drawn_by_clicks_and_a_route_goes_on(served: Explored, browser
     slide(browser, "last", 480)
     browser.click("A")
     browser.awaited("await routes.read_")
-    browser.press("#change-part summary")
     browser.press("input[name=click][value=stops]")
     browser.click("A")
     browser.click("D")
@@ -247,7 +249,7 @@ def test_a_line_is_drawn_by_clicks_and_a_route_goes_on(served: Explored, browser
     changed(browser)
     # 3.76 kilometres at 20 km/h are 11 minutes and some seconds
     assert minutes(browser)["D"] == 12
-    assert browser.text("told").endswith("0 cut off, 0 slower by 2 minutes or more, 1 faster, 0 new.")
+    assert browser.text("told") == "1 of 4 places faster"
     assert browser.text("changes") == "new line New line: Alpha (A), Delta (D), every 10 minutes"
     assert "added trips" in browser.text("lines-key")
     browser.press("#undo")
@@ -264,7 +266,7 @@ def test_a_line_is_drawn_by_clicks_and_a_route_goes_on(served: Explored, browser
 def test_a_fault_of_a_change_is_told_and_nothing_changes(served: Explored, browser: Browser) -> None:
     browser.click("A")
     browser.awaited("await routes.read_; routes.choose(0); await routes.add({ do: 'speed', route: 0, factor: '1' });")
-    assert "changes no time" in browser.text("fault")
+    assert "changes no time" in browser.text("faster-error")  # at the field
     assert browser.run("return [live.actions.length, head.scenarios.length]") == [0, 1]
     assert browser.run("return document.getElementById('fault').getAttribute('role')") == "alert"
     assert minutes(browser)["B"] == 9
@@ -293,13 +295,14 @@ def test_a_plan_is_compared_with_today_and_a_change_comes_beside_it(
     with explored(feed, program, "--plan", str(tmp_path / "plan.toml")) as served:
         browser.visit(served.address, "from=A")
         assert browser.run("return head.scenarios") == ["today", "no route 2"]
-        assert browser.text("told").startswith("no route 2 compared with today: of 4 places 1 cut off")
+        assert browser.text("heading") == "no route 2, compared with today"
+        assert browser.text("told").startswith("1 of 4 places cut off")
         browser.awaited("await routes.read_; await routes.add({ do: 'remove_route', route: 0 });")
         assert browser.run("return head.scenarios") == ["today", "no route 2", "changed"]
         assert minutes(browser) == {"A": 0, "B": 255, "C": 255, "D": 255}
         browser.choose("scenario", "no route 2")
         assert minutes(browser) == {"A": 0, "B": 5, "C": 10, "D": 255}
-        browser.press("#beside")
+        browser.press("#view-beside")
         assert browser.run("return [...document.querySelectorAll('.side')].map((it) => it.textContent)") == [
             "today",
             "no route 2",
@@ -359,6 +362,8 @@ def test_by_keyboard_and_on_a_phone(served: Explored, browser: Browser) -> None:
     browser.visit(served.address)
     browser.type("search", "alpha", ENTER)
     assert browser.text("heading") == "Travel times from Alpha (A)"
+    browser.press("#tabs button[value=ask]")
+    browser.press("#conditions summary")
     browser.type("last", LEFT)
     assert browser.text("last-told") == "08:08"
     browser.driver.find_element("css selector", "input[name=click][value=start]").send_keys(DOWN)
@@ -367,12 +372,13 @@ def test_by_keyboard_and_on_a_phone(served: Explored, browser: Browser) -> None:
     browser.type("search", "delta", ENTER)
     wait_for(browser, "return journey.found !== null")
     assert browser.text("journey-title").startswith("Journey to Delta (D)")
-    browser.driver.find_element("css selector", "#change-part summary").send_keys(ENTER)
+    browser.driver.find_element("css selector", "input[name=click][value=end]").send_keys(DOWN)
     browser.awaited("await routes.read_")
     browser.type("route", DOWN, DOWN)
     assert browser.text("route-told") == "Route 2 (Q): 4 departures on 2026-05-04."
     browser.type("take-out", ENTER)
     changed(browser)
+    browser.press("#tabs button[value=change]")
     assert browser.text("changes") == "remove route 2 (Q)"
     browser.type("undo", SPACE)
     changed(browser)

@@ -16,12 +16,12 @@ from exploring import canned, explored, village
 from helpers import LONGEST_WAIT
 
 from ttm_tools.core.toml_file import Entry, LineNumbers
-from ttm_tools.explore.changes import scenario_text
-from ttm_tools.explore.lines import FeedLines
-from ttm_tools.explore.planning import written
 from ttm_tools.gtfs.stops import read_stops
 from ttm_tools.plans.base import Base, read_taken_base
-from ttm_tools.views.page.lines import page_lines
+from ttm_tools.plans.plan_text import scenario_text
+from ttm_tools.web.lines import FeedLines
+from ttm_tools.web.page.lines import page_lines
+from ttm_tools.web.planning import written
 
 pytest.importorskip("pandas")
 KINDS = ("taken", "changed", "added")

@@ -80,6 +80,7 @@ def unfold(browser: Browser, served: Explored) -> None:
     browser.run("for (const it of document.querySelectorAll('details')) it.open = true")
     browser.settle()
     browser.awaited("await routes.add({ do: 'speed', route: 0, factor: '1' });")
+    browser.run("tellFault(new Error('A fault of the server.'))")
 
 
 def contrasts(browser: Browser) -> list[tuple[str, float, bool]]:
@@ -88,13 +89,20 @@ def contrasts(browser: Browser) -> list[tuple[str, float, bool]]:
     return [(str(text), float(ratio), bool(large)) for text, ratio, large in found]
 
 
+@pytest.mark.parametrize("scheme", ["light", "dark"])
 @pytest.mark.parametrize("width", [1280, 320])
-def test_texts_stand_out_from_what_is_behind_them(served: Explored, browser: Browser, width: int) -> None:
+def test_texts_stand_out_from_what_is_behind_them(served: Explored, browser: Browser, width: int, scheme: str) -> None:
     browser.size(width, 900)
+    media = {"features": [{"name": "prefers-color-scheme", "value": scheme}]}
+    browser.driver.execute_cdp_cmd("Emulation.setEmulatedMedia", media)
     unfold(browser, served)
-    assert browser.text("fault") != ""
-    found = contrasts(browser)
-    assert len(found) > 60
+    assert browser.text("fault") != "" and "changes no time" in browser.text("faster-error")
+    found = list[tuple[str, float, bool]]()
+    for panel in ("answer", "ask", "change"):  # a wide page shows all of them
+        browser.run("openPanel(arguments[0])", panel)
+        found += contrasts(browser)
+    browser.driver.execute_cdp_cmd("Emulation.setEmulatedMedia", {"features": []})
+    assert len(found) > 100
     assert [item for item in found if item[1] < (LEAST_LARGE if item[2] else LEAST)] == []
 
 
@@ -107,7 +115,7 @@ def test_faint_texts_are_found(served: Explored, browser: Browser) -> None:
 def test_whoever_tabs_through_the_page_sees_where_they_are(served: Explored, browser: Browser) -> None:
     browser.size(1280, 900)
     unfold(browser, served)
-    browser.run("document.activeElement.blur(); window.getSelection().removeAllRanges()")
+    browser.run("document.querySelector('.skip').focus()")
     seen = list[str]()
     for _ in range(150):
         browser.driver.switch_to.active_element.send_keys(TAB)

@@ -21,8 +21,8 @@ pytest.importorskip("jinja2")
 pytest.importorskip("pandas")
 
 from ttm_tools.core.errors import ArgumentError  # noqa: E402
-from ttm_tools.explore.making import with_generated  # noqa: E402
-from ttm_tools.explore.options import ExploreOptions  # noqa: E402
+from ttm_tools.web.options import ExploreOptions  # noqa: E402
+from ttm_tools.web.session_inputs import with_generated  # noqa: E402
 
 
 @pytest.fixture(scope="module")

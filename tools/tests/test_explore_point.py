@@ -19,9 +19,9 @@ pytest.importorskip("flask")
 pytest.importorskip("jinja2")
 pytest.importorskip("pandas")
 
-from ttm_tools.explore.point import Point, streets_around, walks_from  # noqa: E402
 from ttm_tools.gtfs.stops import read_stops  # noqa: E402
-from ttm_tools.walks import Pace  # noqa: E402
+from ttm_tools.streets.walks import Pace  # noqa: E402
+from ttm_tools.web.point import Point, streets_around, walks_from  # noqa: E402
 
 TIMES = "times?first=08:00&last=08:00&trips=4&tab=a&turn=1&version=1"
 MINUTES = "Object.fromEntries(Array.from(numbers.columns, (it, at) => [head.identifiers[it], current.now[at]]))"
@@ -60,7 +60,7 @@ def test_walks_by_entrances(tmp_path: Path) -> None:
 
 def test_walks_along_streets(tmp_path: Path) -> None:
     """The point lies on a street of 500 metres, 100 from Alpha; Epsilon is 400 metres on, and 400 round the corner."""
-    from ttm_tools.walks.osm import read_streets
+    from ttm_tools.streets.osm import read_streets
 
     feed = village(tmp_path)
     stop = f"E,Epsilon,{47.0 + 500 * METRE},{8.0 + 400 * METRE / 0.682}\n"
@@ -73,7 +73,7 @@ def test_walks_along_streets(tmp_path: Path) -> None:
 
 
 def test_only_streets_around_are_looked_at(tmp_path: Path) -> None:
-    from ttm_tools.walks.osm import Streets
+    from ttm_tools.streets.osm import Streets
 
     ends = np.array([47.0, 47.001, 48.0, 48.001, 46.0, 49.0])
     begin, end, both = np.array([0, 2, 4]), np.array([1, 3, 5]), np.ones(3, dtype=np.bool_)

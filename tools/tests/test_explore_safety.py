@@ -20,7 +20,7 @@ pytest.importorskip("flask")
 pytest.importorskip("jinja2")
 pytest.importorskip("pandas")
 
-from ttm_tools.explore.guard import Guard  # noqa: E402
+from ttm_tools.web.guard import Guard  # noqa: E402
 
 TIMES = "times?origin=0&first=08:00&last=08:00&trips=4&tab=a&turn=1&version=1"
 OF_TAB = {"version": 1, "tab": "a"}

@@ -9,7 +9,7 @@ from exploring import village
 from ttm_tools.cli import parser_of
 from ttm_tools.cli.explore import options_of
 from ttm_tools.core.errors import ArgumentError, InputError
-from ttm_tools.explore.options import ExploreOptions
+from ttm_tools.web.options import ExploreOptions
 
 STUDY = """\
 title = "The study"

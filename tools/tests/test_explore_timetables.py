@@ -10,18 +10,18 @@ import pytest
 from drawn_plans import DATE, DrawnPlan
 
 from ttm_tools.core.toml_file import Entry, LineNumbers
-from ttm_tools.explore.changes import scenario_text
-from ttm_tools.explore.lines import FeedLines
-from ttm_tools.explore.planning import written
-from ttm_tools.explore.standing import Plan
-from ttm_tools.explore.timetables import Timetables, run_of, timetable_of
 from ttm_tools.gtfs.footpaths import read_walks
 from ttm_tools.gtfs.stops import read_stops
 from ttm_tools.gtfs.timetable import Runs, Timetable, read_edits, read_timetable, runs_of
-from ttm_tools.measures import search_network
-from ttm_tools.measures.journeys import durations
-from ttm_tools.measures.search_network import Schedule
+from ttm_tools.journeys import network
+from ttm_tools.journeys.network import Schedule
+from ttm_tools.journeys.search import durations
 from ttm_tools.plans.base import read_taken_base
+from ttm_tools.plans.plan_text import scenario_text
+from ttm_tools.web.lines import FeedLines
+from ttm_tools.web.live_network import Plan
+from ttm_tools.web.planning import written
+from ttm_tools.web.timetables import Timetables, run_of, timetable_of
 
 WALK, DAYS = 600, (1, 1)
 MIDNIGHT = 86_400  # of the date, on the axis
@@ -68,7 +68,7 @@ def test_runs_and_durations_are_those_of_the_feed_that_is_written(
     drawn, draw = DrawnPlan(seed, tmp_path / "feed"), random.Random(seed)
     if not drawn.scenarios:
         pytest.skip("the plan that is drawn changes nothing")
-    monkeypatch.setattr(search_network, "CHOSEN_AT_ONCE", draw.choice([1, 3, 1 << 16]))
+    monkeypatch.setattr(network, "CHOSEN_AT_ONCE", draw.choice([1, 3, 1 << 16]))
     timetables, plan = planned(drawn, tmp_path)
     assert plan.files
     whole = read_timetable(read_stops(plan.folder))

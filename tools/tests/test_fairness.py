@@ -7,7 +7,7 @@ import numpy as np
 import pytest
 
 from helpers import Town, read
-from ttm_tools.measures.fairness import concentration, poverty, theil_of_all
+from ttm_tools.measures.inequality import concentration, poverty, theil_of_all
 
 
 @pytest.fixture

@@ -8,13 +8,13 @@ from pathlib import Path
 import pytest
 
 from helpers import LAUNCHER
+from ttm_tools.compat.r5py.refusals import NotAvailable
 from ttm_tools.core.errors import ArgumentError, InputError, MissingDependencyError
 from ttm_tools.core.signals import Interrupted
 from ttm_tools.core.text import counted, singular
 from ttm_tools.engine.refusals import EngineError
-from ttm_tools.points.study import TooManyPlaces
-from ttm_tools.r5py.refusals import NotAvailable
-from ttm_tools.walks.counting import TooManyWalks
+from ttm_tools.places.folder import TooManyPlaces
+from ttm_tools.streets.counting import TooManyWalks
 
 FAULTS = [
     InputError("stops.txt", "is no number", record=3, column="stop_lat", value="x", allowed="-90 to 90"),

@@ -141,7 +141,7 @@ def test_files_of_a_folder_have_the_columns_that_are_read_alone(room: Room) -> N
 
 
 def test_walks_start_without_pandas() -> None:
-    modules = ("walks", "walks.straight", "points.study", "plans.nearness", "parts")
+    modules = ("streets.walks", "streets.straight", "places.folder", "plans.nearness", "matrices.parts")
     names = ", ".join(f"ttm_tools.{name}" for name in modules)
     arguments = [sys.executable, "-c", f"import sys, {names}; sys.exit('pandas' in sys.modules)"]
     source = Path(columns.__file__).parents[2]

@@ -95,6 +95,33 @@ def test_an_empty_band_has_an_empty_shape(town: Town) -> None:
     assert (area["properties"]["reached"], area["properties"]["square_km"]) == (0, 0)
 
 
+def test_polygons_in_a_collection_of_collections_are_kept() -> None:
+    from shapely.geometry import GeometryCollection, LineString, MultiPolygon, Polygon, box
+    from ttm_tools.views.isochrones import polygons_in
+
+    squares = [box(0, 0, 1, 1), box(2, 0, 3, 1)]
+    repaired = GeometryCollection([MultiPolygon(squares), LineString([(1, 0), (2, 0)]), Polygon()])
+    found = polygons_in(repaired)
+    assert [part.area for part in found] == [1, 1]
+    assert all(part.exterior.is_ccw for part in found)
+
+
+@pytest.mark.parametrize("seed", range(5))
+def test_squares_around_rounded_middles_keep_their_area(seed: int) -> None:
+    from shapely.geometry import box
+    from shapely.ops import transform, unary_union
+    from ttm_tools.gtfs.projection import Projection
+    from ttm_tools.views.isochrones import AreaGround
+
+    draw = np.random.default_rng(seed)
+    middles = [(x, y) + draw.uniform(-0.00005, 0.00005, 2) for x in range(12) for y in range(12) if draw.random() < 0.6]
+    squares = unary_union([box(x - 0.5, y - 0.5, x + 0.5, y + 0.5) for x, y in middles])
+    projection = Projection(np.array([51.5]), np.array([-0.1]))
+    none: Any = None
+    written = AreaGround(none, projection, none, none, [], none).in_degrees(squares)
+    assert transform(projection.kilometres, written).area == pytest.approx(len(middles), rel=0.001)
+
+
 def test_what_is_refused(town: Town) -> None:
     town.matrix(town_matrix(True))
     arguments = ["isochrones", "--feed", town.feed, "--out", town.path("a.geojson"), "--origin"]
@@ -132,9 +159,9 @@ def test_one_walks_on_along_streets(town: Town) -> None:
 
 def test_from_the_place_where_most_is_left_one_comes_furthest() -> None:
     pytest.importorskip("scipy")
-    from ttm_tools.walks.osm import Streets
-    from ttm_tools.walks.reach import reach_of
-    from ttm_tools.walks.straight import Pace
+    from ttm_tools.streets.osm import Streets
+    from ttm_tools.streets.reach import reach_of
+    from ttm_tools.streets.straight import Pace
 
     # a street of two pieces of 1,000 m along the equator, a way for both directions, with places at 0, 300 and 1,000 m
     ways = (np.array([0, 1]), np.array([1, 2]), np.array([True, True]), np.array([True, True]))
@@ -179,7 +206,7 @@ def test_bands_of_decimals_are_whole_seconds_as_cutoffs_are(town: Town) -> None:
 
 
 def test_many_streets_take_seconds(monkeypatch: pytest.MonkeyPatch) -> None:
-    from ttm_tools.walks.reach import strip
+    from ttm_tools.streets.reach import strip
 
     # 21 streets of 2 km from west to east and as many from south to north, each 100 m, in pieces both ways
     ends = [(x, y, x + 0.1, y) for x in np.arange(20) / 10 for y in np.arange(21) / 10]
@@ -194,7 +221,7 @@ def test_many_streets_take_seconds(monkeypatch: pytest.MonkeyPatch) -> None:
 def test_each_piece_of_a_street_is_united_once_and_with_those_near_it(monkeypatch: pytest.MonkeyPatch) -> None:
     """The time and memory of many streets and bands: a union of all pieces at once took 10 minutes and 6.7 GB."""
     import shapely.ops
-    from ttm_tools.walks.reach import GrowingStrip
+    from ttm_tools.streets.reach import GrowingStrip
 
     # streets of 100 m in a square of 4 km, within four distances of its middle, in pieces both ways
     ends = [(x, y, x + 0.1, y) for x in np.arange(40) / 10 for y in np.arange(41) / 10]
@@ -221,7 +248,7 @@ def test_each_piece_of_a_street_is_united_once_and_with_those_near_it(monkeypatc
 def test_areas_of_streets_that_grow_are_those_of_all_streets_at_once(seed: int) -> None:
     from shapely.geometry import LineString
     from shapely.ops import unary_union
-    from ttm_tools.walks.reach import GrowingStrip
+    from ttm_tools.streets.reach import GrowingStrip
 
     draw = np.random.default_rng(seed)
     begin = draw.uniform(0, 2, (120, 2))  # kilometres
@@ -236,3 +263,13 @@ def test_areas_of_streets_that_grow_are_those_of_all_streets_at_once(seed: int) 
         whole = unary_union([line.buffer(0.05, 8) for line in lines])
         assert area.area == pytest.approx(whole.area, rel=1e-6)
         assert area.symmetric_difference(whole).area < 1e-6
+
+
+def test_polygons_in_collections_are_kept() -> None:
+    from shapely.geometry import GeometryCollection, LineString, MultiPolygon, box
+    from ttm_tools.views.isochrones import polygons_in
+
+    # what `make_valid` returns of squares that touch at a corner after rounding
+    squares = MultiPolygon([box(0, 0, 1, 1), box(5, 5, 6, 6)])
+    found = polygons_in(GeometryCollection([squares, LineString([(1, 1), (2, 2)]), box(9, 9, 10, 10)]))
+    assert [polygon.bounds for polygon in found] == [(0, 0, 1, 1), (5, 5, 6, 6), (9, 9, 10, 10)]

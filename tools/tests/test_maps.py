@@ -9,8 +9,8 @@ import pytest
 
 from helpers import CALENDAR, STOP_TIMES, TOWN, Table, Town, read, town_matrix
 from ttm_tools.core.text import counted, singular
-from ttm_tools.gtfs.lines import lines_of, pieces, read_trips, removed_trips
 from ttm_tools.gtfs.projection import Projection
+from ttm_tools.gtfs.shapes import lines_of, pieces, read_trips, removed_trips
 from ttm_tools.gtfs.stops import read_stops
 
 matplotlib = pytest.importorskip("matplotlib")
@@ -18,7 +18,6 @@ matplotlib = pytest.importorskip("matplotlib")
 from matplotlib.figure import Figure  # noqa: E402
 
 from ttm_tools.views import drawing  # noqa: E402
-from ttm_tools.views.pictures import labels_of_counts  # noqa: E402
 
 
 def figure(town: Town, monkeypatch: pytest.MonkeyPatch, *arguments: str) -> tuple[list[str], str, list[str]]:
@@ -40,11 +39,11 @@ def test_travel_times_in_classes_of_minutes(town: Town, monkeypatch: pytest.Monk
     message = "3 of 3 other stops are reached, half of them within 15 minutes"
     assert texts[:2] == ["Travel time from Alpha (A)", message]
     assert ("50 % of departures" in texts[2].replace("\n", " ")) == second_form
-    assert key == "Travel time in minutes,\nwaiting included"
-    assert classes == ["up to 10  (1)", "10 to 20  (1)", "30 to 45  (1)", "origin", "where vehicles run"]
+    assert key == "Travel time,\nwaiting included"
+    assert classes == ["up to 10 min  (1)", "11 to 20 min  (1)", "31 to 45 min  (1)", "origin", "where vehicles run"]
     arguments = ["times", "--origin", "A", "--scenario", "cut", "--breaks", "5,6"]
     classes = figure(town, monkeypatch, *arguments)[2]
-    assert classes[:3] == ["5 to 6  (1)", "more than 6  (1)", "not reached  (1)"]
+    assert classes[:3] == ["6 min  (1)", "more than 6 min  (1)", "not reached  (1)"]
 
 
 def test_access_in_round_numbers(town: Town, monkeypatch: pytest.MonkeyPatch) -> None:
@@ -52,21 +51,9 @@ def test_access_in_round_numbers(town: Town, monkeypatch: pytest.MonkeyPatch) ->
     texts, key, classes = figure(town, monkeypatch, "access", "--unit", "jobs", "--scenario", "cut")
     assert (texts[0], key) == ("Access from each stop: jobs within 30 minutes", "Jobs reached\nwithin 30 minutes")
     no_origin = "not an origin of the matrix  (2)"
-    assert classes == ["less than 3  (1)", "3 and more  (1)", no_origin, "where vehicles run"]
+    assert classes == ["less than 3  (1)", "3 or more  (1)", no_origin, "where vehicles run"]
     town.matrix(town_matrix(False))
     assert figure(town, monkeypatch, "access")[0][0] == "Access from each stop: opportunities"
-
-
-def test_classes_of_whole_numbers_end_at_the_last_of_them() -> None:
-    assert labels_of_counts((1, 2)) == ["less than 1", "1", "2 and more"]
-    assert labels_of_counts((10, 20, 1000, 2000)) == [
-        "less than 10",
-        "10 to 19",
-        "20 to 999",
-        "1,000 to 1,999",
-        "2,000 and more",
-    ]
-    assert labels_of_counts((0.5, 1, 2)) == ["less than 0.5", "0.5 to 1", "1", "2 and more"]
 
 
 def test_one_is_named_in_the_singular() -> None:
@@ -116,13 +103,13 @@ def test_the_difference_of_travel_times(town: Town, monkeypatch: pytest.MonkeyPa
     town.matrix(town_matrix(False))
     texts, _, classes = figure(town, monkeypatch, "difference", "--origin", "A")
     title = "Travel time from Alpha (A): cut compared with base"
-    assert texts[:2] == [title, "Of 4 stops 1 cut off, 2 slower, 0 faster"]
-    gone = "cut off: not reached now  (1)"
-    assert classes[:3] == [gone, "15 min or more slower  (1)", "1 to 5 min slower  (1)"]
+    assert texts[:2] == [title, "Of 4 stops 1 cut off, 1 slower, 0 faster"]
+    gone = "cut off  (1)"
+    assert classes[:3] == [gone, "15 min or more slower  (1)", "less than 2 min either way  (1)"]
     town.matrix(town_matrix(True))
     classes = figure(town, monkeypatch, "difference", "--origin", "D")[2]
-    new = "new: not reached before  (1)"
-    assert classes[:3] == ["less than 1 min either way  (1)", "1 to 5 min faster  (1)", new]
+    new = "newly reached  (1)"
+    assert classes[:2] == ["less than 2 min either way  (2)", new]
 
 
 def test_lines_go_from_stop_to_stop_or_along_shapes(town: Town, monkeypatch: pytest.MonkeyPatch) -> None:

@@ -227,8 +227,8 @@ def test_chunks_are_those_of_the_library_whichever_threads_make_them(
     town: Town, monkeypatch: pytest.MonkeyPatch
 ) -> None:
     h5py = pytest.importorskip("h5py")
-    monkeypatch.setattr(import_module("ttm_tools.matrices.open_matrix"), "CELLS_OF_A_CHUNK", 8)  # two rows
-    monkeypatch.setattr(import_module("ttm_tools.matrices.matrix"), "CELLS_AT_ONCE", 4)  # one row
+    monkeypatch.setattr(import_module("ttm_tools.matrices.omx"), "CELLS_OF_A_CHUNK", 8)  # two rows
+    monkeypatch.setattr(import_module("ttm_tools.matrices.base"), "CELLS_AT_ONCE", 4)  # one row
     three: dict[str, list[Cell]] = {**TOWN["base"], "B": [700, 0, "", 60]}
     matrix = open_matrix(town.matrix(town_matrix(True, {"base": three}, shares=(50, 100))))
     files = []

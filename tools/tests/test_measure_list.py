@@ -10,8 +10,8 @@ from ttm_tools.core.columns import BY_ORIGIN, EXPLAINED, JOURNEYS, TableColumn, 
 from ttm_tools.measures.columns import header, markdown_table
 from ttm_tools.measures.comparison import KINDS
 from ttm_tools.measures.equity import Equity
-from ttm_tools.measures.measure_list import COMPETITIONS, DECAYS, FAIRNESS, Measure, markdown_table as measure_table
 from ttm_tools.measures.nearness import Nearness
+from ttm_tools.measures.registry import COMPETITIONS, DECAYS, FAIRNESS, Measure, markdown_table as measure_table
 from ttm_tools.measures.service import Service
 from ttm_tools.views.itineraries import JourneyParts
 

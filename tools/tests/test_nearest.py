@@ -95,12 +95,12 @@ def test_a_map_of_the_nearest(small: Town, monkeypatch: pytest.MonkeyPatch) -> N
     arguments = ["--opportunities", small.path("schools.csv")]
     texts, key, classes = figure(small, monkeypatch, "nearest", *arguments)
     message = "3 of 3 stops reach at least 1 school, half of these within 30 minutes"
-    assert texts[:2] == ["Travel time to the nearest school", message] and key.startswith("Travel time in minutes")
-    assert classes[:2] == ["up to 10  (1)", "20 to 30  (2)"]
+    assert texts[:2] == ["Travel time to the nearest school", message] and key.startswith("Travel time,")
+    assert classes[:2] == ["up to 10 min  (1)", "21 to 30 min  (2)"]
     texts, _, classes = figure(small, monkeypatch, "difference", "--nearest", "1", *arguments)
     assert texts[0] == "Travel time to the nearest school: cut compared with base"
     assert texts[1] == "Of 3 stops 2 cut off, 0 slower, 0 faster"
-    assert classes[:2] == ["cut off: not reached now  (2)", "less than 1 min either way  (1)"]
+    assert classes[:2] == ["cut off  (2)", "less than 2 min either way  (1)"]
     texts, *_ = figure(small, monkeypatch, "nearest", "--nearest", "11", "--opportunities", small.path("jobs.csv"))
     message = message.replace("3 of 3", "2 of 3").replace("1 school", "11 jobs")
     assert texts[:2] == ["Travel time to the 11 nearest jobs", message]

@@ -16,16 +16,25 @@ import pytest
 import ttm_tools
 from asking import canned
 from helpers import CALENDAR, LONGEST_WAIT, STOP_TIMES, Room, wait_until
+from ttm_tools.compat.network import Network
 from ttm_tools.core.errors import ArgumentError
 
 EIGHT, NINE = ("08:00", "08:00"), ("09:00", "09:00")
 
 
-def canned_network(room: Room, **more: Any) -> ttm_tools.Network:
-    return ttm_tools.Network(room.folder, "20260504", program=canned(room.folder), **more)
+def test_the_name_of_version_2_still_makes_one_and_says_what_to_use(room: Room) -> None:
+    with pytest.warns(DeprecationWarning, match="use ttm_tools.open_network"):
+        made: Any = ttm_tools.Network
+        network = made(room.folder, "20260504", program=canned(room.folder))
+    with network:
+        assert isinstance(network, Network)
 
 
-def cell(network: ttm_tools.Network, window: tuple[str, str], *origins: str) -> float:
+def canned_network(room: Room, **more: Any) -> Network:
+    return Network(room.folder, "20260504", program=canned(room.folder), **more)
+
+
+def cell(network: Network, window: tuple[str, str], *origins: str) -> float:
     """The one cell of a canned answer, in minutes."""
     return float(network.matrix(window, origins=origins or ["A"]).array()[0, 0]) / 60
 
@@ -119,7 +128,7 @@ def test_several_processes_answer_at_the_same_time(room: Room) -> None:
 
 def test_a_closed_network_is_refused_and_leaves_nothing(room: Room) -> None:
     network = canned_network(room)
-    process, folder = int(cell(network, EIGHT, "process")), network.folder
+    process, folder = int(cell(network, EIGHT, "process")), network.engine.folder
     assert folder.is_dir() and list(folder.iterdir()) == []
     network.close()
     network.close()
@@ -156,8 +165,8 @@ def test_a_network_that_nobody_holds_ends(room: Room) -> None:
 
 def test_a_network_ends_with_the_interpreter(room: Room) -> None:
     text = (
-        "import ttm_tools; it = ttm_tools.Network('.', '20260504', program='./canned');"
-        "print(int(it.matrix(('08:00', '08:00'), origins=['process']).array()[0, 0]) // 60, it.folder)"
+        "from ttm_tools.compat.network import Network; it = Network('.', '20260504', program='./canned');"
+        "print(int(it.matrix(('08:00', '08:00'), origins=['process']).array()[0, 0]) // 60, it.engine.folder)"
     )
     canned(room.folder)
     path = os.pathsep.join(sys.path)
@@ -222,14 +231,14 @@ QUESTIONS: list[dict[str, Any]] = [
 FAULTS: list[dict[str, Any]] = [{"origins": ["X"]}, {"origins": "nothing.csv"}, {"trips": 9}, {"shares": (50, 25)}]
 
 
-def processes(network: ttm_tools.Network) -> list[int]:
+def processes(network: Network) -> list[int]:
     """Those that keep the network."""
-    return [item.process.pid for item in network.pool.running]
+    return [item.process.pid for item in network.engine.pool.running]
 
 
 def test_the_program_reads_the_network_once(room: Room, program: str) -> None:
     write_town(room)
-    with ttm_tools.Network(room.folder, "20260504", program=program, scenarios=[room.path("cut.csv")]) as network:
+    with Network(room.folder, "20260504", program=program, scenarios=[room.path("cut.csv")]) as network:
         first = network.matrix(EIGHT)
         (process,) = processes(network)
         for name in ("stops.txt", "stop_times.txt", "trips.txt", "cut.csv"):
@@ -245,7 +254,7 @@ def test_a_program_that_is_killed_says_so_and_the_next_question_begins_another(
     room: Room, program: str, number: signal.Signals
 ) -> None:
     write_town(room)
-    with ttm_tools.Network(room.folder, "20260504", program=program) as network:
+    with Network(room.folder, "20260504", program=program) as network:
         whole = network.matrix(EIGHT).array()
         (process,) = processes(network)
         os.kill(process, number)
@@ -260,9 +269,7 @@ def test_threads_get_their_own_answers_of_the_program(room: Room, program: str) 
     """From A one is at B at 08:10, whichever of the minutes before 08:00 one leaves at."""
     write_town(room)
     minutes = [minute for minute in range(60) for _ in range(3)]
-    with ttm_tools.Network(room.folder, "20260504", program=program, workers=3) as network, ThreadPoolExecutor(
-        8
-    ) as pool:
+    with Network(room.folder, "20260504", program=program, workers=3) as network, ThreadPoolExecutor(8) as pool:
 
         def ask(minute: int) -> list[float]:
             window = (f"07:{minute:02}", f"07:{minute:02}")
@@ -274,7 +281,7 @@ def test_threads_get_their_own_answers_of_the_program(room: Room, program: str) 
 
 def test_a_question_out_of_bounds_is_refused_and_the_next_is_answered(room: Room, program: str) -> None:
     write_town(room)
-    with ttm_tools.Network(room.folder, "20260504", program=program) as network:
+    with Network(room.folder, "20260504", program=program) as network:
         for origins in ("x" * 70_000, room.path("nothing.csv")):
             with pytest.raises(ttm_tools.EngineError):
                 network.matrix(EIGHT, origins=origins)
@@ -287,7 +294,7 @@ def test_a_question_out_of_bounds_is_refused_and_the_next_is_answered(room: Room
 def test_each_answer_is_that_of_a_run(room: Room, program: str) -> None:
     write_town(room)
     common: dict[str, Any] = {"walk": 300, "footpaths": [("C", "B", 119.5)], "scenarios": [room.path("cut.csv")]}
-    with ttm_tools.Network(room.folder, "2026-05-04", program=program, **common) as network:
+    with Network(room.folder, "2026-05-04", program=program, **common) as network:
         for number, question in enumerate(QUESTIONS):
             mine = network.matrix(**question)
             whole = ttm_tools.matrix(room.folder, "20260504", program=program, **common, **question)
@@ -301,7 +308,7 @@ def test_each_answer_is_that_of_a_run(room: Room, program: str) -> None:
 
 def test_faults_of_questions_are_those_of_runs(room: Room, program: str) -> None:
     write_town(room)
-    with ttm_tools.Network(room.folder, "20260504", program=program) as network:
+    with Network(room.folder, "20260504", program=program) as network:
         for faulty in FAULTS:
             faulty = {name: room.path(value) if value == "nothing.csv" else value for name, value in faulty.items()}
             with pytest.raises(ttm_tools.EngineError) as run:
@@ -315,7 +322,7 @@ def test_faults_of_questions_are_those_of_runs(room: Room, program: str) -> None
 def test_a_feed_that_is_refused_is_told_as_by_a_run(room: Room, program: str) -> None:
     write_town(room)
     room.write("trips.txt", "route_id,service_id,trip_id", [["R9", "M", "T1"]])
-    with ttm_tools.Network(room.folder, "20260504", program=program) as network:
+    with Network(room.folder, "20260504", program=program) as network:
         with pytest.raises(ttm_tools.EngineError) as raised:
             network.matrix(EIGHT)
     assert (raised.value.file, raised.value.record, raised.value.status) == ("trips.txt", 2, 2)
@@ -323,7 +330,7 @@ def test_a_feed_that_is_refused_is_told_as_by_a_run(room: Room, program: str) ->
 
 
 def test_what_the_process_warns_of_is_a_warning_once(room: Room) -> None:
-    with ttm_tools.Network(room.folder, "20270101", program=canned(room.folder)) as network:
+    with Network(room.folder, "20270101", program=canned(room.folder)) as network:
         with pytest.warns(UserWarning) as caught:
             cell(network, EIGHT)
             cell(network, NINE)

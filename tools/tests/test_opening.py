@@ -196,7 +196,7 @@ def test_an_error_of_the_tools_own_is_a_line_with_a_log(
 def test_escape_sequences_of_a_feed_do_not_reach_the_terminal(room: Room) -> None:
     for name, text in FEED.items():
         Path(room.path(name)).write_text(text.replace("A", "A\x1b]0;owned\x07\x9b31m\u202e"))
-    for arguments in (["--check"], ["--check", "--repair"], ["--out", room.path("out")]):
+    for arguments in (["--check"], ["--repair", "--out", room.path("new")], ["--out", room.path("out")]):
         Path(room.path("stop_times.txt")).write_text(FEED["stop_times.txt"].replace("A,1", "\x1b[31m\x07,1"))
         out, said, _ = room.ran("prepare", *arguments, str(room.folder))
         assert out + said and not any(

@@ -58,7 +58,7 @@ def test_the_difference_says_who_waits_longer_for_the_nearest(town: Town, browse
     # in cut A reaches the third school after 1,900 seconds; D, which reached two, has all three after 1,700
     assert browser.key() == {
         "15 min or more slower": "1",
-        "new: not reached before": "1",
+        "newly reached": "1",
         "not an origin of the matrix": "2",
     }
     assert browser.lines("sums")[1] == ["schools", "15 min", "32 min", "+17"]
@@ -66,7 +66,7 @@ def test_the_difference_says_who_waits_longer_for_the_nearest(town: Town, browse
     browser.choose("within", "the nearest")
     assert browser.lines("sums")[1] == ["schools", "5 min", "6 min", "+1"]
     browser.press("#from-here")
-    assert browser.text("heading") == "Travel times from Alpha (A)"
+    assert browser.text("headline-of") == "within 30 min of Alpha"
 
 
 def test_areas_that_are_reached_lie_below_the_places(town: Town, browser: Browser) -> None:

@@ -13,10 +13,10 @@ from streets import write_osm
 from test_isochrones import crossroads
 from test_page import page
 from ttm_tools.gtfs.stops import read_stops
-from ttm_tools.views.page import make
-from ttm_tools.walks import Pace
-from ttm_tools.walks.osm import read_streets
-from ttm_tools.walks.reach import reach_of
+from ttm_tools.streets.osm import read_streets
+from ttm_tools.streets.reach import reach_of
+from ttm_tools.streets.walks import Pace
+from ttm_tools.web.page import make
 
 for package in ("jinja2", "osmium", "scipy"):
     pytest.importorskip(package)

@@ -89,7 +89,7 @@ def test_readme_prints_what_it_says_and_its_commands_take_another_feed(room: Roo
     make_town(room, program)
     readme = (ROOT / "README.md").read_text()
     page = [pages.Command(PATH), *pages.commands(readme)]
-    assert len(page) == 5
+    assert len(page) == 7
     assert pages.differences(page, room.folder, environment_of(room)) == []
     shutil.copy(room.path("town.zip"), room.path("own.zip"))
     script_run(room, PATH + "\n" + block_after("Replace the date", readme))

@@ -12,7 +12,7 @@ import pytest
 
 from helpers import CALENDAR, STOP_TIMES, Room, launched
 from ttm_tools.core.errors import InputError
-from ttm_tools.parts import PartMatrix, in_order, parts_of, write_whole
+from ttm_tools.matrices.parts import PartMatrix, in_order, parts_of, write_whole
 
 ORIGINS = ["A", 'b,"c"', "line\nend", "D", "E", "0004", "G"]
 SCENARIOS = ["base", "cut", "late,\nlater"]

@@ -13,7 +13,7 @@ import pytest
 from helpers import CALENDAR, METRE, STOP_TIMES, Room
 from streets import write_osm
 from test_damages import damaged
-from ttm_tools.points import study
+from ttm_tools.places import folder as points_folder
 
 PROGRAM_TESTS = Path(__file__).resolve().parents[2] / "tests/program"
 PACE = ("--speed", "1", "--detour", "1")
@@ -156,12 +156,12 @@ def test_what_is_there_twice_or_not_at_all_is_refused(room: Room) -> None:
 def test_what_ttm_does_not_take_is_told_before_anything_is_written(room: Room, monkeypatch: pytest.MonkeyPatch) -> None:
     arguments = ["points", feed(room), cells(room), "--out", room.path("doors"), "--limit", "300", *PACE]
     helps = "use --leave-out for points without a stop in reach, or take parts of the region"
-    monkeypatch.setattr(study, "MOST_STOPS", 4)
+    monkeypatch.setattr(points_folder, "MOST_STOPS", 4)
     message = "2 locations of the feed and 3 points are more than the 4 that ttm takes"
     room.refused(f"{room.path('cells.csv')}: {message}: {helps}", *arguments)
     assert room.ran(*arguments, "--leave-out")[2] == 0
-    monkeypatch.setattr(study, "MOST_STOPS", 65535)
-    monkeypatch.setattr(study, "MOST_FOOTPATHS", 3)
+    monkeypatch.setattr(points_folder, "MOST_STOPS", 65535)
+    monkeypatch.setattr(points_folder, "MOST_FOOTPATHS", 3)
     message = "4 walks are more than the 3 that ttm takes: use a shorter --limit, or fewer points"
     arguments[arguments.index("--out") + 1] = room.path("more")
     room.refused(f"{room.path('cells.csv')}: {message}; {helps}", *arguments)

@@ -196,3 +196,22 @@ def test_a_long_file_is_read_alike_by_pandas(feed: Room, monkeypatch: pytest.Mon
         assert len(table) == len(before) + bool(blank)
         rows = [[table.text(name, row) for name in table.columns] for row in range(len(before))]
         assert rows == [[before.text(name, row) for name in before.columns] for row in range(len(before))]
+
+
+def test_medians_of_an_even_number_of_days_have_their_half(feed: Room) -> None:
+    feed.write("calendar.txt", CALENDAR[0], [])
+    dates = [["M", 20260504, 1], ["M", 20260505, 1], ["N", 20260512, 1], ["N", 20260505, 1]]
+    feed.write("calendar_dates.txt", "service_id,date,exception_type", dates)
+    edit(feed, "trips.txt", "R,M,U", "R,N,U")
+    # the trip T runs once, the trip U six times; from Monday, 4 May, to Tuesday, 12 May
+    medians = "Mondays 0.5, Tuesdays 6.5, Wednesdays 0, Thursdays 0, Fridays 0, Saturdays 0, Sundays 0"
+    assert checked(feed)[0][2] == f"runs on {medians} (medians)"
+
+
+def test_a_call_across_the_date_line_is_not_fast(feed: Room) -> None:
+    stops = [["A", 0.1, 179.999], ["B", 0.1, -179.999], ["C", 0.1, 179.99]]
+    feed.write("stops.txt", "stop_id,stop_lat,stop_lon", stops)
+    assert checked(feed) == (["no errors", *DAYS], 0)
+    edit(feed, "stops.txt", "-179.999", "-79.999")
+    said = "stop_times.txt: 1 call reached at over 300 km/h; the fastest, record 3, at 66,7"
+    assert any(line.startswith(said) for line in checked(feed)[0])

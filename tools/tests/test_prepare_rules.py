@@ -17,7 +17,7 @@ import pytest
 from damages import Damaged, damage_stays, right_feed_differs
 from helpers import CALENDAR, LAUNCHER, STOP_TIMES, Room, Table
 from ttm_tools.gtfs import feeds, tables
-from ttm_tools.prepare.check import check
+from ttm_tools.gtfs.check import check
 from ttm_tools.prepare.repair import repair
 from ttm_tools.prepare.rules import RULES, help_table
 

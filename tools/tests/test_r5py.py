@@ -277,8 +277,8 @@ def test_streets_feeds_and_walks_are_kept(
     )
     assert len(entries) == 3 and not any(name.startswith(".") for name in entries)
     for name in ("read_streets", "make"):
-        monkeypatch.setattr(f"ttm_tools.r5py.network.{name}", None)
-    monkeypatch.setattr("ttm_tools.r5py.doors.street_walks", None)
+        monkeypatch.setattr(f"ttm_tools.compat.r5py.network.{name}", None)
+    monkeypatch.setattr("ttm_tools.places.doors.street_walks", None)
     with warnings.catch_warnings():
         warnings.simplefilter("error")
         with r5py.TransportNetwork(room.path("streets.osm"), room.path("feed"), program=program) as again:
@@ -297,19 +297,19 @@ def test_a_network_of_a_folder_and_its_extent(room: Room, cache: None) -> None:
 
 
 def test_more_walks_than_ttm_takes_are_named(network: r5py.TransportNetwork, monkeypatch: pytest.MonkeyPatch) -> None:
-    monkeypatch.setattr("ttm_tools.walks.counting.MOST_FOOTPATHS", 1)
-    monkeypatch.setattr("ttm_tools.r5py.split.MOST_FOOTPATHS", 4)  # with a change at each of three stops
+    monkeypatch.setattr("ttm_tools.streets.counting.MOST_FOOTPATHS", 1)
+    monkeypatch.setattr("ttm_tools.places.split.MOST_FOOTPATHS", 4)  # with a change at each of three stops
     with pytest.raises(r5py.NotAvailable, match="^max_time_walking: 0:15:00 gives more than the .* walks") as raised:
         from_home(network)
     assert raised.value.argument == "max_time_walking"
-    monkeypatch.setattr("ttm_tools.r5py.split.MOST_FOOTPATHS", 5)  # home to A, and C to the clinic
+    monkeypatch.setattr("ttm_tools.places.split.MOST_FOOTPATHS", 5)  # home to A, and C to the clinic
     assert minutes(from_home(network)) == [41]
-    monkeypatch.setattr("ttm_tools.walks.counting.MOST_FOOTPATHS", 2)
+    monkeypatch.setattr("ttm_tools.streets.counting.MOST_FOOTPATHS", 2)
     assert minutes(from_home(network, max_time=85 * MINUTE)) == [41]
 
 
 def test_more_places_than_ttm_takes_are_named(network: r5py.TransportNetwork, monkeypatch: pytest.MonkeyPatch) -> None:
-    monkeypatch.setattr("ttm_tools.points.study.MOST_STOPS", 4)
+    monkeypatch.setattr("ttm_tools.places.folder.MOST_STOPS", 4)
     with pytest.raises(
         r5py.NotAvailable, match="^destinations: 3 locations of the feed and 2 points are more than the 4"
     ):
@@ -331,7 +331,7 @@ def test_what_a_killed_run_left_in_the_cache_is_removed(room: Room, cache: None)
 
 
 def test_snapping_takes_whatever_column_has_the_geometry(walking: r5py.TransportNetwork) -> None:
-    from ttm_tools.r5py.matrix import ends_of
+    from ttm_tools.compat.r5py.matrix import ends_of
 
     beside = frame([(HOME[0] + 100, HOME[1])], ["home"])
     renamed = beside.rename_geometry("place")
@@ -341,6 +341,6 @@ def test_snapping_takes_whatever_column_has_the_geometry(walking: r5py.Transport
 
 
 def test_limits_of_isochrones_are_minutes_with_decimals() -> None:
-    from ttm_tools.r5py.isochrones import limits_of
+    from ttm_tools.compat.r5py.isochrones import limits_of
 
     assert limits_of([7.5, 3]) == [datetime.timedelta(minutes=3), datetime.timedelta(seconds=450)]

@@ -15,10 +15,10 @@ import geopandas  # noqa: E402
 import pandas  # noqa: E402
 from shapely.geometry import Point  # noqa: E402
 
-from ttm_tools.r5py.frames import ComputedFrame, ComputedGeoFrame  # noqa: E402
-from ttm_tools.r5py.isochrones import Isochrones  # noqa: E402
-from ttm_tools.r5py.itineraries import DetailedItineraries  # noqa: E402
-from ttm_tools.r5py.matrix import TravelTimeMatrix  # noqa: E402
+from ttm_tools.compat.r5py.frames import ComputedFrame, ComputedGeoFrame  # noqa: E402
+from ttm_tools.compat.r5py.isochrones import Isochrones  # noqa: E402
+from ttm_tools.compat.r5py.itineraries import DetailedItineraries  # noqa: E402
+from ttm_tools.compat.r5py.matrix import TravelTimeMatrix  # noqa: E402
 
 ROWS = {"from_id": ["a", "a", "b"], "to_id": ["c", "d", "c"], "travel_time": [5.0, float("nan"), 7.0]}
 SKIPPED = {

@@ -21,15 +21,15 @@ from ttm_tools.core.limits import MOST_FOOT_SECONDS  # noqa: E402
 from ttm_tools.gtfs.footpaths import read_walks  # noqa: E402
 from ttm_tools.gtfs.stops import read_stops  # noqa: E402
 from ttm_tools.gtfs.timetable import Edits, Events, read_timetable, runs_of  # noqa: E402
-from ttm_tools.measures.journeys import Search  # noqa: E402
-from ttm_tools.measures.search_network import NEVER, Schedule  # noqa: E402
-from ttm_tools.points.table import Points  # noqa: E402
-from ttm_tools.r5py.doors import stops_in, write_whole  # noqa: E402
-from ttm_tools.r5py.long_walks import LongWalks, reached_directly  # noqa: E402
-from ttm_tools.r5py.needed import needed_walks  # noqa: E402
-from ttm_tools.walks import Pace  # noqa: E402
-from ttm_tools.walks.osm import read_streets  # noqa: E402
-from ttm_tools.walks.table import NONE, WalkTable  # noqa: E402
+from ttm_tools.journeys.network import NEVER, Schedule  # noqa: E402
+from ttm_tools.journeys.search import Search  # noqa: E402
+from ttm_tools.places.doors import stops_in, write_whole  # noqa: E402
+from ttm_tools.places.long_walks import LongWalks, reached_directly  # noqa: E402
+from ttm_tools.places.read import Points  # noqa: E402
+from ttm_tools.streets.needed import needed_walks  # noqa: E402
+from ttm_tools.streets.osm import read_streets  # noqa: E402
+from ttm_tools.streets.table import NONE, WalkTable  # noqa: E402
+from ttm_tools.streets.walks import Pace  # noqa: E402
 
 DATE = datetime.date(2026, 5, 4)
 BEGIN = datetime.datetime(2026, 5, 4, 7, 30)

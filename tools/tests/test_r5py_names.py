@@ -115,7 +115,7 @@ def test_modes_have_their_names() -> None:
     + [(1000, "FERRY"), (1100, "AIR"), (1300, "GONDOLA"), (1400, "FUNICULAR"), (1700, None), (8, None), (-1, None)],
 )
 def test_a_route_type_is_of_a_mode(route_type: int, mode: str | None) -> None:
-    from ttm_tools.r5py.modes import mode_of
+    from ttm_tools.compat.r5py.modes import mode_of
 
     assert mode_of(route_type) == (None if mode is None else r5py.TransportMode(mode))
 

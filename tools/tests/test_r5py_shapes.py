@@ -158,10 +158,10 @@ def test_the_older_name_gives_the_same_and_warns(walking: r5py.TransportNetwork)
 def test_a_journey_that_ttm_does_not_confirm_is_refused(
     network: r5py.TransportNetwork, monkeypatch: pytest.MonkeyPatch
 ) -> None:
-    from ttm_tools.measures import journeys
+    from ttm_tools.journeys import search
 
-    true = journeys.durations
+    true = search.durations
     later = lambda *words: [item and item + 60 for item in true(*words)]  # noqa: E731
-    monkeypatch.setattr(journeys, "durations", later)
+    monkeypatch.setattr(search, "durations", later)
     with pytest.raises(InputError, match="at 07:54: ttm has 2260.0 seconds, and this search 2320"):
         r5py.DetailedItineraries(network, frame([HOME], ["home"]), frame([CLINIC], [7]), **QUARTER)

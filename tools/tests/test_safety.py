@@ -217,7 +217,7 @@ def test_advice_is_of_what_was_not_done_yet(room: Room, monkeypatch: pytest.Monk
     assert "--repair" in said
     points = room.write("points.csv", "id,lat,lon", [["P", 50, 7], ["Q", 50, 7.001], ["S", 50, 7.002]])
     room.write("feed/stop_times.txt", STOP_TIMES, [["T", *["08:00:00"] * 2, "A", 1], ["T", *["08:10:00"] * 2, "B", 2]])
-    monkeypatch.setattr("ttm_tools.points.study.MOST_STOPS", 4)
+    monkeypatch.setattr("ttm_tools.places.folder.MOST_STOPS", 4)
     choices: list[list[str]] = [[], ["--leave-out"]]
     for more in choices:
         _, said, _ = room.ran("points", *more, "--out", room.path("out"), feed, points)
@@ -227,8 +227,8 @@ def test_advice_is_of_what_was_not_done_yet(room: Room, monkeypatch: pytest.Monk
 def test_many_pairs_are_told_while_they_are_counted(room: Room, monkeypatch: pytest.MonkeyPatch) -> None:
     feed = small_feed(room)
     points = room.write("points.csv", "id,lat,lon", [[f"P{n}", 50 + n / 1e5, 7] for n in range(300)])
-    monkeypatch.setattr("ttm_tools.walks.counting.MOST_FOOTPATHS", 1000)
-    monkeypatch.setattr("ttm_tools.walks.straight.PAIRS_AT_ONCE", 500)
+    monkeypatch.setattr("ttm_tools.streets.counting.MOST_FOOTPATHS", 1000)
+    monkeypatch.setattr("ttm_tools.streets.straight.PAIRS_AT_ONCE", 500)
     arguments: list[str] = ["points", "--out", room.path("out"), feed, points]
     assert "more than the 1,000 walks that ttm takes" in room.ran(*arguments)[1]
     assert "more than the 1,000 walks that ttm takes" in room.ran(*arguments, "--leave-out")[1]

@@ -15,7 +15,7 @@ import ttm_tools
 from helpers import Cell, Room, Town, read, town_matrix
 from test_damages import damaged
 from ttm_tools.plans.action_list import LISTED, help_table, markdown_table
-from ttm_tools.walks import Walks
+from ttm_tools.streets.walks import Walks
 
 STOPS = [["A", "Alpha", 50.0, 8.0], ["B", "Beta", 50.0, 8.014], ["C", "", 50.0, 8.028], ["D", "Delta", 50.0, 8.042]]
 CALENDAR = "service_id,monday,tuesday,wednesday,thursday,friday,saturday,sunday,start_date,end_date"
@@ -273,7 +273,8 @@ def test_the_agency_of_a_new_line_is_told(small: Room) -> None:
 def test_an_action_that_is_none_is_told_with_all_that_there_are(small: Room) -> None:
     plan = plan_of(small, 'do = "frequency"')
     _, errors, status = small.ran("scenarios", small.path("feed"), plan, "--out", small.path("out"))
-    actions = "remove_route, remove_trip, remove_stop, shift_route, shift_trip, add_line, headway, speed, extend, cut"
+    actions = "remove_route, remove_mode, remove_trip, remove_stop, shift_route, shift_trip, add_line, headway, speed"
+    actions += ", extend, cut"
     assert status == 1 and sorted(errors.partition("allowed: ")[2].strip().split(", ")) == sorted(actions.split(", "))
 
 
@@ -398,7 +399,8 @@ FAULTS = [
     (
         'do = "remove_rout"\nroute = "R"',
         "line 4: do 'remove_rout' is not an action; the nearest is 'remove_route'; allowed: "
-        "remove_route, remove_trip, remove_stop, shift_route, shift_trip, add_line, headway, speed, extend, cut",
+        "remove_route, remove_mode, remove_trip, remove_stop, shift_route, shift_trip, add_line, headway, speed, "
+        "extend, cut",
     ),
     ('do = "remove_route"\nroutes = "R"', "line 5: routes isn't known; the nearest is 'route'; allowed: do, route"),
     (
@@ -615,7 +617,7 @@ def test_walks_that_bring_old_stops_nearer_are_told_by_points(
     places = np.array([[0, 4, 290], [4, 1, 300], [5, 0, 10]])  # A, B, C, D, N and the point P
     names = ["A", "B", "C", "D", "N", "P"]
     monkeypatch.setattr(
-        "ttm_tools.walks.walks_of", lambda *_: Walks(names, places[:, 0], places[:, 1], places[:, 2], 0)
+        "ttm_tools.streets.walks.walks_of", lambda *_: Walks(names, places[:, 0], places[:, 1], places[:, 2], 0)
     )
     points = with_new_stop.write("points.csv", "id,lat,lon", [["P", 50.0, 8.0]])
     arguments = ["points", with_new_stop.path("out"), points, "--out", with_new_stop.path("doors"), "--limit", "590"]

@@ -73,7 +73,7 @@ def test_all_together_and_what_a_scenario_takes(line: Room) -> None:
     assert (base["departures"], base["vehicle_hours"], base["vehicle_kilometres"]) == ("5", "0.47", "13")
     assert (cut["departures"], cut["vehicles"]) == ("4", "1")
     assert errors.splitlines() == [
-        "base: 5 departures, 1 vehicles at once, 0.5 vehicle hours, 13.0 vehicle kilometres",
+        "base: 5 departures, 1 vehicle at once, 0.5 vehicle hours, 13.0 vehicle kilometres",
         "cut compared with base: departures 5 to 4, vehicles at once 1 to 1, vehicle hours 0.5 to 0.4, "
         "vehicle kilometres 13.0 to 10.0",
     ]

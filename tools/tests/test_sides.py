@@ -36,7 +36,7 @@ def test_an_origin_that_gains_from_nothing_is_newly_reached(town: Town, monkeypa
     texts, _, classes = figure(town, monkeypatch, "difference")
     message = "Of 4 stops 2 lose (1 of them cut off), 1 gains (1 of them newly reached); the greatest loss: 100 %"
     assert texts[1].startswith(message)
-    wanted = ["cut off: all of it lost  (1)", "less than 1 % either way  (2)", "newly reached: none before  (1)"]
+    wanted = ["cut off: all of it lost  (1)", "less than 2 % either way  (2)", "newly reached: none before  (1)"]
     assert classes[:3] == wanted
 
 

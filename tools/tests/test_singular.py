@@ -26,6 +26,7 @@ NEVER_ONE = {
     "walks are more than the ": "above the limit",
     "walks are more than fit into the memory": "above the limit",
     "points are more than the ": "above the limit of both together",
+    "cells are more than the ": "above the limit",
     "lines, of which a spreadsheet shows ": "above the limit",
     "records": "at most so many",
     "files are as ": "a study has many",

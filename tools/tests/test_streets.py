@@ -10,7 +10,7 @@ import pytest
 
 from helpers import Room
 from streets import Way, write_osm
-from ttm_tools.walks.osm import directions_of, is_walked
+from ttm_tools.streets.osm import directions_of, is_walked
 
 pytest.importorskip("osmium")
 pytest.importorskip("scipy")

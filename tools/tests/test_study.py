@@ -18,16 +18,16 @@ from ttm_tools.core.errors import InputError
 from ttm_tools.core.files import sha256_of_file
 from ttm_tools.engine.arguments import EngineArguments
 from ttm_tools.engine.refusals import error_line
-from ttm_tools.study import result_list
-from ttm_tools.study.cutting import Costs, Part, costs_of, parts_for, shape_of, study_key
-from ttm_tools.study.elsewhere import Means
+from ttm_tools.study.executors.local import shown
+from ttm_tools.study.executors.remote import Means
+from ttm_tools.study.executors.slurm import ranges
+from ttm_tools.study.executors.task import write_task
 from ttm_tools.study.inputs import make_inputs
-from ttm_tools.study.running import shown
+from ttm_tools.study.parts import Costs, Part, costs_of, parts_for, shape_of, study_key
+from ttm_tools.study.results import registry
 from ttm_tools.study.settings import PartSettings
-from ttm_tools.study.slurm import ranges
 from ttm_tools.study.stages import Folder
 from ttm_tools.study.study_file import read_study
-from ttm_tools.study.task import write_task
 from ttm_tools.study.template import template
 from ttm_tools.study.ttm import toolchain_of, version_of
 from ttm_tools.study.work import make_study
@@ -365,9 +365,9 @@ def test_the_file_that_new_prints_can_be_read_with_every_field(bare: Place) -> N
     study = read_study(bare.say(out))
     assert (study.run.first, study.run.shares, study.results.access) == ("07:30", (50,), True)
     assert out == (ROOT / "docs" / "reference" / "study.toml").read_text()
-    table = result_list.markdown_table()
+    table = registry.markdown_table()
     assert table in (ROOT / "docs" / "reference" / "study-file.md").read_text()
-    assert all(callable(result.stages()) for result in result_list.RESULTS)
+    assert all(callable(result.stages()) for result in registry.RESULTS)
 
 
 def test_words_that_do_not_go_together_are_wrong_words(bare: Place) -> None:
@@ -420,7 +420,7 @@ def test_how_many_parts_are_done_is_told_with_the_time_that_is_left(
 ) -> None:
     # one ends in each 61 seconds of the clock; of the last one nothing is told
     clock = iter([0.0, 61.0, 122.0, 183.0])
-    monkeypatch.setattr("ttm_tools.study.running.time", SimpleNamespace(monotonic=lambda: next(clock)))
+    monkeypatch.setattr("ttm_tools.study.executors.local.time", SimpleNamespace(monotonic=lambda: next(clock)))
     assert list(shown(iter([None] * 3), 3)) == [None] * 3
     printed = ["parts: 1 of 3, about 0:02:02 left", "parts: 2 of 3, about 0:01:01 left"]
     assert capsys.readouterr().err.splitlines() == printed

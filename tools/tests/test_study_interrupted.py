@@ -16,8 +16,8 @@ from helpers import LAUNCHER, Room, as_in_a_terminal, wait_until
 from test_study import STUDY, Place, place  # noqa: F401
 from ttm_tools.core.signals import Interrupted
 from ttm_tools.engine.arguments import EngineArguments
-from ttm_tools.study.cutting import Part
-from ttm_tools.study.running import Pool, run_parts, tell_ending
+from ttm_tools.study.executors.local import Pool, run_parts, tell_ending
+from ttm_tools.study.parts import Part
 
 WAITED_FOR = "interrupted: waiting for the running parts, which will be kept; Ctrl-C again stops at once"
 
@@ -72,7 +72,7 @@ def when_told(monkeypatch: pytest.MonkeyPatch, act: Callable[[], None]) -> None:
         tell_ending(count)
         act()
 
-    monkeypatch.setattr("ttm_tools.study.running.tell_ending", tell)
+    monkeypatch.setattr("ttm_tools.study.executors.local.tell_ending", tell)
 
 
 def test_the_parts_that_run_at_ctrl_c_are_kept(room: Room, monkeypatch: pytest.MonkeyPatch) -> None:
@@ -173,6 +173,6 @@ def test_a_second_ctrl_c_ends_the_parts_on_hosts(place: Place, program: str) -> 
 def test_parts_that_go_on_are_told_where_there_is_no_terminal(
     monkeypatch: pytest.MonkeyPatch, capsys: pytest.CaptureFixture[str]
 ) -> None:
-    monkeypatch.setattr("ttm_tools.study.running.SECONDS_BETWEEN_LINES", -1.0)
+    monkeypatch.setattr("ttm_tools.study.executors.local.SECONDS_BETWEEN_LINES", -1.0)
     pool = Pool(EngineArguments("feed", "20260504", ("08:00", "08:00")), [], 1, 1)
     assert pool.over() == [] and capsys.readouterr().err == "parts: 0 running, 0 waiting\n"

@@ -19,10 +19,10 @@ from ttm_tools.core.filenames import file_names
 from ttm_tools.core.files import atomic_folder, sha256_of_file
 from ttm_tools.engine.arguments import EngineArguments
 from ttm_tools.study import counted, inputs as study_inputs, stages
-from ttm_tools.study.cutting import Part
-from ttm_tools.study.hosts import command
+from ttm_tools.study.executors.hosts import command
+from ttm_tools.study.executors.task import SCRIPT, write_task
+from ttm_tools.study.parts import Part
 from ttm_tools.study.study_file import read_study
-from ttm_tools.study.task import SCRIPT, write_task
 
 for _package in ("h5py", "pandas", "matplotlib"):
     pytest.importorskip(_package)
@@ -234,7 +234,7 @@ def test_a_study_in_a_folder_of_any_name_is_made_by_slurm_and_by_hosts(
     for tool in tools.iterdir():
         tool.chmod(0o755)
     monkeypatch.setenv("PATH", f"{tools}:{os.environ['PATH']}")
-    monkeypatch.setattr("ttm_tools.study.elsewhere.SECONDS_BETWEEN_LOOKS", 0.1)
+    monkeypatch.setattr("ttm_tools.study.executors.remote.SECONDS_BETWEEN_LOOKS", 0.1)
     ways = [["--slurm"], *([["--hosts", "2/:"]] if shutil.which("parallel") else [])]
     for way in ways:
         out = place.folder / "outs" / way[0].strip("-") / name

@@ -95,7 +95,7 @@ def test_map_page_and_isochrones_take_a_base_too(two: Town, monkeypatch: pytest.
     texts = [text.get_text().replace("\n", " ") for text in figures[0].texts]
     assert texts[:2] == [
         "Travel time from Alpha (A): new compared with old",
-        "Of 4 stops 1 cut off, 2 slower, 0 faster",
+        "Of 4 stops 1 cut off, 1 slower, 0 faster",
     ]
     assert two.ran("page", *old, "--out", two.path("p.html"), two.file)[2] == 0
     page = Path(two.path("p.html")).read_text()

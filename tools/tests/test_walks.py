@@ -12,7 +12,7 @@ import pytest
 
 from helpers import CALENDAR, METRE, STOP_TIMES, Room, Table, launched
 from ttm_tools.gtfs.stops import read_stops
-from ttm_tools.walks import Pace, straight_walks
+from ttm_tools.streets.walks import Pace, straight_walks
 
 
 def found(room: Room, limit: float = 600, speed: float = 1.0, detour: float = 1.0) -> dict[tuple[str, str], int]:

@@ -24,13 +24,13 @@ from ttm_tools.engine.conversation import Answer
 from ttm_tools.matrices import open_matrix
 from ttm_tools.measures.access_table import AccessKind, AccessTable
 from ttm_tools.measures.opportunities import Counts
-from ttm_tools.study.asking import KeptNetwork, PartQuestion, kept_arguments, question_of
-from ttm_tools.study.cutting import Shape, parts_for, remove_parts, remove_windows
-from ttm_tools.study.elsewhere import Means
+from ttm_tools.study.executors.conversation import KeptNetwork, PartQuestion, kept_arguments, question_of
+from ttm_tools.study.executors.remote import Means
 from ttm_tools.study.kinds import Window
+from ttm_tools.study.parts import Shape, parts_for, remove_parts, remove_windows
+from ttm_tools.study.results.window_changes import changes_of, write_changes
 from ttm_tools.study.settings import DayWindow
 from ttm_tools.study.study_file import read_study
-from ttm_tools.study.window_changes import changes_of, write_changes
 from ttm_tools.study.work import make_study
 from ttm_tools.views.windows import FigureLabels, WindowColumn, figure_by_time, figure_of_heat, figure_of_maps, levels
 
@@ -433,7 +433,7 @@ def test_windows_are_computed_by_slurm_too(place: Place, monkeypatch: pytest.Mon
     array = "for n in 1 2 3 4; do SLURM_ARRAY_TASK_ID=$n sh"
     script(tools / "sbatch", f'#!/bin/sh\nfor last; do :; done\n{array} "$last" >&2; done\necho 1\n')
     monkeypatch.setenv("PATH", f"{tools}:{os.environ['PATH']}")
-    monkeypatch.setattr("ttm_tools.study.elsewhere.SECONDS_BETWEEN_LOOKS", 0.1)
+    monkeypatch.setattr("ttm_tools.study.executors.remote.SECONDS_BETWEEN_LOOKS", 0.1)
     _, errors, status = place.ran("study", path, "--slurm", "--out", place.path("array"))
     assert status == 0, errors
     for name in ("20260504_night", "20260505_early", "20260505_night"):

@@ -1,5 +1,9 @@
 //! What the line of a bad option can't say: its text as it stands, and what is allowed.
 
+ghost use Rattle.std.specs.Prelude.{◌≡◌, length, nat_lt};
+ghost use Rattle.command_line.specs.Numbers.{parts_of};
+ghost use Rattle.command_line.specs.declared.numbers.TheConstants.{MOST_NUMBERS};
+
 use crate::numbers::MOST_NUMBERS;
 use crate::task::Opt;
 use crate::window::window_of;
@@ -133,12 +137,10 @@ fn are_numbers(text: &[u8]) -> bool {
 }
 
 /// Whether a list has more parts than it may.
-fn are_many(text: &[u8]) -> bool {
-    let mut parts: usize = 0;
-    for _ in text.split(|byte| *byte == b',') {
-        parts = parts.saturating_add(1);
-    }
-    parts > MOST_NUMBERS
+fn are_many(text: &[u8]) -> bool
+    ensures { result ≡ nat_lt MOST_NUMBERS (length (parts_of text.now)) }
+{
+    text.split(|byte| *byte == b',').count() > MOST_NUMBERS
 }
 
 /// Whether each number of a list is greater than the one before it.

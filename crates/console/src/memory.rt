@@ -1,5 +1,6 @@
 //! What a system reports about memory: lines of a name, a number of kilobytes, and `kB`.
 ghost use Rattle.std.specs.Prelude.{◌≡◌, ◌*◌, ◌%◌, IfSome, option_map};
+ghost use Rattle.console.specs.Memory as spec;
 
 use table_records::number;
 
@@ -18,7 +19,8 @@ pub struct Memory {
 /// The bytes that the first line of a text with this name at its head states, as `MemAvailable:   16102636 kB` does:
 /// whole kilobytes. `None` if no such line states them.
 pub fn memory_of(text: &[u8], name: &[u8]) -> Option<u64>
-    ensures { IfSome result (λ bytes. bytes % 1024 ≡ 0) }
+    ensures figure { result ≡ spec.first_figure name.now (spec.lines_of text.now) }
+    ensures whole { IfSome result (λ bytes. bytes % 1024 ≡ 0) }
 {
     for line in text.split(|byte| *byte == b'\n') {
         if let Some(bytes) = figure_of(line, name) {
@@ -30,7 +32,8 @@ pub fn memory_of(text: &[u8], name: &[u8]) -> Option<u64>
 
 /// The bytes that a line states, if the name is at its head.
 fn figure_of(line: &[u8], name: &[u8]) -> Option<u64>
-    ensures { IfSome result (λ bytes. bytes % 1024 ≡ 0) }
+    ensures figure { result ≡ spec.figure_of name.now line.now }
+    ensures whole { IfSome result (λ bytes. bytes % 1024 ≡ 0) }
 {
     match line.strip_prefix(name) {
         Some(rest) => kilobytes(rest),
@@ -40,7 +43,8 @@ fn figure_of(line: &[u8], name: &[u8]) -> Option<u64>
 
 /// The bytes of a number of kilobytes, as `\t  16102636 kB` writes it.
 fn kilobytes(text: &[u8]) -> Option<u64>
-    ensures { IfSome result (λ bytes. bytes % 1024 ≡ 0) }
+    ensures figure { result ≡ spec.kilobytes_of text.now }
+    ensures whole { IfSome result (λ bytes. bytes % 1024 ≡ 0) }
 {
     match text.trim_ascii().strip_suffix(b"kB") {
         Some(digits) => bytes_of(number(digits.trim_ascii())),

@@ -12,13 +12,13 @@ use Rattle.shares.proofs.CellsUnique.{cell_unique}
 use Rattle.shares.proofs.MinutesWithinLimits.{cell_alike}
 use Rattle.label_cells.specs.declared.share_cells.Question.{Question}
 use Rattle.label_cells.specs.declared.share_cells.ShareCells.{ShareCells}
-use Rattle.label_cells.specs.declared.window.WindowLabels.{WindowLabels}
-use Rattle.label_cells.specs.Durations.{IsCellOf, lesser}
+use Rattle.rounds.specs.declared.labels.WindowLabels.{WindowLabels}
+use Rattle.rounds.specs.Labels.{AreWindowLabels, Represent, least_walk, lesser}
+use Rattle.label_cells.specs.Durations.{IsCellOf}
 use Rattle.label_cells.specs.Groups.{AreRankCells, cell_at, is_used, stop_at}
 use Rattle.label_cells.specs.ShareCells.{AreOfRanks, ArePicked, AreRanks, AreShareCells, AreStopCells}
 use Rattle.label_cells.specs.ShareCells.{IsOfRank}
 use Rattle.label_cells.specs.Sums.{sum_to}
-use Rattle.label_cells.specs.Windows.{AreWindowLabels, Represent, least_walk}
 use Rattle.label_cells.proofs.AccessByStop.{access_is_sum, counted_same}
 use Rattle.label_cells.proofs.SharesByRank.{cell_for_share}
 use Rattle.label_cells.proofs.SumsOfPlaces.{sum_same}

@@ -4,7 +4,8 @@ use Rattle.std.proofs.Common.{refl, inl, inr, if◌then◌else◌, min}
 use Rattle.std.proofs.lemmas.Bool.{cases_lt}
 use Rattle.std.proofs.lemmas.Bool.Decides.{nat_tests}
 use Rattle.shares.specs.Percentiles.{is_within, minutes_within}
-use Rattle.label_cells.specs.Durations.{IsCellOf, lesser}
+use Rattle.rounds.specs.Labels.{lesser}
+use Rattle.label_cells.specs.Durations.{IsCellOf}
 
 abbrev adds : ℕ → Option ℕ → ℕ
 adds d x = if is_within d x then 1 else 0

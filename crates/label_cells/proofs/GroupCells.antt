@@ -4,7 +4,7 @@ use Rattle.std.proofs.Common.{slice_index, slice_index_or, inl, inr, ap, sym, su
 use Rattle.std.proofs.lemmas.Bool.{cases_lt, both_ways}
 use Rattle.rounds.specs.Table.{known_of}
 use Rattle.useful_minutes.proofs.FilledLabels.{position_before, next_chunks}
-use Rattle.label_cells.specs.declared.window.WindowLabels.{WindowLabels}
+use Rattle.rounds.specs.declared.labels.WindowLabels.{WindowLabels}
 use Rattle.label_cells.specs.Durations.{IsCellOf}
 use Rattle.label_cells.specs.Groups.{AddsGroup, AreLaneDurations}
 

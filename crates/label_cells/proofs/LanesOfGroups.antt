@@ -3,9 +3,10 @@ use Rattle.std.proofs.Common.{◌≡◌, ◌≤◌, ◌<◌, ◌+◌, ◌*◌, �
 use Rattle.std.proofs.Common.{sym, ◌∙◌, arith}
 use Rattle.std.proofs.lemmas.Nat.{row_fits}
 use Rattle.std.proofs.lemmas.Simd.{length-chunk, get_or-chunk, get_or-replicate, length-replicate}
+use Rattle.rounds.specs.Labels.{ArePositions, AreSince}
 use Rattle.label_cells.specs.Durations.{AreLabels}
 use Rattle.label_cells.specs.Runs.{AreEnds}
-use Rattle.label_cells.specs.Windows.{ArePositions, AreSince, lane_of}
+use Rattle.label_cells.specs.GroupLanes.{lane_of}
 
 module _ (found : List ℕ) (from width k l : ℕ) (room : from + 16 * width ≤ length found) (fits : k ≤ width) (h : l <
     16) where

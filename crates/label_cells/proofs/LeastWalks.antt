@@ -1,38 +1,18 @@
 -- The lesser of durations, one after another; and the least walk, one walk after another.
 use Rattle.std.proofs.Common.{◌≡◌, ◌≢◌, ◌<◌, ◌+◌, ◌==◌, ℕ, suc, Bool, List, Option, Some, None, min, ap, refl, sym}
 use Rattle.std.proofs.Common.{◌∙◌, arith}
-use Rattle.std.proofs.Common.{if◌then◌else◌, inl, inr}
-use Rattle.std.proofs.lemmas.Bool.{cases_eq, ne_eqb, eq-eqb}
+use Rattle.std.proofs.Common.{if◌then◌else◌}
+use Rattle.std.proofs.lemmas.Bool.{ne_eqb, eq-eqb}
 use Rattle.timetable.specs.declared.trips.StopNo.{StopNo}
+use Rattle.rounds.proofs.LeastWalks.{known_lowered, lesser_none}
 use Rattle.rounds.specs.Table.{known_of}
-use Rattle.label_cells.specs.Durations.{lesser}
-use Rattle.label_cells.specs.Windows.{least_walk, walk_stop, walk_seconds}
-
-lesser_none : (x : Option ℕ) → lesser x None ≡ x
-lesser_none None = refl
-lesser_none (Some d) = refl
+use Rattle.rounds.specs.Labels.{least_walk, lesser, walk_seconds, walk_stop}
 
 lesser_assoc : (x y z : Option ℕ) → lesser (lesser x y) z ≡ lesser x (lesser y z)
 lesser_assoc None y z = refl
 lesser_assoc (Some d) None z = refl
 lesser_assoc (Some d) (Some e) None = refl
 lesser_assoc (Some d) (Some e) (Some f) = ap Some (let same : min (min d e) f ≡ min d (min e f) = omega arith in same)
-
-known : (x : ℕ) → x ≢ 4294967295 → known_of x ≡ Some x
-known x ne = ap (λ (b : Bool). if b then None else Some x) (ne_eqb x 4294967295 ne)
-
--- the label that is the lesser of a cell and a walk
-pub known_lowered : (x seconds : ℕ) → seconds < 4294967295 → known_of (min x seconds) ≡ lesser (known_of x) (Some
-    seconds)
-known_lowered x seconds few = elim (cases_eq x 4294967295) [
-  | inl never ↦
-      let none : known_of x ≡ None = ap (λ (b : Bool). if b then None else Some x) (eq-eqb x 4294967295 never) in
-      known (min x seconds) (λ e. omega (arith, e, few))
-      ∙ (ap Some (let least : min x seconds ≡ seconds = omega (arith, never, few) in least)
-      ∙ sym (ap (λ (o : Option ℕ). lesser o (Some seconds)) none))
-  | inr some ↦ known (min x seconds) (λ e. omega (arith, e, few))
-      ∙ sym (ap (λ (o : Option ℕ). lesser o (Some seconds)) (known x some))
-]
 
 module _ (walks : List (StopNo × ℕ)) (q i : ℕ) where
   next : (x : Option ℕ) → (if walk_stop walks i == q then Some (walk_seconds walks i) else None) ≡ x →

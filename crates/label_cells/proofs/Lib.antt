@@ -19,3 +19,4 @@ pub mod LeastWalks
 pub mod GroupCells
 pub mod StopsOfGroups
 pub mod CellsOfShares
+pub mod BothWays

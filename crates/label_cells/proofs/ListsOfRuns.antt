@@ -4,7 +4,7 @@ use Rattle.std.proofs.Common.{refl, arith}
 use Rattle.std.proofs.lemmas.Bool.{cases_lt}
 use Rattle.std.proofs.lemmas.List.{get_or_append_left, get_or_at, length-append}
 use Rattle.label_cells.specs.declared.runs.Run.{Run}
-use Rattle.label_cells.specs.Windows.{shortest_at, span_in, no_run}
+use Rattle.label_cells.specs.GroupLanes.{shortest_at, span_in, no_run}
 use Rattle.label_cells.specs.Sums.{sum_to}
 use Rattle.label_cells.proofs.SumsOfPlaces.{sum_next, sum_same}
 

@@ -2,7 +2,8 @@
 use Rattle.std.proofs.Common.{◌≡◌, ◌≢◌, ◌≤◌, ◌<◌, ◌+◌, ◌*◌, ◌-◌, ℕ, zero, suc, Bool, true, false, List, Option, Some}
 use Rattle.std.proofs.Common.{ap, arith, refl, inl, inr, sym, subst, ◌∙◌, length, slice_index, slice_index_or}
 use Rattle.std.proofs.lemmas.Bool.{cases_lt, cases_eq, both_ways, true_from_ne_false}
-use Rattle.label_cells.specs.Durations.{IsDurationFrom, AreDurations, AreLabels}
+use Rattle.rounds.specs.Labels.{AreLabelDurations, IsDurationFrom}
+use Rattle.label_cells.specs.Durations.{AreLabels}
 use Rattle.label_cells.specs.Sums.{sum_to}
 use Rattle.label_cells.specs.Runs.{IsRun, AreEnds}
 use Rattle.label_cells.proofs.SumsOfPlaces.{sum_same}
@@ -80,7 +81,7 @@ module _ (labels bases searched : List ℕ) (first minutes : ℕ) (ends : List B
       let end = are.plan.last in
       omega (arith, all, e, end)
 
-  module _ (ds : ℕ → Option ℕ) (counted : AreDurations labels bases searched first minutes ds) where
+  module _ (ds : ℕ → Option ℕ) (counted : AreLabelDurations labels bases searched first minutes ds) where
     -- the durations of all minutes that are left up to a position's own, by its label
     counted_here : (j was runs : ℕ) (shortest span : ℕ → ℕ) → j < length searched →
         AreBegun labels bases searched first ds j was shortest span runs → (m : ℕ) → was ≤ m →

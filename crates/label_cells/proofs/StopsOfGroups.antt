@@ -4,11 +4,11 @@ use Rattle.std.proofs.Common.{slice_index, ap, sym, subst, arith}
 use Rattle.std.proofs.lemmas.Nat.{row_fits}
 use lib.Lanes.{chunk}
 use Rattle.rounds.specs.Table.{known_of}
-use Rattle.label_cells.specs.declared.window.WindowLabels.{WindowLabels}
-use Rattle.label_cells.specs.Durations.{AreDurations, IsCellOf, lesser}
+use Rattle.rounds.specs.declared.labels.WindowLabels.{WindowLabels}
+use Rattle.rounds.specs.Labels.{AreLabelDurations, AreSince, labels_of, least_walk, lesser}
+use Rattle.label_cells.specs.Durations.{IsCellOf}
 use Rattle.label_cells.specs.Groups.{AreGroupCells, AreLaneDurations, cell_at, group_lane, groups_of}
 use Rattle.label_cells.specs.Groups.{is_used}
-use Rattle.label_cells.specs.Windows.{AreSince, labels_of, least_walk}
 use Rattle.label_cells.proofs.CellsWithWalks.{cell_walked}
 
 lane_start : (q width : ℕ) → 16 * (q / 16) * width + q % 16 * width ≡ q * width
@@ -32,7 +32,7 @@ module _ (w : WindowLabels) (used : List Bool) (ranks : List ℕ) (old new : Lis
     ≡ lesser (known_of (cell_at (length ranks) old q k)) (least_walk w.walks.now q (length w.walks.now))) where
   pub cell_with_walks : (q k : ℕ) (of_minute : ℕ → Option ℕ) → q < length w.numbers.now → is_used used q →
       k < length ranks → AreSince (labels_of w q) w.found.bases.now w.searched.now w.first →
-      AreDurations (labels_of w q) w.found.bases.now w.searched.now w.first w.minutes of_minute →
+      AreLabelDurations (labels_of w q) w.found.bases.now w.searched.now w.first w.minutes of_minute →
       IsCellOf (λ m. lesser (of_minute m) (least_walk w.walks.now q (length w.walks.now))) w.minutes
       (slice_index ranks k) (known_of (cell_at (length ranks) new q k))
   cell_with_walks q k ds less is in_ranks since durations =
@@ -40,7 +40,7 @@ module _ (w : WindowLabels) (used : List Bool) (ranks : List ℕ) (old new : Lis
       let rank = slice_index ranks k in
       let here : AreLaneDurations w (16 * (q / 16) * w.found.width) (q % 16) ds = record {
         since = subst (λ (xs : List ℕ). AreSince xs w.found.bases.now w.searched.now w.first) (sym (lane_is w q)) since;
-        durations = subst (λ (xs : List ℕ). AreDurations xs w.found.bases.now w.searched.now w.first w.minutes ds)
+        durations = subst (λ (xs : List ℕ). AreLabelDurations xs w.found.bases.now w.searched.now w.first w.minutes ds)
             (sym (lane_is w q)) durations;
       } in
       let cell = are.each (q / 16) k (q % 16) ds (omega (arith, less, groups)) is in_ranks (omega arith) here in

@@ -5,10 +5,11 @@ use Rattle.timetable.specs.declared.trips.StopNo.{StopNo}
 use Rattle.rounds.specs.Table.{known_of}
 use Rattle.label_cells.specs.declared.split_runs.SplitRun.{SplitRun}
 use Rattle.label_cells.specs.declared.selection.Summary.{Summary}
-use Rattle.label_cells.specs.declared.window.WindowLabels.{WindowLabels}
-use Rattle.label_cells.specs.Durations.{AreDurations, IsCellOf, lesser}
+use Rattle.rounds.specs.declared.labels.WindowLabels.{WindowLabels}
+use Rattle.rounds.specs.Labels.{AreLabelDurations, AreSince, labels_of, least_walk, lesser}
+use Rattle.label_cells.specs.Durations.{IsCellOf}
 use Rattle.label_cells.specs.SplitRuns.{AreSmall, AreSplitRuns, IsSummary}
-use Rattle.label_cells.specs.Windows.{AreSince, labels_of, lane_of, least_walk}
+use Rattle.label_cells.specs.GroupLanes.{lane_of}
 
 -- how many groups this many stops make
 abbrev pub groups_of : ℕ → ℕ
@@ -21,7 +22,7 @@ group_lane w from l = lane_of w.found.labels.now from w.found.width (length w.se
 -- these are the durations of lane l, and no label of it is earlier than its departure
 pub record AreLaneDurations (w : WindowLabels) (from l : ℕ) (of_minute : ℕ → Option ℕ) : Type 0 where
   pub since : AreSince (group_lane w from l) w.found.bases.now w.searched.now w.first
-  pub durations : AreDurations (group_lane w from l) w.found.bases.now w.searched.now w.first w.minutes of_minute
+  pub durations : AreLabelDurations (group_lane w from l) w.found.bases.now w.searched.now w.first w.minutes of_minute
 
 -- a group's runs, split, with their summary
 pub record AreGroupRuns (w : WindowLabels) (from : ℕ) (rows : List SplitRun) (s : Summary) : Type 0 where
@@ -74,7 +75,7 @@ pub record AreRankCells (w : WindowLabels) (used : List Bool) (ranks : List ℕ)
   pub size : length cells ≡ length used * length ranks
   pub each : (q k : ℕ) (of_minute : ℕ → Option ℕ) → q < length w.numbers.now → is_used used q → k < length ranks →
       AreSince (labels_of w q) w.found.bases.now w.searched.now w.first →
-      AreDurations (labels_of w q) w.found.bases.now w.searched.now w.first w.minutes of_minute →
+      AreLabelDurations (labels_of w q) w.found.bases.now w.searched.now w.first w.minutes of_minute →
       IsCellOf (λ m. lesser (of_minute m) (least_walk w.walks.now q (length w.walks.now))) w.minutes
       (slice_index ranks k) (known_of (cell_at (length ranks) cells q k))
 

@@ -3,6 +3,7 @@ pub mod Durations
 pub mod Runs
 pub mod SplitRuns
 pub mod Places
-pub mod Windows
+pub mod GroupLanes
 pub mod Groups
 pub mod ShareCells
+pub mod Laws

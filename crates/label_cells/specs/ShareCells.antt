@@ -2,6 +2,8 @@
 use Rattle.std.specs.Prelude.{◌≡◌, ℕ, ◌+◌, ◌*◌, ◌/◌, ◌<◌, List, Option, Some, None, length, slice_get, slice_index}
 use Rattle.std.specs.Prelude.{slice_index_or}
 use Rattle.timetable.specs.declared.trips.StopNo.{StopNo}
+use Rattle.rounds.specs.declared.labels.WindowLabels.{WindowLabels}
+use Rattle.rounds.specs.Labels.{Represent}
 use Rattle.rounds.specs.Table.{DurationTable, known_of}
 use Rattle.shares.specs.Percentiles.{AreCellsAt}
 use Rattle.shares.specs.Opportunities.{IsAccess, counted}
@@ -22,6 +24,10 @@ pub record AreShareCells (t : DurationTable) (q : Question) (given : List ShareC
   pub count : length given ≡ length q.shares.now
   pub each : (k share : ℕ) (cells : ShareCells) → slice_get q.shares.now k ≡ Some share →
       slice_get given k ≡ Some cells → IsShareCells t q share cells
+
+-- the cells and the access that labels give: those of each table of durations that they represent
+abbrev pub AreShareCellsOfLabels : WindowLabels → Question → List ShareCells → Type 0
+AreShareCellsOfLabels labels q given = (t : DurationTable) → Represent labels t → AreShareCells t q given
 
 -- the rank of each share: that percentage of the minutes, rounded up
 pub record AreRanks (minutes : ℕ) (shares ranks : List ℕ) : Type 0 where

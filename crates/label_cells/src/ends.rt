@@ -1,9 +1,10 @@
 //! At which positions the runs of sixteen stops end.
 ghost use Rattle.std.specs.Prelude.{◌≡◌, ◌≢◌, ◌+◌, ◌*◌, ◌<◌, ◌≤◌, ℕ, false, cond, length, nat_eq, slice_index, OnOk};
 ghost use Rattle.label_cells.specs.Runs.{AreEnds};
-ghost use Rattle.label_cells.specs.Windows.{ArePositions, lane_of};
+ghost use Rattle.rounds.specs.Labels.{ArePositions};
+ghost use Rattle.label_cells.specs.GroupLanes.{lane_of};
 
-use crate::window::WindowLabels;
+use rounds::WindowLabels;
 use std::alloc::AllocError;
 use std::simd::prelude::*;
 use std::simd::u16x8;

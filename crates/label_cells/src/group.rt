@@ -4,14 +4,15 @@ ghost use Rattle.label_cells.specs.Groups.{AddsGroup, AddsRanks, AreGroupRuns};
 ghost use Rattle.label_cells.specs.Runs.{IsSplitRun};
 ghost use Rattle.label_cells.specs.SplitRuns.{AreSmall, IsSummary, whole_at, rest_at, reached_at};
 ghost use Rattle.label_cells.specs.Sums.{sum_to};
-ghost use Rattle.label_cells.specs.Windows.{ArePositions, shortest_at, span_in};
+ghost use Rattle.rounds.specs.Labels.{ArePositions};
+ghost use Rattle.label_cells.specs.GroupLanes.{shortest_at, span_in};
 
 use crate::ends::fill_ends;
 use crate::runs::{Run, fill_runs};
 use crate::selection::{Summary, cells_of_rank, summary_of};
 use crate::split_runs::{Sixteen, SplitRun};
 use crate::splitting::{lower_of, minutes_of, split};
-use crate::window::WindowLabels;
+use rounds::WindowLabels;
 use std::alloc::{AllocError, Global};
 use trip_lanes::Lanes;
 

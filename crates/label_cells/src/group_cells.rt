@@ -1,11 +1,11 @@
 //! The cells of all groups of a window.
 ghost use Rattle.std.specs.Prelude.{◌≡◌, ◌+◌, ◌*◌, ◌<◌, ◌≤◌, ℕ, length, slice_index, OnOk, IfOk};
 ghost use Rattle.label_cells.specs.Groups.{AddsUnused, AreGroupCells, AreRankCells, groups_of};
-ghost use Rattle.label_cells.specs.Windows.{AreWindowLabels};
+ghost use Rattle.rounds.specs.Labels.{AreWindowLabels};
 
 use crate::group::{CellBuffers, push_group};
 use crate::walks::lower_walks;
-use crate::window::WindowLabels;
+use rounds::WindowLabels;
 use std::alloc::{AllocError, Global};
 use timetable::NEVER;
 use trip_lanes::Lanes;

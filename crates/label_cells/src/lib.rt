@@ -27,19 +27,21 @@
 //!
 //! # Modules, in reading order
 //!
-//! - `window`: [`WindowLabels`], the input. `share_cells`: [`cells_and_access`], and the access sums.
+//! - `share_cells`: [`cells_and_access`], and the access sums. Its input is [`rounds::WindowLabels`].
 //! - `used`: which groups have a destination or an opportunity; the others are skipped.
 //! - `group_cells`: all groups. `group`: one group, and [`CellBuffers`]. `walks`: walks from the origin.
 //! - `ends`, `runs`: the runs of a group. `splitting`, `split_runs`: split runs, and how they are counted.
 //! - `selection`, `halving`: the cells of a rank.
+//! - `laws`: [`labels_give_the_cells_of_durations`].
 //!
-//! `specs/Windows` says what labels represent, and `specs/Runs` how runs are counted.
+//! `specs/Labels` of `rounds` says what labels represent, and `specs/Runs` how runs are counted.
 #![tactic(auto)]
 
 mod ends;
 mod group;
 mod group_cells;
 mod halving;
+mod laws;
 mod runs;
 mod selection;
 mod share_cells;
@@ -49,8 +51,7 @@ mod splitting;
 mod tests;
 mod used;
 mod walks;
-mod window;
 
 pub use group::CellBuffers;
+pub use laws::labels_give_the_cells_of_durations;
 pub use share_cells::{Question, ShareCells, cells_and_access};
-pub use window::WindowLabels;

@@ -1,13 +1,13 @@
 //! The runs of sixteen stops.
 ghost use Rattle.std.specs.Prelude.{◌≡◌, ◌≢◌, ◌+◌, ◌*◌, ◌<◌, ◌≤◌, ℕ, Option, length, slice_index, OnOk};
-ghost use Rattle.label_cells.specs.Durations.{AreDurations};
+ghost use Rattle.rounds.specs.Labels.{AreLabelDurations, ArePositions, AreSince};
 ghost use Rattle.label_cells.specs.Runs.{AreEnds, AreRuns};
 ghost use Rattle.label_cells.specs.Sums.{sum_to};
-ghost use Rattle.label_cells.specs.Windows.{ArePositions, AreSince, lane_of, shortest_at, span_in};
+ghost use Rattle.label_cells.specs.GroupLanes.{lane_of, shortest_at, span_in};
 
 use crate::split_runs::Sixteen;
 use crate::splitting::shortest_of;
-use crate::window::WindowLabels;
+use rounds::WindowLabels;
 use std::alloc::AllocError;
 
 /// A run of sixteen stops.
@@ -54,7 +54,7 @@ pub(crate) fn fill_runs(
         AreSince (lane_of window.entry.found.labels.now from window.entry.found.width
         (length window.entry.searched.now) l) window.entry.found.bases.now window.entry.searched.now
         window.entry.first →
-        AreDurations (lane_of window.entry.found.labels.now from window.entry.found.width
+        AreLabelDurations (lane_of window.entry.found.labels.now from window.entry.found.width
         (length window.entry.searched.now) l) window.entry.found.bases.now window.entry.searched.now
         window.entry.first window.entry.minutes of_minute →
         AreRuns of_minute window.entry.minutes (shortest_at runs.new.items l) (span_in runs.new.items)

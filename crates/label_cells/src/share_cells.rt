@@ -2,15 +2,15 @@
 ghost use Rattle.std.specs.Prelude.{◌≡◌, ◌+◌, ◌*◌, ◌/◌, ◌<◌, ◌≤◌, ℕ, All, length};
 ghost use Rattle.std.specs.Prelude.{nat_le, slice_index, if◌then◌else◌, IfOk};
 ghost use Rattle.timetable.specs.declared.limits.TheConstants.{MOST_STOPS};
-ghost use Rattle.rounds.specs.Table.{DurationTable, known_of};
-ghost use Rattle.label_cells.specs.ShareCells.{AreOfRanks, ArePicked, AreRanks, AreShareCells, AreStopCells, AreSums};
-ghost use Rattle.label_cells.specs.ShareCells.{IsOfRank, access_by_stop};
-ghost use Rattle.label_cells.specs.Windows.{AreWindowLabels, Represent};
+ghost use Rattle.rounds.specs.Table.{known_of};
+ghost use Rattle.label_cells.specs.ShareCells.{AreOfRanks, ArePicked, AreRanks, AreShareCellsOfLabels};
+ghost use Rattle.label_cells.specs.ShareCells.{AreStopCells, AreSums, IsOfRank, access_by_stop};
+ghost use Rattle.rounds.specs.Labels.{AreWindowLabels};
 
 use crate::group::CellBuffers;
 use crate::group_cells::{GROUP, rank_cells};
 use crate::used::used_groups;
-use crate::window::WindowLabels;
+use rounds::WindowLabels;
 use std::alloc::{AllocError, Global};
 use timetable::{NEVER, StopNo};
 use trip_lanes::Lanes;
@@ -202,8 +202,7 @@ pub fn cells_and_access(
     requires destinations { All (λ stop. stop.0 < length window.numbers.now) question.destinations.now }
     requires shares { All (λ share. share ≤ 100) question.shares.now }
     requires opportunities { length question.opportunities.now ≡ length window.numbers.now }
-    ensures { IfOk result (λ given. (t : DurationTable) → Represent window.entry t →
-        AreShareCells t question.entry given.items) }
+    ensures { IfOk result (λ given. AreShareCellsOfLabels window.entry question.entry given.items) }
 {
     let numbers = window.numbers;
     let rank_list = ranks_of(alloc, question.shares, window.minutes)?;

@@ -3,7 +3,7 @@ ghost use Rattle.std.specs.Prelude.{◌≤◌, All};
 
 use crate::group::CellBuffers;
 use crate::share_cells::{Question, ShareCells, cells_and_access};
-use crate::window::WindowLabels;
+use rounds::WindowLabels;
 use std::alloc::{AllocError, Global};
 use std::test::Fail;
 use timetable::StopNo;

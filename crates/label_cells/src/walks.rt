@@ -4,9 +4,8 @@ ghost use Rattle.std.specs.Prelude.{◌≡◌, ◌≢◌, ◌+◌, ◌*◌, ◌/
 ghost use Rattle.std.specs.Prelude.{slice_index_or};
 ghost use Rattle.timetable.specs.declared.least.TheConstants.{NEVER as NEVER_VALUE};
 ghost use Rattle.rounds.specs.Table.{known_of};
-ghost use Rattle.label_cells.specs.Durations.{lesser};
+ghost use Rattle.rounds.specs.Labels.{least_walk, lesser, walk_seconds, walk_stop};
 ghost use Rattle.label_cells.specs.Groups.{cell_at};
-ghost use Rattle.label_cells.specs.Windows.{least_walk, walk_seconds, walk_stop};
 
 use crate::group_cells::GROUP;
 use timetable::StopNo;

@@ -5,7 +5,7 @@
 //! are promised in the same words with a report and without. So is why the workers gave no matrix: the program's gates
 //! let every lease be worked at.
 
-ghost use Rattle.std.specs.Prelude.{◌≡◌, ◌≤◌, IfErr, OnOk};
+ghost use Rattle.std.specs.Prelude.{◌≡◌, ◌≤◌, ℕ, IfErr, List, OnOk, Option, true};
 ghost use Rattle.std.specs.Io.KnownBytes.{Appends};
 ghost use Rattle.std.specs.Process.{exit_status};
 ghost use Rattle.outputs.specs.Outputs.{after};
@@ -88,6 +88,7 @@ fn answer_and_report<H: Host, O: Write, E: Output>(
     out: &mut O,
     err: &mut E,
 ) -> ExitCode
+    requires asked { task.now.report ≡ true }
     requires files { AreWithinLimit (files_of files.old) }
     requires settings { SettingsFit task.now.settings }
     ensures answered { spec.IsAnswered (files_of files.old) task.now.settings (O.contents out.old)
@@ -106,10 +107,26 @@ fn answer_and_report<H: Host, O: Write, E: Output>(
         Err(fault) => {
             let inputs = files.inputs();
             let code = tell_why(host.alloc(), &fault, &inputs, err);
-            report.refused(&fault, &inputs, task.feed.as_str());
+            report_refused(&report, task, &fault, &inputs, &code, err);
             code
         }
     }
+}
+
+/// Explains an error: only if the arguments ask for a report, and after its line.
+pub(crate) fn report_refused<H: Host, E: Output>(
+    report: &Report<'_, H>,
+    task: &Task,
+    fault: &StudyFault,
+    inputs: &Inputs<'_>,
+    _code: &ExitCode,
+    _err: &E,
+)
+    requires asked { task.now.report ≡ true }
+    requires told { (before : Option (List ℕ)) × spec.TellsFault fault.now (inputs_of inputs.now) before
+        (after (E.contents _err.now) (E.broke _err.now)) (exit_status _code.now) }
+{
+    report.refused(fault, inputs, task.feed.as_str());
 }
 
 /// Puts out the matrix of the study of these files. At an error it isn't out whole. If the workers gave no matrix, the

@@ -6,7 +6,7 @@
 //! A fault is told by one line on the standard error, and by the exit status. Nothing but the whole matrix, or the
 //! help or the version that was asked for, is a success.
 
-ghost use Rattle.std.specs.Prelude.{◌≡◌, ◌≤◌, ℕ, List, Ok, [], map, string_bytes};
+ghost use Rattle.std.specs.Prelude.{◌≡◌, ◌≤◌, ℕ, List, Ok, Option, [], map, string_bytes, true};
 ghost use Rattle.std.specs.Io.KnownBytes.{Appends};
 ghost use Rattle.std.specs.Process.{exit_status};
 ghost use Rattle.clap.specs.Words.{Text};
@@ -14,7 +14,7 @@ ghost use Rattle.outputs.specs.Outputs.{after};
 ghost use Rattle.studies.specs.Inputs.{AreWithinLimit};
 ghost use Rattle.studies.specs.Settings.{SettingsFit};
 ghost use Rattle.program.specs.Answers as spec;
-ghost use Rattle.program.specs.Files.{files_of};
+ghost use Rattle.program.specs.Files.{TellsWhyUnread, files_of};
 
 use crate::answers::{answer, answer_task};
 use crate::example::{example_inputs, example_settings};
@@ -22,6 +22,7 @@ use crate::host::Host;
 use crate::reading::read_files;
 use crate::study_files::StudyFiles;
 use crate::talk::converse;
+use crate::unread::Unread;
 use crate::words::collected;
 use clap::Error;
 use command_line::{
@@ -224,11 +225,27 @@ fn read_and_answer<H: Host, I: Read, O: Write, E: Output>(
         Err(unread) => {
             let code = unread.tell(host.alloc(), err);
             if task.report {
-                explain_folder(host, host.alloc(), task.feed.as_str());
+                explain_unread(host, task, &unread, &code, err);
             }
             code
         }
     }
+}
+
+/// Explains the folder of a feed whose files aren't all read: only if the arguments ask for a report, and after the
+/// line of the file that isn't read.
+fn explain_unread<H: Host, E: Output>(
+    host: &H,
+    task: &Task,
+    _unread: &Unread<'_>,
+    _code: &ExitCode,
+    _err: &E,
+)
+    requires asked { task.now.report ≡ true }
+    requires told { (before : Option (List ℕ)) × TellsWhyUnread _unread.now before
+        (after (E.contents _err.now) (E.broke _err.now)) (exit_status _code.now) }
+{
+    explain_folder(host, host.alloc(), task.feed.as_str());
 }
 
 /// Answers the study of a task whose files are read, or the questions of its conversation.

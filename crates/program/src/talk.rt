@@ -13,7 +13,7 @@ ghost use Rattle.studies.specs.Study.{Tells};
 ghost use Rattle.program.specs.Answers as answers;
 ghost use Rattle.program.specs.Talk as spec;
 
-use crate::answers::tell_why;
+use crate::answers::{report_refused, tell_why};
 use crate::blocks::next_block;
 use crate::host::Host;
 use crate::replies::{Reply, put_reply, reply_to};
@@ -59,7 +59,8 @@ pub(crate) fn converse<'a, H: Host, I: Read, O: Write, E: Output>(
         Err(fault) => {
             let code = tell_why(host.alloc(), &fault, inputs, err);
             if task.report {
-                Report::new(host.alloc(), host, inputs).refused(&fault, inputs, task.feed.as_str());
+                let report = Report::new(host.alloc(), host, inputs);
+                report_refused(&report, task, &fault, inputs, &code, err);
             }
             code
         }

@@ -28,6 +28,14 @@ taken q width found bases told =
           let same = get_or-take (length q.searched.now) bases j 0 l in
           let early = told.early j le l in
           omega (arith, same, early);
+      before = λ j le l.
+          let same = get_or-take (length q.searched.now) bases j 0 l in
+          let before = told.before j le l in
+          omega (arith, same, before);
+      near = λ j le l.
+          let same = get_or-take (length q.searched.now) bases j 0 l in
+          let near = told.near j le l in
+          omega (arith, same, near);
       each = λ p j there le l.
           subst (λ (x : ℕ). IsTold q 65535 x (departure_at q j) p (narrow_at width found p j))
           (sym (get_or-take (length q.searched.now) bases j 0 l)) (told.each p j there le l);

@@ -11,11 +11,13 @@ pub mod EveryJourney
 pub mod FilledTable
 pub mod LabelStates
 pub mod LabelTables
+pub mod LabelledDurations
 pub mod LabelsAsDurations
 pub mod LabelsOfBatch
 pub mod LaneRounds
 pub mod LastArrivals
 pub mod LaterStarts
+pub mod LeastWalks
 pub mod LineByLine
 pub mod LinesByRank
 pub mod LinesSuffice
@@ -28,3 +30,4 @@ pub mod SkippedDepartures
 pub mod TripsAsRows
 pub mod TripsLeftOut
 pub mod UnboundedBatches
+pub mod WalksListed

@@ -48,21 +48,27 @@ pub record AreArrivals {R : Type 0} (lanes never : ℕ) (labels : R → List ℕ
   pub unused : (l p : ℕ) → l < lanes → length q.searched.now ≤ from + l → p < q.network.now.stops →
       arrival_in labels w l p ≡ never
 
--- the labels of the batch that begins at position `from` are exact: they represent every arrival of its departures
+-- the labels of the batch that begins at position `from` are exact: they represent every arrival of its departures, and
+-- these departures themselves
 pub record AreExact {R : Type 0} (lanes never : ℕ) (labels : R → List ℕ) (q : Query) (from base : ℕ)
     (w : Workspace R) : Type 0 where
   pub early : base < END_OF_AXIS
+  pub before : (l : ℕ) → l < lanes → from + l < length q.searched.now → base ≤ departure_at q (from + l)
+  pub near : (l : ℕ) → l < lanes → from + l < length q.searched.now → departure_at q (from + l) ≤ base + never
   pub each : (l p : ℕ) → l < lanes → from + l < length q.searched.now → p < q.network.now.stops →
       IsTold q never base (departure_at q (from + l)) p (arrival_in labels w l p)
 
--- there is a place for each stop and each of so many positions, and eight more; and a base for each position
+-- there is space for `width` labels of each stop, and of fifteen more, and for eight labels after these; and a base for
+-- each position
 pub record HaveRoomFor (stops width : ℕ) (labels bases : List ℕ) : Type 0 where
-  pub places : stops * width + 8 ≤ length labels
+  pub places : (stops + 15) * width + 8 ≤ length labels
   pub many : width ≤ length bases
 
 -- the narrow labels of the searched minutes from a position on tell all arrivals, each counted from the minute's base
 pub record AreToldFrom (q : Query) (width : ℕ) (labels bases : List ℕ) (from : ℕ) : Type 0 where
   pub early : (j : ℕ) → from ≤ j → j < length q.searched.now → slice_index bases j < END_OF_AXIS
+  pub before : (j : ℕ) → from ≤ j → j < length q.searched.now → slice_index bases j ≤ departure_at q j
+  pub near : (j : ℕ) → from ≤ j → j < length q.searched.now → departure_at q j ≤ slice_index bases j + 65535
   pub each : (p j : ℕ) → p < q.network.now.stops → from ≤ j → j < length q.searched.now →
       IsTold q 65535 (slice_index bases j) (departure_at q j) p (narrow_at width labels p j)
 

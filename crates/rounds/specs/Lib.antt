@@ -10,6 +10,7 @@ pub mod Query
 pub mod Rounds
 pub mod Searches
 pub mod Arrivals
+pub mod Labels
 pub mod Cut
 pub mod CappedLabels
 pub mod Last

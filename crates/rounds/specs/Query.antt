@@ -1,6 +1,9 @@
 -- Valid queries of a search, and the lengths of its workspace.
-use Rattle.std.specs.Prelude.{◌≡◌, ◌+◌, ℕ, ◌<◌, ◌≤◌, length}
+use Rattle.std.specs.Prelude.{◌≡◌, ◌+◌, ℕ, ◌<◌, ◌≤◌, List, length, slice_index}
 use Rattle.timetable.specs.Lines.{LineTable, AreLinesOf}
+use Rattle.timetable.specs.Networks.{Net}
+use Rattle.timetable.specs.Numbering.{number_in}
+use Rattle.timetable.specs.Renumbering.{IsRenumbered}
 use Rattle.useful_minutes.specs.Plan.{AreMinutes}
 use Rattle.rounds.specs.declared.query.Query.{Query}
 use Rattle.rounds.specs.declared.workspace.Workspace.{Workspace}
@@ -15,6 +18,14 @@ pub record IsValidQuery (q : Query) : Type 0 where
   pub rides : q.rides ≤ MOST_RIDES
   pub searched : AreMinutes q.window.minutes q.searched.now
   pub lines : AreLinesOf q.network.now.stops q.network.now.trips q.lines.now
+
+-- a query of this network, with its stops by these numbers, from this origin
+pub record IsQueryOf (n : Net) (origin : ℕ) (numbers : List ℕ) (q : Query) : Type 0 where
+  pub renumbered : IsRenumbered (number_in numbers) n q.network.now
+  pub stops : q.network.now.stops ≡ n.stops
+  pub size : length numbers ≡ n.stops
+  pub low : (p : ℕ) → p < n.stops → slice_index numbers p < n.stops
+  pub start : q.origin.0 ≡ slice_index numbers origin
 
 -- an entry for each stop or line; `before` has one more, scratch space of no stop
 pub record IsWorkspaceFor {R : Type 0} (stops : ℕ) (lines : LineTable) (t : Workspace R) : Type 0 where

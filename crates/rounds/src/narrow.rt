@@ -51,7 +51,8 @@ impl NarrowWorkspaces {
 /// The labels of the searched minutes, of each stop side by side. What they hold when a search begins doesn't matter.
 #[derive(Drop)]
 pub(crate) struct SearchedLabels {
-    /// By when each stop is reached, in seconds from the base of the minute. There are eight more, of no stop.
+    /// By when each stop is reached, in seconds from the base of the minute. There is space for fifteen stops more and
+    /// eight labels after them, because readers take stops in groups of sixteen and labels in blocks of eight.
     pub labels: Vec<u16>,
     /// From when on the label at a position counts, in seconds on the axis.
     pub bases: Vec<u32>,
@@ -80,7 +81,7 @@ impl SearchedLabels {
         ensures width { OnOk result (self.new.width ≡ width) }
         ensures from { OnOk result (self.new.from ≡ width) }
     {
-        let count = stops * width + 8;
+        let count = (stops + 15) * width + 8;
         if self.labels.len() < count {
             self.labels = vec![in alloc; 0; count]?;
         }

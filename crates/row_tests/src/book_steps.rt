@@ -67,7 +67,7 @@ pub(crate) fn answers() -> [Answer; 12] {
 }
 
 // What the same steps answer where seat 0 is lost before step k.
-fn answers_after_loss(k: usize) -> [Answer; 13] {
+pub(crate) fn answers_after_loss(k: usize) -> [Answer; 13] {
     match k {
         0 => [
             LOST, REFUSED, FIRST, REFUSED, REFUSED, REFUSED, REFUSED, SECOND, THIRD, KEPT, KEPT,
@@ -160,7 +160,7 @@ fn make(book: &mut Book, step: Step) -> Result<Answer, AllocError> {
 }
 
 // The steps, with seat 0 lost before step k.
-fn with_loss(alloc: Global, k: usize) -> Result<Vec<Step>, AllocError> {
+pub(crate) fn with_loss(alloc: Global, k: usize) -> Result<Vec<Step>, AllocError> {
     let mut all = Vec::new(alloc);
     for (i, step) in steps().iter().enumerate() {
         if i == k {

@@ -1,11 +1,11 @@
 //! Worked examples of offers, of finishing, and of steps of a book and a collector together.
 ghost use Rattle.std.specs.Prelude.{◌≡◌, IfOk};
 
-use crate::book_steps::{answers, steps};
+use crate::book_steps::{answers, answers_after_loss, steps, with_loss};
 use collector::{Cells, Collector, CoreAnswer, CoreStep, Matrix, Offer, Row, Unfinished, run_core};
 use std::alloc::{AllocError, Global};
 use std::test::Fail;
-use work_book::Book;
+use work_book::{Answer, Book, Step};
 
 /// How many shares a row has, and how many cells and access sums each of them.
 #[derive(Clone, Copy)]
@@ -345,9 +345,9 @@ const ONE: Size = Size {
     sums: 1,
 };
 
-/// Adds the steps of the book alone.
-fn push_book_steps(all: &mut Vec<CoreStep>) -> Result<(), AllocError> {
-    for step in &steps() {
+/// Adds steps of the book alone.
+fn push_book_steps(all: &mut Vec<CoreStep>, steps: &[Step]) -> Result<(), AllocError> {
+    for step in steps {
         if all.push(CoreStep::Book(*step)).is_err() {
             return Err(AllocError);
         }
@@ -355,35 +355,36 @@ fn push_book_steps(all: &mut Vec<CoreStep>) -> Result<(), AllocError> {
     Ok(())
 }
 
-/// Adds a row that seat 1 hands over.
-fn push_row(alloc: Global, all: &mut Vec<CoreStep>) -> Result<(), AllocError> {
-    let handed = CoreStep::Hand(1, row(alloc, 1, 0, 1, ONE)?);
+/// Adds a row that a seat offers.
+fn push_row(alloc: Global, all: &mut Vec<CoreStep>, seat: u32) -> Result<(), AllocError> {
+    let handed = CoreStep::Hand(seat, row(alloc, 1, 0, 1, ONE)?);
     if all.push(handed).is_err() {
         return Err(AllocError);
     }
     Ok(())
 }
 
-/// Steps of two seats over two jobs and two tries, and then a row that seat 1 hands over twice.
-fn core_steps(alloc: Global) -> Result<Vec<CoreStep>, AllocError> {
+/// These steps of the book, and then a row that a seat offers twice.
+fn core_steps(alloc: Global, steps: &[Step], seat: u32) -> Result<Vec<CoreStep>, AllocError> {
     let mut all = Vec::new(alloc);
-    push_book_steps(&mut all)?;
-    push_row(alloc, &mut all)?;
-    push_row(alloc, &mut all)?;
+    push_book_steps(&mut all, steps)?;
+    push_row(alloc, &mut all, seat)?;
+    push_row(alloc, &mut all, seat)?;
     Ok(all)
 }
 
-/// Whether the core's answers are those of the book's steps, and then of a row that was handed over twice.
-fn are_told(told: &[CoreAnswer]) -> bool {
-    for (answer, want) in told.iter().zip(answers().iter()) {
+/// Whether the core's answers are these of the book, and then those to a row that is offered twice.
+fn are_told(told: &[CoreAnswer], of_book: &[Answer]) -> bool {
+    for (answer, want) in told.iter().zip(of_book.iter()) {
         match answer {
             CoreAnswer::Book(answer) if answer == want => (),
             _ => return false,
         }
     }
-    told.len() == 14
-        && matches!(&told[12], CoreAnswer::Hand(Offer::Kept))
-        && matches!(&told[13], CoreAnswer::Hand(Offer::Double(_)))
+    let mut of_rows = told.iter().skip(of_book.len());
+    matches!(of_rows.next(), Some(CoreAnswer::Hand(Offer::Kept)))
+        && matches!(of_rows.next(), Some(CoreAnswer::Hand(Offer::Double(_))))
+        && of_rows.next().is_none()
 }
 
 /// Whether the core answers as it should. Where one of its allocations fails the steps come back, the book is as it
@@ -393,25 +394,33 @@ fn answer_so(
     book: &mut Book,
     collector: &mut Collector,
     steps: Vec<CoreStep>,
+    of_book: &[Answer],
 ) -> bool {
+    let count = steps.len();
     match run_core(alloc, book, collector, steps) {
-        Ok(told) => are_told(&told),
+        Ok(told) => are_told(&told, of_book),
         Err(back) => {
-            let unchanged = back.len() == 14 && book.next() == 0;
+            let unchanged = back.len() == count && book.next() == 0;
             match run_core(alloc, book, collector, back) {
-                Ok(told) => unchanged && are_told(&told),
+                Ok(told) => unchanged && are_told(&told, of_book),
                 Err(_) => false,
             }
         }
     }
 }
 
-/// Whether a core of two jobs answers as it should, and its book has gone on by four numbers.
-fn core_answers(alloc: Global, book: &mut Book) -> bool {
-    match (Collector::new(alloc, 1, 1, 2, 1, 1, 1), core_steps(alloc)) {
-        (Ok(mut collector), Ok(steps)) => {
-            answer_so(alloc, book, &mut collector, steps) && book.next() == 4
-        }
+/// Whether a core of two jobs gives these answers of its book to these steps, and then to a row that a seat offers
+/// twice.
+fn core_answers(
+    alloc: Global,
+    book: &mut Book,
+    steps: &[Step],
+    seat: u32,
+    of_book: &[Answer],
+) -> bool {
+    let collector = Collector::new(alloc, 1, 1, 2, 1, 1, 1);
+    match (collector, core_steps(alloc, steps, seat)) {
+        (Ok(mut collector), Ok(steps)) => { answer_so(alloc, book, &mut collector, steps, of_book) }
         _ => false,
     }
 }
@@ -420,8 +429,26 @@ fn core_answers(alloc: Global, book: &mut Book) -> bool {
 #[test]
 fn makes_steps_and_offers_in_order(rt: HostRuntime) -> Result<(), Fail> {
     let mut book = Book::new(rt.alloc(), 2, 2, 2)?;
-    let are_so = core_answers(rt.alloc(), &mut book);
+    let are_so = core_answers(rt.alloc(), &mut book, &steps(), 1, &answers()) && book.next() == 4;
     drop(book);
     assert!(rt; are_so);
+    Ok(())
+}
+
+/// Whether a core of two jobs and two seats gives the answers of the table of steps if seat 0 is lost before step k. The
+/// lost seat may still offer rows.
+fn core_answers_with_loss(alloc: Global, k: usize) -> Result<bool, AllocError> {
+    let steps = with_loss(alloc, k)?;
+    let mut book = Book::new(alloc, 2, 2, 2)?;
+    Ok(core_answers(alloc, &mut book, &steps, 0, &answers_after_loss(k)))
+}
+
+/// `run_core`.
+#[test]
+fn a_core_loses_a_seat_before_each_step(rt: HostRuntime) -> Result<(), Fail> {
+    for k in 0..=12 {
+        let are_so = core_answers_with_loss(rt.alloc(), k)?;
+        assert!(rt; are_so, "seat 0 lost before step {k}");
+    }
     Ok(())
 }

@@ -73,7 +73,7 @@ impl Gate for Overlap {
     fn before(&self, lease: &Lease) -> Verdict {
         let mine = (lease.job % 2) as usize;
         self.begun[mine].store(1, Ordering::SeqCst);
-        for _ in 0..10_000_000_000u64 {
+        for _ in 0..100_000_000u64 {
             if self.begun[1 - mine].load(Ordering::SeqCst) == 1 {
                 return Verdict::Work;
             }

@@ -19,11 +19,12 @@ from ..core.errors import ArgumentError, InputError, MissingDependencyError
 from ..core.files import is_full, outputs_locked
 from ..core.provenance import command_runs
 from ..core.signals import Interrupted, unwind_on_signals
+from .machine import CommandParser, answering, error_of, give_error, progressing
 from .options import Parser
 from .streams import fault_of_output, fill_closed, give_up_output
 
 COMMANDS = (
-    "prepare scenarios walks points split join compare access equity bands service explain map page long omx gis "
+    "run prepare scenarios walks points split join compare access equity bands service explain map page long omx gis "
     "isochrones study explore docs"
 ).split()
 NO_MEMORY, OF_ITS_OWN = 3, 70
@@ -34,7 +35,7 @@ NEGATIVE = re.compile(r"-[0-9.][-+0-9.,e]*")
 def parser_of() -> Parser:
     """All commands with their options."""
     about = "Tools for analysts, before and after a run of ttm. `ttm-tools COMMAND --help` lists a command's options."
-    parser = Parser(prog="ttm-tools", description=about)
+    parser = CommandParser(prog="ttm-tools", description=about)
     parser.add_argument("--version", action="version", version=f"ttm-tools {__version__}", help="print the version")
     commands = parser.add_subparsers(dest="command", metavar="COMMAND", required=True)
     for name in COMMANDS:
@@ -49,32 +50,42 @@ def parser_of() -> Parser:
     return parser
 
 
-def status_of(args: argparse.Namespace) -> int:
-    """Runs a command. An error is reported in one line, and has a status of its own."""
-    begin = f"ttm-tools {args.command}: "
+def status_of(args: argparse.Namespace, is_process: bool = False) -> int:
+    """Runs a command, as a process of its own or inside one. An error is reported in one line, and has a status of its
+    own.
+    """
     try:
-        with protected(args):
+        with progressing(args, is_process), protected(args), answering(args):
             status = args.run(args) or 0
         sys.stdout.flush()
         return status
-    except (InputError, MissingDependencyError, ArgumentError) as fault:
-        line, status = begin + one_line(fault), fault.exit_status
-    except MemoryError:
-        line, status = begin + "out of memory", NO_MEMORY
     except BrokenPipeError:
         give_up_output()
         return 1
-    except OSError as fault:
-        line, status = begin + one_line(fault_of_file(fault)), 1
-    except (Interrupted, KeyboardInterrupt) as end:
-        line, status = (
-            begin + (one_line(end) or "interrupted"),
-            end.exit_status if isinstance(end, Interrupted) else 130,
-        )
-    except Exception as fault:
-        line, status = begin + one_line(of_its_own(fault)), OF_ITS_OWN
-    print(line, file=sys.stderr)
+    except (Exception, Interrupted, KeyboardInterrupt) as fault:
+        line, status = outcome_of(fault)
+        error = error_of(fault, line, status)
+    print(f"ttm-tools {args.command}: {line}", file=sys.stderr)
+    try:
+        give_error(args, error)
+    except OSError:
+        give_up_output()
     return status
+
+
+def outcome_of(fault: BaseException) -> tuple[str, int]:
+    """The line that reports why a command failed, and its exit status."""
+    if isinstance(fault, (InputError, MissingDependencyError, ArgumentError)):
+        return one_line(fault), fault.exit_status
+    if isinstance(fault, MemoryError):
+        return "out of memory", NO_MEMORY
+    if isinstance(fault, OSError):
+        return one_line(fault_of_file(fault)), 1
+    if isinstance(fault, Interrupted):
+        return one_line(fault), fault.exit_status
+    if isinstance(fault, Exception):
+        return one_line(of_its_own(fault)), OF_ITS_OWN
+    return one_line(fault) or "interrupted", 130
 
 
 def fault_of_file(fault: OSError) -> str:
@@ -157,4 +168,4 @@ def main(arguments: Sequence[str] | None = None) -> int:
         unwind_on_signals()
         logging.disable(logging.CRITICAL)  # libraries would report again what one line reports
         warnings.simplefilter("ignore")
-    return status_of(args)
+    return status_of(args, is_process=arguments is None)

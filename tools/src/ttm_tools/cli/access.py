@@ -4,8 +4,9 @@ from typing import TYPE_CHECKING, Callable
 
 from ..core.errors import ArgumentError, needs
 from ..core.files import output
-from ..measures.measure_list import COMPETITIONS, DECAYS
+from ..measures.registry import COMPETITIONS, DECAYS
 from .options import Parser, column_of, decimals, opened, scenarios_of
+from .unused import refuse_unused
 
 if TYPE_CHECKING:
     from ..core.arrays import Floats
@@ -62,7 +63,7 @@ def run(args: argparse.Namespace) -> None:
     refuse_together(args)
     needs("numpy")
     from ..measures.opportunities import read_counts
-    from ..points.shown import select_points
+    from ..places.selection import select_points
     from ..views.access import ACCESS, Form, NEAREST, measured, write_access
 
     matrix, _ = select_points(opened(args), None, args.points)
@@ -82,6 +83,10 @@ def run(args: argparse.Namespace) -> None:
 
 
 def refuse_together(args: argparse.Namespace) -> None:
+    if args.nearest:
+        refuse_unused(args, "does nothing with --nearest", "cutoffs", "decay", "decay_value")
+    if args.interval:
+        refuse_unused(args, "does nothing with --interval", "cutoffs")
     if args.decay == "exponential" and min(args.cutoffs) < 0.01:
         raise ArgumentError("--decay exponential needs --cutoffs above 0: they are half-lives")
     if args.nearest and min(args.nearest) <= 0:

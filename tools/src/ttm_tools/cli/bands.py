@@ -3,7 +3,8 @@ import argparse
 from ..core.errors import ArgumentError, needs
 from ..core.files import output
 from ..views.picture_files import write_picture
-from .options import Parser, Range, decimals
+from ..core.ranges import Range
+from .options import Parser, decimals
 
 SUMMARY = "the number of people in bands of access, or of the time to the nearest opportunities"
 HELP = """\

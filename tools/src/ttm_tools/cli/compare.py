@@ -4,7 +4,9 @@ from ..core.console import say
 from ..core.errors import ArgumentError, InputError, needs
 from ..core.files import output
 from ..core.limits import MOST_NUMBER
-from .options import Parser, Range, opened
+from ..core.ranges import Range
+from .options import Parser, opened
+from .unused import refuse_unused
 
 SUMMARY = "who loses and who gains between two scenarios"
 HELP = """\
@@ -52,12 +54,14 @@ def describe(parser: Parser) -> None:
 
 
 def run(args: argparse.Namespace) -> None:
-    if args.by == "pair" and ((args.least or 1) > 1 or args.listed != "both"):
+    if args.by == "pair" and (args.least is not None or args.listed != "both"):
         raise ArgumentError("--least and --listed go with --by origin")
+    if args.by == "pair":
+        refuse_unused(args, "goes with --by origin", "within")
     needs("numpy")
     from ..matrices import pair_of
     from ..measures.comparison import compare
-    from ..points.shown import select_points
+    from ..places.selection import select_points
     from ..views.differences import OriginChoice, summary, write_origins, write_pairs
 
     (matrix, stops), by_pair = select_points(opened(args), args.feed, args.points), args.by == "pair"

@@ -6,7 +6,7 @@ from typing import Iterator
 
 from ..core.errors import MissingDependencyError
 from ..core.files import output
-from ..shipped import DATA
+from ..core.shipped import DATA
 from .options import Parser
 
 SUMMARY = "the documentation, in a browser"

@@ -5,9 +5,11 @@ from ..core.console import say
 from ..core.errors import ArgumentError, InputError, needs
 from ..core.files import output
 from ..core.text import first_few, quantity
-from ..measures.measure_list import FAIRNESS
+from ..measures.registry import FAIRNESS
 from ..views.picture_files import write_picture
-from .options import Parser, Range, column_of, decimals, is_file_of_base
+from ..core.ranges import Range
+from .options import Parser, column_of, decimals, is_file_of_base
+from .unused import refuse_unused
 
 if TYPE_CHECKING:
     from ..measures.access_table import AccessTable, AccessKind
@@ -61,6 +63,8 @@ def run(args: argparse.Namespace) -> None:
     needed = {"concentration": args.rank, "poverty": args.line}
     if any((args.measure == name) != (value is not None) for name, value in needed.items()):
         raise ArgumentError("--measure concentration needs --rank, and poverty --line; no other measure takes them")
+    if args.measure:
+        refuse_unused(args, "does nothing with --measure", "lose")
     if args.measure and args.picture:
         raise ArgumentError("--picture does not go with --measure")
     needs("numpy", *(["matplotlib"] if args.picture else []))

@@ -5,11 +5,12 @@ from ..core.console import say
 from ..core.errors import ArgumentError, needs
 from ..core.folders import scratch
 from ..core.limits import MOST_PORT
-from ..shipped import LEAFLET
-from .options import Parser, Range, decimals
+from ..core.shipped import LEAFLET
+from ..core.ranges import Range
+from .options import Parser, decimals
 
 if TYPE_CHECKING:
-    from ..explore.options import ExploreOptions
+    from ..web.options import ExploreOptions
 
 SUMMARY = "a page on this machine: click to see travel times, change the network, and compare"
 HELP = """\
@@ -58,8 +59,8 @@ def describe(parser: Parser) -> None:
 def options_of(args: argparse.Namespace) -> "ExploreOptions":
     from datetime import date
 
-    from ..explore.of_study import options_of_study
-    from ..explore.options import OF_NO_OPTION, ExploreOptions
+    from ..web.from_study import options_of_study
+    from ..web.options import OF_NO_OPTION, ExploreOptions
 
     is_study = args.feed.endswith(".toml")
     if not is_study and args.last < args.first:
@@ -81,13 +82,13 @@ def options_of(args: argparse.Namespace) -> "ExploreOptions":
 def run(args: argparse.Namespace) -> None:
     needs("numpy", "pandas", "jinja2", "flask")
     options = options_of(args)
-    from ..explore.application import application
-    from ..explore.exploration import Exploration
-    from ..explore.guard import Guard
-    from ..explore.making import with_generated
-    from ..explore.memory import give_back_at_once
-    from ..explore.serving import bound, serve
-    from ..views.page.document import leaflet_files
+    from ..web.server import application
+    from ..web.session import Exploration
+    from ..web.guard import Guard
+    from ..web.session_inputs import with_generated
+    from ..web.memory import give_back_at_once
+    from ..web.serving import bound, serve
+    from ..web.page.document import leaflet_files
 
     leaflet_files(options.leaflet)
     give_back_at_once()

@@ -36,7 +36,7 @@ def run(args: argparse.Namespace) -> None:
         raise ArgumentError("--opportunities and --nearest go together")
     needs("numpy", *(["geopandas"] if kind == "gpkg" else []))
     from ..measures.opportunities import read_counts
-    from ..points.shown import select_points
+    from ..places.selection import select_points
     from ..views.gis import features_of, with_nearest, write_geojson, write_geopackage
 
     matrix, stops = select_points(opened(args), args.feed, args.points)

@@ -4,9 +4,13 @@ import os
 from ..core.console import say
 from ..core.errors import ArgumentError, needs
 from ..core.files import output
+from ..core.notices import Notice, note
 from ..core.text import quantity
+from .machine import add_json, give, is_json
 from .options import Parser, decimals, gis_kind, ground_of, opened, scenarios_of
+from .unused import refuse_near_alone
 
+STANDARD_OUTPUT = "-"
 SUMMARY = "the areas that can be reached from an origin within given minutes"
 HELP = """\
 Writes the areas that can be reached from an origin within given numbers of minutes: one shape for each band, scenario
@@ -31,20 +35,27 @@ def describe(parser: Parser) -> None:
     parser.add_walking()
     about = "numbers to sum within each band, such as people: a column stop_id or id, and columns of numbers"
     parser.add_text("--people", "FILE", about, without="nothing is summed")
-    parser.add_out("the file of the areas: .geojson, .json or .gpkg", without="")
+    parser.add_out("the file of the areas: .geojson, .json or .gpkg; - for GeoJSON on standard output", without="")
+    add_json(parser)
     parser.add_matrix()
 
 
+def outputs(args: argparse.Namespace) -> list[str]:
+    """The files that the command writes."""
+    return [args.out] if args.out != STANDARD_OUTPUT else []
+
+
 def run(args: argparse.Namespace) -> None:
-    kind = gis_kind(args.out)
+    refuse_near_alone(args)
+    kind = "geojson" if args.out == STANDARD_OUTPUT else gis_kind(args.out)
     streets = ["osmium", "scipy"] if args.streets else []
     needs("numpy", "shapely", *(["geopandas"] if kind == "gpkg" else []), *streets)
     from ..measures.opportunities import read_counts
-    from ..points.shown import select_points
+    from ..places.selection import select_points
     from ..views import isochrones as areas
 
     if args.base is not None and not os.path.isfile(args.base):
-        raise ArgumentError(f"--base {args.base} is not a file")
+        raise ArgumentError(f"--base {args.base} is not a file").noting(column="--base", value=args.base)
     matrix, stops = select_points(opened(args), args.feed, args.points)
     assert stops is not None
     ground, walking = ground_of(args, stops.of(matrix.stops))
@@ -52,10 +63,16 @@ def run(args: argparse.Namespace) -> None:
     shares = matrix.shares if args.share is None else [matrix.share(args.share)]
     bands = areas.Bands(args.origin, scenarios_of(matrix, args.scenario), shares, args.bands, walking)
     found = areas.isochrones_of(matrix, ground, bands, counts)
-    if kind == "gpkg":
+    lost = int((~ground.placed).sum())
+    note(*([Notice(f"{quantity(lost, 'stop')} without coordinates", "place", lost)] if lost else []))
+    if args.out == STANDARD_OUTPUT and is_json(args):
+        give(args, **areas.collection_of(found, args.origin))
+    elif kind == "gpkg":
         areas.write_geopackage(args.out, found, args.origin)
     else:
-        with output(args.out) as file:
+        with output(None if args.out == STANDARD_OUTPUT else args.out) as file:
             areas.write_geojson(file, found, args.origin)
-    lost = int((~ground.placed).sum())
-    say(f"{args.out}: {quantity(len(found), 'area')}; {quantity(lost, 'stop')} without coordinates")
+    if args.out != STANDARD_OUTPUT:
+        give(args, file=args.out, areas=len(found))
+    named = f"{args.out}: " if args.out != STANDARD_OUTPUT else ""
+    say(f"{named}{quantity(len(found), 'area')}; {quantity(lost, 'stop')} without coordinates")

@@ -21,7 +21,8 @@ def describe(parser: Parser) -> None:
 
 def run(args: argparse.Namespace) -> None:
     needs("numpy")
-    from ..parts import PartMatrix, in_order, origins_in, write_whole
+    from ..core.stop_lists import origins_in
+    from ..matrices.parts import PartMatrix, in_order, write_whole
 
     origins = origins_in(args.origins)
     parts = in_order([PartMatrix(path) for path in args.matrix], origins, args.origins)

@@ -6,6 +6,7 @@ from typing import TYPE_CHECKING
 from ..core.errors import ArgumentError, InputError, needs
 from ..core.files import output
 from .options import Parser, opened, scenarios_of
+from .unused import refuse_unused
 
 if TYPE_CHECKING:
     from ..matrices import Matrix
@@ -47,6 +48,8 @@ def describe(parser: Parser) -> None:
 
 
 def run(args: argparse.Namespace) -> None:
+    if args.access:
+        refuse_unused(args, "does nothing with --access", "reached", "destinations")
     if args.within is not None and not args.access:
         raise ArgumentError("--within goes with --access")
     if args.names == "r5py" and args.access:
@@ -57,7 +60,7 @@ def run(args: argparse.Namespace) -> None:
     if args.csvt and (parquet or args.out is None):
         raise ArgumentError("--csvt needs --out, the name of a CSV")
     needs("numpy", *(["pandas"] if parquet else []))
-    from ..points.shown import select_points
+    from ..places.selection import select_points
     from ..views import long
 
     matrix, stops = select_points(opened(args), args.feed, args.points)
@@ -76,7 +79,8 @@ def run(args: argparse.Namespace) -> None:
     if args.csvt:
         header = long.access_header(matrix, stops) if args.access else long.header_of(matrix, choice, stops)
         with output(f"{args.out}t") as file:
-            file.write((",".join(f'"{long.type_of(name)}"' for name in header) + "\n").encode("ascii"))
+            decimals = args.access and long.has_decimals(matrix, choice)
+            file.write((",".join(f'"{long.type_of(name, decimals)}"' for name in header) + "\n").encode("ascii"))
     if count > long.MOST_LINES:
         sentence = f"{count:,} lines, of which a spreadsheet shows {long.MOST_LINES:,}: choose some with --origins"
         print(f"{args.out or 'standard output'}: {sentence}", file=sys.stderr)

@@ -3,7 +3,9 @@ import math
 
 from ..core.errors import ArgumentError, needs
 from ..views.picture_files import picture_name, write_picture
-from .options import Parser, Range, column_of, decimals, ground_of, opened
+from ..core.ranges import Range
+from .options import Parser, column_of, decimals, ground_of, opened
+from .unused import WALKING, refuse_near_alone, refuse_unused
 
 SUMMARY = "a map of travel times, of access, or of the difference between scenarios"
 HELP = """\
@@ -58,8 +60,8 @@ def describe(parser: Parser) -> None:
     parser.add_walking(", in isochrones", " there")
     parser.add_text("--unit", "WORD", "what access counts, such as jobs", default="opportunities")
     what = "where classes begin, ascending numbers above 0 between commas: minutes, access, or percent"
-    default = "default 10,20,30,45,60,90 minutes, for isochrones 15,30,45,60, for a difference 1,5,15 minutes or "
-    default += "1,5,10,25 %%, for access round numbers"
+    default = "default 10,20,30,45,60,90 minutes, for isochrones 15,30,45,60, for a difference 2,5,15 minutes or "
+    default += "2,10,25 %%, for access round numbers"
     parser.add_argument("--breaks", metavar="N,N..", type=breaks_of, help=f"{what} ({default})")
     parser.add_text("--title", "TEXT", "the title of the map", without="what it shows")
     parser.add_text("--note", "TEXT", "what else a reader needs to know", without="nothing")
@@ -72,6 +74,19 @@ def outputs(args: argparse.Namespace) -> list[str]:
     return [args.out]
 
 
+def refuse_unused_of(args: argparse.Namespace, of_nearest: bool) -> None:
+    """Refuses options that do nothing in the kind of map."""
+    if args.picture == "access":
+        refuse_unused(args, "does nothing in a map of access", "origin")
+    if args.picture != "access" and (args.picture != "difference" or of_nearest or args.origin is not None):
+        refuse_unused(args, "does nothing in a map of travel times", "within")
+    if not of_nearest:
+        refuse_unused(args, "goes with nearest, or with --nearest", "opportunities", "column")
+    if args.picture != "isochrones":
+        refuse_unused(args, "goes with isochrones", *WALKING)
+    refuse_near_alone(args)
+
+
 def run(args: argparse.Namespace) -> None:
     if args.picture in ("times", "isochrones") and args.origin is None:
         raise ArgumentError(f"{args.picture} needs --origin")
@@ -80,13 +95,14 @@ def run(args: argparse.Namespace) -> None:
         args.picture in ("times", "access", "isochrones") or args.opportunities is None or args.origin is not None
     ):
         raise ArgumentError("--nearest goes with nearest or difference, needs --opportunities, and takes no --origin")
+    refuse_unused_of(args, of_nearest)
     shapes = ["shapely", *(["osmium", "scipy"] if args.streets else [])] if args.picture == "isochrones" else []
     needs("numpy", "pandas", "matplotlib", *shapes)
-    from ..points.shown import select_points
+    from ..places.selection import select_points
     from ..views.lines import planned_of
     from ..views.maps import Areas, Sheet, figure_of, figure_of_isochrones, picture_of
     from ..views.nearest import Nearest
-    from ..views.pictures import PictureOptions
+    from ..views.map_content import PictureOptions
 
     whole = opened(args)
     matrix, stops = select_points(whole, args.feed, args.points)

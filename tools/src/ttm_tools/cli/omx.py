@@ -23,8 +23,8 @@ def describe(parser: Parser) -> None:
 def run(args: argparse.Namespace) -> None:
     needs("numpy", "h5py")
     from ..matrices import has_all, open_matrix, write_open_matrix
-    from ..parts import origins_in
-    from ..points.shown import select_points
+    from ..core.stop_lists import origins_in
+    from ..places.selection import select_points
 
     matrix = open_matrix(args.matrix)
     scenarios_of(matrix, [])

@@ -3,18 +3,20 @@
 import argparse
 import datetime
 import functools
-import math
 import os
 import sys
-from dataclasses import dataclass
 from typing import TYPE_CHECKING, Any, Callable, Iterable, Sequence
 
 from ..core.console import say
 from ..core.errors import ArgumentError, InputError
-from ..core.limits import DETOUR, MOST_DAYS, MOST_FOOT_SECONDS, MOST_NUMBER, MOST_RIDES, WALKING_SPEED
+from ..core.limits import DETOUR, MOST_NUMBER, WALKING_SPEED
+from ..core.notices import Notice
+from ..core.question import DAYS_AFTER, DAYS_BEFORE, MAX_RIDES, MAX_WALK, PERCENTILES, Setting
+from ..core.ranges import NotInRange, Range
 from ..core.text import first_few
 from ..core.times import DATES_ALLOWED, day_of, is_minute
 from ..views.picture_files import picture_name
+from .values import WrongValue
 
 if TYPE_CHECKING:
     from ..core.arrays import Floats
@@ -23,40 +25,26 @@ if TYPE_CHECKING:
     from ..views.isochrones import AreaGround, Walking
 
 
-@dataclass(frozen=True)
-class Range:
-    """The numbers that an option takes."""
-
-    unit: str
-    least: float
-    most: float
-    whole: bool = True
-
-    def __str__(self) -> str:
-        return f"{self.least:g} to {self.most:,.10g}{' ' + self.unit if self.unit else ''}"
-
-    @property
-    def metavar(self) -> str:
-        return self.unit.upper() if self.unit.isalpha() else "N"
-
-    def read(self, text: str) -> float:
-        try:
-            value = int(text) if self.whole else float(text)
-        except ValueError:
-            value = math.nan
-        if not self.least <= value <= self.most:
-            raise argparse.ArgumentTypeError(f"{text!r} is not {self}")
-        return value
-
-    def read_several(self, text: str) -> list[float]:
-        """Numbers between commas, each greater than the one before it."""
-        values = [self.read(part) for part in text.split(",")]
-        if any(low >= high for low, high in zip(values, values[1:])):
-            raise argparse.ArgumentTypeError(f"{text!r} is not ascending")
-        return values
-
-
 decimals = functools.partial(Range, whole=False)
+
+
+def metavar_of(allowed: Range) -> str:
+    """Return what stands for a value in help texts."""
+    return allowed.unit.upper() if allowed.unit.isalpha() else "N"
+
+
+def reader_of(read: Callable[[str], Any]) -> Callable[[str], Any]:
+    """Return a reader of values whose messages argparse prints."""
+
+    def read_value(text: str) -> Any:
+        try:
+            return read(text)
+        except NotInRange as error:
+            raise WrongValue(error.value, error.allowed) from None
+        except ValueError as error:
+            raise argparse.ArgumentTypeError(str(error)) from None
+
+    return read_value
 
 
 def day(text: str) -> datetime.date:
@@ -64,13 +52,13 @@ def day(text: str) -> datetime.date:
     try:
         return day_of(text)
     except ValueError:
-        raise argparse.ArgumentTypeError(f"{text!r} is not a date, {DATES_ALLOWED}") from None
+        raise WrongValue(text, f"a date, {DATES_ALLOWED}") from None
 
 
 def clock(text: str) -> str:
     """A minute of the day."""
     if not is_minute(text):
-        raise argparse.ArgumentTypeError(f"{text!r} is not 00:00 to 23:59")
+        raise WrongValue(text, "00:00 to 23:59")
     return text
 
 
@@ -100,12 +88,16 @@ class Parser(argparse.ArgumentParser):
         self.add_argument(*names, default=default, required=is_needed, help=f"{what} ({missing})", **how)
 
     def add_number(self, name: str, what: str, allowed: Range, default: float | None = None, without: str = "") -> None:
-        how: dict[str, Any] = {"type": allowed.read, "metavar": allowed.metavar}
+        how: dict[str, Any] = {"type": reader_of(allowed.read), "metavar": metavar_of(allowed)}
         self.add(name, what=f"{what}: {allowed}", default=default, without=without, **how)
+
+    def add_setting(self, setting: Setting, what: str) -> None:
+        """An option for a setting of a question, with its name, range and default."""
+        self.add_number(f"--{setting.option}", what, setting.allowed, setting.default)
 
     def add_numbers(self, name: str, what: str, allowed: Range, default: str | None = None, without: str = "") -> None:
         """An option with numbers between commas."""
-        how: dict[str, Any] = {"type": allowed.read_several, "metavar": "N,N.."}
+        how: dict[str, Any] = {"type": reader_of(allowed.read_several), "metavar": "N,N.."}
         self.add(name, what=f"{what}: {allowed}", default=default, without=without, **how)
 
     def add_text(self, name: str, metavar: str, what: str, default: str | None = None, without: str = "") -> None:
@@ -140,12 +132,12 @@ class Parser(argparse.ArgumentParser):
 
     def add_journeys(self, at: str = "") -> None:
         """How many vehicles a journey has, and how far one walks."""
-        self.add_number("--trips", f"the maximum number of vehicles of a journey{at}", Range("", 1, MOST_RIDES), 4)
-        self.add_number("--walk", f"the longest walk{at}", Range("seconds", 0, MOST_FOOT_SECONDS), 600)
+        self.add_setting(MAX_RIDES, f"the maximum number of vehicles of a journey{at}")
+        self.add_setting(MAX_WALK, f"the longest walk{at}")
 
     def add_days_that_count(self) -> None:
-        for name, where in (("--back", "before"), ("--ahead", "after")):
-            self.add_number(name, f"service days {where} the date that count", Range("days", 0, MOST_DAYS), 1)
+        for setting, where in ((DAYS_BEFORE, "before"), (DAYS_AFTER, "after")):
+            self.add_setting(setting, f"service days {where} the date that count")
 
     def add_program(self) -> None:
         without = "TTM_PROGRAM, else the one on the PATH, else the one built here"
@@ -159,7 +151,7 @@ class Parser(argparse.ArgumentParser):
 
     def add_share(self, without: str = "the only one") -> None:
         what = "the percentile: a travel time that at least this percentage of departures achieves"
-        self.add_number("--share", what, Range("percent", 1, 100), without=without)
+        self.add_number("--share", what, PERCENTILES.allowed, without=without)
 
     def add_within(self, without: str = "the only one") -> None:
         """The limit of access, in minutes as all tools have it, or in seconds as `ttm` has it."""
@@ -167,7 +159,7 @@ class Parser(argparse.ArgumentParser):
             decimals("minutes", 0, MOST_NUMBER // 60),
             f"the limit of access: 0 to {MOST_NUMBER // 60:,} minutes",
         )
-        how: dict[str, Any] = {"type": lambda text: round(60 * minutes.read(text)), "metavar": "MINUTES"}
+        how: dict[str, Any] = {"type": reader_of(lambda text: round(60 * minutes.read(text))), "metavar": "MINUTES"}
         self.add("--cutoff", "--cutoffs", what=what, without=without, dest="within", **how)
         self.add_number(
             "--within", "the same in seconds, as for ttm", Range("seconds", 0, MOST_NUMBER), without=without
@@ -176,9 +168,9 @@ class Parser(argparse.ArgumentParser):
     def add_cutoffs(self, what: str, least: float, most: float, default: str) -> None:
         """Limits of access, in minutes as all tools have them, or in seconds as `ttm` has them."""
         minutes, seconds = decimals("minutes", least, most), decimals("seconds", 60 * least, 60 * most)
-        how: dict[str, Any] = {"type": minutes.read_several, "metavar": "N,N.."}
+        how: dict[str, Any] = {"type": reader_of(minutes.read_several), "metavar": "N,N.."}
         self.add("--cutoffs", "--cutoff", what=f"{what}: {minutes}", default=default, **how)
-        how["type"] = lambda text: [second / 60 for second in seconds.read_several(text)]
+        how["type"] = reader_of(lambda text: [second / 60 for second in seconds.read_several(text)])
         what, default = f"the same in seconds, as for ttm: {seconds}", argparse.SUPPRESS
         self.add("--within", what=what, default=default, without="--cutoffs", dest="cutoffs", **how)
 
@@ -223,7 +215,7 @@ class Parser(argparse.ArgumentParser):
 
     def add_walking(self, of: str = "", there: str = "", along: str = "") -> None:
         """How one walks on from a stop in areas; the texts name the picture."""
-        self.add_number("--walk", f"the longest walk on from a stop{of}", Range("seconds", 0, MOST_FOOT_SECONDS), 600)
+        self.add_setting(MAX_WALK, f"the longest walk on from a stop{of}")
         self.add_ways(there, f"a file of OpenStreetMap, along whose ways walks go{along}", "circles")
         self.add_number("--near", "the greatest distance of a stop from a way", decimals("metres", 0, 10000), 100)
 
@@ -276,7 +268,7 @@ def column_of(
 
 def ground_of(args: argparse.Namespace, stops: "Stops") -> "tuple[AreaGround, Walking]":
     """Where stops or points lie, and how one walks on from them."""
-    from ..points.shown import points_in
+    from ..places.selection import points_in
     from ..views.isochrones import Walking, ground_on_foot
 
     walking = Walking(args.speed, args.detour, args.walk)
@@ -295,5 +287,5 @@ def gis_kind(path: str) -> str:
 def scenarios_of(matrix: "Matrix", named: Sequence[str]) -> list[str]:
     """The named scenarios, or all that are compared, with a note on one that is left out."""
     if not named and matrix.left_out:
-        say(matrix.left_out)
+        say(Notice(matrix.left_out, "scenario"))
     return [matrix.scenario(name) for name in named or matrix.compared]

@@ -3,8 +3,10 @@ import argparse
 from ..core.errors import ArgumentError, needs
 from ..core.files import output
 from ..core.limits import MOST_NUMBER
-from ..shipped import LEAFLET
-from .options import Parser, Range, decimals, opened, scenarios_of
+from ..core.shipped import LEAFLET
+from ..core.ranges import Range
+from .options import Parser, decimals, opened, scenarios_of
+from .unused import refuse_near_alone
 
 SUMMARY = "one HTML file to send, with travel times and access to explore in a browser"
 HELP = """\
@@ -63,6 +65,7 @@ def describe(parser: Parser) -> None:
 
 
 def run(args: argparse.Namespace) -> None:
+    refuse_near_alone(args)
     if (args.tiles is None) != (args.attribution is None):
         raise ArgumentError("--tiles and --attribution go together")
     args.nearest = args.nearest or []
@@ -71,9 +74,9 @@ def run(args: argparse.Namespace) -> None:
     if args.tiles is not None and not args.tiles.startswith(("https://", "http://")):
         raise ArgumentError("--tiles begins with https:// or http://")
     needs("numpy", "pandas", "jinja2", *(["osmium", "scipy"] if args.streets else []))
-    from ..views.page.document import leaflet_files
-    from ..views.page.make import page_of, tell
-    from ..views.page.settings import PageSettings
+    from ..web.page.document import leaflet_files
+    from ..web.page.make import page_of, tell
+    from ..web.page.settings import PageSettings
 
     leaflet_files(args.leaflet)
     matrix = opened(args)

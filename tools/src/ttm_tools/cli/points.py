@@ -4,12 +4,17 @@ from typing import TYPE_CHECKING
 from ..core.console import say
 from ..core.errors import ArgumentError, needs
 from ..core.limits import MOST_FOOTPATHS, MOST_FOOT_SECONDS, MOST_STOPS
+from ..core.question import MAX_WALK
+from ..core.ranges import Range
 from ..core.text import quantity
-from .options import Parser, Range, decimals
+from .machine import add_json, give
+from .options import Parser, decimals
+from .unused import refuse_near_alone
+from .walks import unlinked
 
 if TYPE_CHECKING:
-    from ..points import Points
-    from ..walks import Pace
+    from ..places.read import Points
+    from ..streets.walks import Pace
 
 SUMMARY = "a feed for journeys from door to door: points as stops, and the walks to them"
 HELP = f"""\
@@ -57,29 +62,33 @@ def describe(parser: Parser) -> None:
     what = "points or polygons whose numbers to sum into the cells"
     parser.add_several("--people", "FILE", what, without="none")
     parser.add_number(
-        "--limit", "the longest walk, and the --walk of a run", Range("seconds", 1, MOST_FOOT_SECONDS), 600
+        "--limit", "the longest walk, and the --walk of a run", Range("seconds", 1, MOST_FOOT_SECONDS), MAX_WALK.default
     )
     parser.add_pace()
+    add_json(parser)
     parser.add_flag("--leave-out", "leave out the points without a stop in reach", "they are reported")
 
 
 def run(args: argparse.Namespace) -> None:
+    refuse_near_alone(args)
     needs("numpy")
     from ..plans.nearness import new_stops_in, sentences_on_nearer
-    from ..points import read_points
-    from ..points.table import Columns
-    from ..points.study import FEED, FOOTPATHS, PointsOptions, make
-    from ..walks import Pace, walks_of
+    from ..places.read import Columns, read_points
+    from ..places.folder import FEED, FOOTPATHS, PointsOptions, folder_of
+    from ..streets.walks import Pace, walks_of
 
     files = list(dict.fromkeys([*args.points, *args.origins, *args.destinations]))
     begins = [path in args.points or path in args.origins for path in files]
     ends = [path in args.points or path in args.destinations for path in files]
     if args.grid is None and (args.area or args.people):
-        raise ArgumentError("--area and --people need --grid")
+        raise ArgumentError("--area and --people need --grid").noting(column="--grid")
     pace = Pace(args.limit, args.speed, args.detour)
     if args.grid is not None:
         if args.origins and args.destinations:
-            raise ArgumentError("--grid goes with --origins or with --destinations, not both: cells are the other end")
+            fault = ArgumentError(
+                "--grid goes with --origins or with --destinations, not both: cells are the other end"
+            )
+            raise fault.noting(column="--grid", value=f"{args.grid:g}")
         begins.append(not args.origins)
         ends.append(not args.destinations)
     if not any(begins) or not any(ends):
@@ -92,14 +101,18 @@ def run(args: argparse.Namespace) -> None:
         points.append(cells)
         say(*sentences)
     options = PointsOptions(args.feed, args.out, points, begins, ends, args.limit, args.leave_out, args.near)
-    say(*make(options, lambda stops, first: walks_of(stops, pace, args.streets, args.near, first)))
-    say(*sentences_on_nearer(f"{args.out}/{FEED}", f"{args.out}/{FOOTPATHS}", args.limit))
+    made = folder_of(options, lambda stops, first: walks_of(stops, pace, args.streets, args.near, first))
+    say(*made.lines)
+    feed, footpaths = f"{args.out}/{FEED}", f"{args.out}/{FOOTPATHS}"
+    say(*sentences_on_nearer(feed, footpaths, args.limit))
+    give(args, folder=args.out, feed=feed, footpaths_file=footpaths, footpaths=len(made.walks.seconds))
+    give(args, points=len(made.study.points.identifiers), unreachable=made.unreached, **unlinked(made.walks))
 
 
 def grid_of(args: argparse.Namespace, pace: "Pace") -> "tuple[Points, list[str]]":
     """The cells of a grid, and what is reported of them."""
     from ..gtfs.stops import read_stops
-    from ..points import grid
+    from ..places import grid
 
     stops = read_stops(args.feed)
     cells = grid.grid_over(args.area, args.grid) if args.area else grid.grid_near(stops, args.grid, pace.metres)

@@ -5,9 +5,15 @@ from ..core.console import as_line, say
 from ..core.errors import ArgumentError, needs
 from ..core.files import output
 from ..core.folders import scratch
-from ..core.limits import MOST_DAYS, MOST_EVENTS, MOST_STOPS, MOST_TRIPS
+from ..core.limits import MOST_EVENTS, MOST_STOPS, MOST_TRIPS
+from ..core.notices import note
+from ..core.progress import reported
+from ..core.question import DAYS_AFTER, DAYS_BEFORE
 from ..prepare.rules import help_table
-from .options import Parser, Range, day
+from .machine import add_json, give, is_json
+from .options import Parser, day
+from .unused import refuse_unused
+from .values import WrongValue
 
 SUMMARY = "a feed that ttm reads, from published feeds: checked, repaired, clipped, merged"
 HELP = f"""\
@@ -64,9 +70,13 @@ def describe(parser: Parser) -> None:
     parser.add_several("--agency", "AGENCY_ID", "an agency whose routes to keep", without="all")
     what = "YYYYMMDD or YYYY-MM-DD: keep services that run --back days before it to --ahead after"
     parser.add("--date", what=what, without="all", type=day, metavar="DATE")
-    parser.add_number("--back", "days before the date, as for ttm", Range("days", 0, MOST_DAYS), default=1)
-    parser.add_number("--ahead", "days after the date, as for ttm", Range("days", 0, MOST_DAYS), default=1)
+    parser.add_setting(DAYS_BEFORE, "days before the date, as for ttm")
+    parser.add_setting(DAYS_AFTER, "days after the date, as for ttm")
+    add_json(parser)
     parser.add_argument("feeds", metavar="FEED", nargs="+", help="a zip file or folder")
+
+
+WRITES = ("repair", "allow_loss", "same_clock", "box", "area", "routes", "agency", "date", "back", "ahead")
 
 
 def box(text: str) -> tuple[float, float, float, float]:
@@ -74,54 +84,67 @@ def box(text: str) -> tuple[float, float, float, float]:
     try:
         west, south, east, north = map(float, text.split(","))
     except ValueError:
-        raise argparse.ArgumentTypeError(f"{text!r} is not W,S,E,N in degrees") from None
+        raise WrongValue(text, "W,S,E,N in degrees") from None
     if not (-180 <= west <= 180 and -180 <= east <= 180 and -90 <= south <= north <= 90):
-        raise argparse.ArgumentTypeError(f"{text!r} is not W,S,E,N: -180 to 180, -90 to 90, south not above north")
+        raise WrongValue(text, "W,S,E,N: -180 to 180, -90 to 90, south not above north")
     return west, south, east, north
 
 
 def run(args: argparse.Namespace) -> int:
+    if not args.date:
+        refuse_unused(args, "goes with --date", "back", "ahead")
+    if args.check:
+        refuse_unused(args, "does nothing with --check", *WRITES)
     needs("numpy", "pandas")
     if args.check == (args.out is not None):
-        raise ArgumentError("one of --check and --out is needed")
+        raise ArgumentError("one of --check and --out is needed").noting(column="--check", allowed="--check or --out")
     if args.faults and not args.check:
-        raise ArgumentError("--faults goes with --check")
+        raise ArgumentError("--faults goes with --check").noting(column="--faults", value=args.faults)
     if args.check:
         return check_feeds(args)
     from ..prepare.clip import Clip
-    from ..prepare.make import PrepareOptions, make
+    from ..prepare.make import PrepareOptions, prepared
 
     span = range(-args.back, args.ahead + 1) if args.date else range(0)
     try:
         days = [args.date + datetime.timedelta(number) for number in span]
     except OverflowError:
-        raise ArgumentError("--date with --back and --ahead goes beyond the calendar") from None
+        fault = ArgumentError("--date with --back and --ahead goes beyond the calendar")
+        raise fault.noting(column="--date", value=str(args.date)) from None
     clip = Clip(args.box, args.area, args.routes, args.agency, days)
     with scratch("feed") as room:
         day = args.date if args.repair else None
         options = PrepareOptions(args.feeds, args.out, args.repair, clip, args.allow_loss, day, args.same_clock)
-        lines = make(options, room)
-    say(*lines)
+        made = prepared(options, room)
+        if is_json(args):
+            from ..prepare.fields import fields_of
+
+            give(args, **fields_of(made, args.out))
+    say(*made.lines)
     return 0
 
 
 def check_feeds(args: argparse.Namespace) -> int:
     from ..core.columns import ERRORS, names_of
     from ..core.tables import write_rows
+    from ..gtfs.check import check
+    from ..gtfs.fault_report import fault_lines, fault_rows
     from ..gtfs.feeds import read_feed
-    from ..prepare import report
-    from ..prepare.check import check
+    from ..prepare.fields import error_fields
     from ..prepare.losses import sentences
 
-    rows: list[list[object]] = []
-    for path in args.feeds:
+    rows, errors = list[list[object]](), list[dict[str, object]]()
+    for path in reported(args.feeds, len(args.feeds), "feeds"):
         with scratch("feed") as room:
             feed = read_feed(path, room)
             faults = check(feed)
-            rows.extend(report.fault_rows(faults))
-            lines = [*(report.fault_lines(faults) if faults else ["no errors"]), *sentences(feed, bool(faults))]
+            rows.extend(fault_rows(faults))
+            errors.extend(error_fields(path, faults) if is_json(args) else ())
+            lines = [*(fault_lines(faults) if faults else ["no errors"]), *sentences(feed, bool(faults))]
+            note(*lines)
             print("\n".join(map(as_line, [f"{path}:"] * (len(args.feeds) > 1) + lines)))
     if args.faults:
         with output(args.faults) as file:
             write_rows(file, names_of(ERRORS), rows)
+    give(args, errors=errors)
     return 1 if rows else 0

@@ -5,6 +5,7 @@ import sys
 from ..core.console import say
 from ..core.errors import needs
 from ..plans.action_list import help_table
+from .machine import add_json, give, is_json
 from .options import Parser
 
 SUMMARY = "a feed with scenario files, from a plan of new lines, headways and speeds"
@@ -35,13 +36,17 @@ def describe(parser: Parser) -> None:
     parser.add_text("--out", "FOLDER", "the folder to write; it must be new or empty")
     what = "the only scenario to carry out: the feed with its trips and no others, and no scenario files"
     parser.add_text("--only", "NAME", what, without="all are in the feed")
+    add_json(parser)
 
 
 def run(args: argparse.Namespace) -> None:
     needs("numpy", "pandas")
-    from ..plans.make import make
+    from ..plans.make import files_in_order, planned
+    from ..plans.report import action_fields
 
-    lines, arguments = make(args.feed, args.plan, args.out, args.only)
-    say(*lines)
-    if arguments is not None:
-        sys.stdout.buffer.write(os.fsencode(arguments) + b"\n")
+    made = planned(args.feed, args.plan, args.out, args.only)
+    say(*made.lines)
+    if made.arguments is not None:
+        sys.stdout.buffer.write(os.fsencode(made.arguments) + b"\n")
+    if is_json(args):
+        give(args, folder=args.out, files=files_in_order(args.out), actions=list(action_fields(made.finished)))

@@ -5,12 +5,15 @@ from ..core.console import say
 from ..core.errors import InputError, needs
 from ..core.files import output
 from ..core.limits import LAST_TIME
+from ..core.progress import reported
 from ..core.times import clock_seconds
 from ..views.picture_files import write_picture
+from .machine import add_json, give, is_json
 from .options import Parser
+from .values import WrongValue
 
 if TYPE_CHECKING:
-    from ..views.service import Day
+    from ..api.service import Day, Groups
 
 SUMMARY = "the service: departures, headways, speeds, vehicles, hours and kilometres"
 HELP = """\
@@ -35,7 +38,7 @@ def times(text: str) -> list[int]:
     seconds = [number for number in found if number is not None]
     grows = all(low < high for low, high in zip(seconds, seconds[1:]))
     if len(seconds) < max(2, len(found)) or not grows or seconds[-1] > LAST_TIME + 1:
-        raise argparse.ArgumentTypeError(f"{text!r} is not two or more ascending times HH:MM up to 168:00")
+        raise WrongValue(text, "two or more ascending times HH:MM up to 168:00")
     return seconds
 
 
@@ -50,23 +53,28 @@ def describe(parser: Parser) -> None:
     parser.add_text("--page", "FILE", "the file of a page like a timetable, as HTML", without="none is written")
     parser.add_picture("the file of a map of the last scenario in the first period")
     parser.add_out("the file of the table")
+    add_json(parser)
 
 
 def run(args: argparse.Namespace) -> None:
     needs("numpy", "pandas", *(["matplotlib"] if args.picture else []))
-    from ..views.service import costs_stated, groups_of, lines_of, write_lines, write_stops
+    from ..api.service import groups_of, lines_of
+    from ..views.service import costs_stated, write_lines, write_stops
     from ..views.service_map import figure_of
-    from ..views.service_page import write_page
+    from ..web.service_page import write_page
 
     found = day_of(args)
     groups = groups_of(found.timetable, "direction" if args.by == "stop" else args.by, list(found.running))
     last = list(found.running)[-1]
     figure = figure_of(found, last, found.periods[0]) if args.picture else None
-    with output(args.out) as file:
-        if args.by == "stop":
-            write_stops(file, found)
-        else:
-            write_lines(file, lines_of(found, groups), groups)
+    if args.out or not is_json(args):
+        with output(args.out) as file:
+            if args.by == "stop":
+                write_stops(file, found)
+            else:
+                write_lines(file, lines_of(found, groups), groups)
+    if is_json(args):
+        give(args, rows=rows_of(args, found, groups))
     if args.page:
         with output(args.page) as file:
             own = groups_of(found.timetable, "direction", list(found.running))
@@ -74,6 +82,17 @@ def run(args: argparse.Namespace) -> None:
     if figure is not None:
         write_picture(args.picture, figure)
     say(*costs_stated(found))
+
+
+def rows_of(args: argparse.Namespace, day: "Day", groups: "Groups") -> list[dict[str, object]]:
+    """The lines of the table, for programs."""
+    from ..api.service import lines_of
+    from ..core.columns import SERVICE_OF_STOPS, names_of
+    from ..views.service import line_values, stop_values
+
+    if args.by == "stop":
+        return [dict(zip(names_of(SERVICE_OF_STOPS), values)) for values in stop_values(day)]
+    return [line_values(line, groups) for line in lines_of(day, groups)]
 
 
 def day_of(args: argparse.Namespace) -> "Day":
@@ -85,12 +104,14 @@ def day_of(args: argparse.Namespace) -> "Day":
     from ..measures.service import periods_of, running_on, straight_lengths
     from ..gtfs.timetable import read_edits, read_timetable
     from ..plans.make import files_in_order
-    from ..views.service import Day
+    from ..api.service import Day
 
     files = args.scenarios or files_in_order(args.feed)
     names = [Path(path).name.removesuffix(".csv") for path in files]
     if len(set(names)) < len(names) or BASE in names:
-        raise InputError(", ".join(files), "two scenario files have the same name, or one is called base")
+        twice = next(name for place, name in enumerate(names) if name in (BASE, *names[:place]))
+        fault = InputError(", ".join(files), "two scenario files have the same name, or one is called base")
+        raise fault.noting(file=files[names.index(twice)], value=twice)
     stops = read_stops(args.feed)
     timetable = read_timetable(stops)
     own = stops.of(timetable.stops)
@@ -99,6 +120,7 @@ def day_of(args: argparse.Namespace) -> "Day":
     if TODAY not in files_by_name:
         files_by_name = {BASE: None, **files_by_name}
     running = {
-        name: running_on(timetable, args.date, read_edits(path), lengths) for name, path in files_by_name.items()
+        name: running_on(timetable, args.date, read_edits(path), lengths)
+        for name, path in reported(files_by_name.items(), len(files_by_name), "scenarios")
     }
     return Day(timetable, running, periods_of(args.periods))

@@ -3,7 +3,8 @@ import argparse
 from ..core.console import say
 from ..core.errors import needs
 from ..core.text import quantity
-from .options import Parser, Range
+from ..core.ranges import Range
+from .options import Parser
 
 SUMMARY = "the origins of a study, cut into parts"
 HELP = """\
@@ -25,7 +26,9 @@ def describe(parser: Parser) -> None:
 
 def run(args: argparse.Namespace) -> None:
     needs("numpy")
-    from ..parts import origins_in, origins_of_feed, write_parts
+    from ..core.stop_lists import origins_in
+    from ..gtfs.stops import origins_of_feed
+    from ..matrices.parts import write_parts
 
     origins = origins_in(args.origins) if args.origins else origins_of_feed(args.feed)
     parts = write_parts(origins, args.parts or 1, args.out)

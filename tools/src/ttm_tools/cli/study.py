@@ -5,7 +5,8 @@ from pathlib import Path
 from ..core.errors import ArgumentError, needs
 from ..core.limits import MOST_NUMBER
 from ..core.signals import Interrupted
-from .options import Parser, Range
+from ..core.ranges import Range
+from .options import Parser
 
 SUMMARY = "a whole study from one file: feed, runs in parts, matrix, tables, maps, report"
 HELP = """\
@@ -67,7 +68,7 @@ def run(args: argparse.Namespace) -> None:
 
         sys.stdout.write(template())
     elif args.part is not None:
-        from ..study.task import one_part
+        from ..study.executors.task import one_part
 
         one_part(Path(args.study), args.part)
     elif args.verify is not None:
@@ -80,7 +81,7 @@ def run(args: argparse.Namespace) -> None:
 
 
 def make(args: argparse.Namespace) -> None:
-    from ..study.elsewhere import Means
+    from ..study.executors.remote import Means
     from ..study.study_file import read_study
     from ..study.work import make_study
 

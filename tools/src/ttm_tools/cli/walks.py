@@ -1,10 +1,17 @@
 import argparse
 import os
+from typing import TYPE_CHECKING
 
 from ..core.console import say
 from ..core.errors import ArgumentError, needs
 from ..core.files import output
+from ..core.question import MAX_WALK
+from .machine import add_json, give
 from .options import Parser, decimals
+from .unused import refuse_near_alone, refuse_unused
+
+if TYPE_CHECKING:
+    from ..streets.walks import Walks
 
 SUMMARY = "the footpaths of a feed, from the coordinates of its stops"
 HELP = """\
@@ -30,11 +37,12 @@ footpath, and with --streets 800 for each node of the ways."""
 
 
 def describe(parser: Parser) -> None:
-    parser.add_number("--limit", "the longest walk", decimals("seconds", 1, 86400), default=600)
+    parser.add_number("--limit", "the longest walk", decimals("seconds", 1, 86400), default=MAX_WALK.default)
     parser.add_pace()
     what = "your own walks, a table with from_stop_id, to_stop_id and seconds; decimals are rounded up, and counted"
     parser.add_text("--table", "FILE", what, without="straight lines")
     parser.add_out("the file of footpaths", without="footpaths.csv in FOLDER")
+    add_json(parser)
     parser.add_argument("folder", metavar="FOLDER", help="an unpacked feed")
 
 
@@ -48,19 +56,34 @@ def outputs(args: argparse.Namespace) -> list[str]:
     return [file_of(args)]
 
 
+def unlinked(walks: "Walks | None") -> dict[str, list[str]]:
+    """The stops and points that are far from a street, have none in reach, or no coordinates, for programs."""
+    names = {"far_from_street": "far", "without_street": "apart", "without_coordinates": "lost"}
+    return {name: walks.named(which) if walks is not None else [] for name, which in names.items()}
+
+
 def run(args: argparse.Namespace) -> None:
     if args.table and args.streets:
-        raise ArgumentError("--table and --streets are two sources of walks: choose one")
+        fault = ArgumentError("--table and --streets are two sources of walks: choose one")
+        raise fault.noting(column="--table", value=args.table)
+    if args.table:
+        own = "does nothing with --table, whose walks have times of their own"
+        refuse_unused(args, own, "limit", "speed", "detour", "near")
+    refuse_near_alone(args)
     needs("numpy")
     from ..core.tables import write_rows
     from ..gtfs.stops import read_stops
     from ..plans.nearness import new_stops_in, sentences_on_nearer
-    from ..walks import Pace, footpaths_of
+    from ..streets.walks import Pace, footpaths_and_walks
 
     out = file_of(args)
     pace, stops = Pace(args.limit, args.speed, args.detour), read_stops(args.folder)
     new_stops_in(args.folder)  # an error of these is raised before anything is written
-    rows, sentence = footpaths_of(stops, args.table, pace, args.streets, args.near)
+    rows, sentence, found = footpaths_and_walks(stops, args.table, pace, args.streets, args.near)
     with output(out) as file:
         write_rows(file, ["from_stop_id", "to_stop_id", "seconds"], rows)
     say(f"{out}: {sentence}", *sentences_on_nearer(args.folder, out))
+    give(
+        args, feed=args.folder, footpaths_file=out, footpaths=len(rows), unreachable={"origins": [], "destinations": []}
+    )
+    give(args, **unlinked(found))

@@ -3,22 +3,13 @@
 `Network` starts `ttm --ask` processes, which read a feed and build its networks once.
 """
 
-import contextlib
 import datetime
-import os
-import tempfile
 import warnings
-import weakref
-from pathlib import Path
-from typing import Iterable, Iterator, Mapping, Sequence
+from typing import Iterable, Mapping, Sequence
 
-from ..core.errors import ArgumentError
-from ..core.files import remove
-from ..core.tables import RoundingCounter
-from ..engine.arguments import EngineArguments, Pathlike, program_at
-from ..engine.inputs import write_inputs
-from ..engine.pool import PLACEHOLDER_WINDOW, ProcessPool, ask_command
-from ..engine.refusals import EngineError, refusal_of
+from ..core.question import DAYS_AFTER, DAYS_BEFORE, MAX_RIDES, MAX_WALK, PERCENTILES
+from ..engine.arguments import Pathlike
+from ..engine.network import EngineNetwork, NetworkFiles
 from ..matrices import open_matrix
 from ..matrices.result import Result, result_of
 
@@ -75,47 +66,23 @@ class Network:
         feed: Pathlike,
         date: str | datetime.date,
         *,
-        walk: int = 600,
+        walk: int = int(MAX_WALK.default),
         scenarios: Sequence[Pathlike] = (),
         footpaths: Pathlike | Iterable[tuple[str, str, float]] | None = None,
-        back: int = 1,
-        ahead: int = 1,
+        back: int = int(DAYS_BEFORE.default),
+        ahead: int = int(DAYS_AFTER.default),
         workers: int = 1,
         program: Pathlike | None = None,
     ) -> None:
-        if workers < 1:
-            raise ArgumentError(f"workers={workers}: at least one process is needed")
-        executable, self.rounded = program_at(program), RoundingCounter()
-        self.folder = Path(tempfile.mkdtemp(prefix=f"ttm-tools-network.{os.getpid()}."))
-        try:
-            given_files = write_inputs(self.folder, self.rounded, footpaths=footpaths)
-            # Absolute paths: a process keeps its working directory when the caller's changes.
-            files = {option: os.path.abspath(path) for option, path in given_files.items()}
-            scenario_paths = [os.path.abspath(path) for path in scenarios]
-            run = EngineArguments(
-                os.path.abspath(feed),
-                date,
-                PLACEHOLDER_WINDOW,
-                4,
-                walk,
-                scenarios=scenario_paths,
-                back=back,
-                ahead=ahead,
-                files=files,
-            )
-            self.pool = ProcessPool(ask_command(executable, run.arguments()), workers)
-        except BaseException:
-            remove(self.folder)
-            raise
-        # A finalizer rather than __del__: it also runs when the interpreter exits.
-        self.finalizer = weakref.finalize(self, release, self.pool, self.folder, os.getpid())
+        files = NetworkFiles(feed, date, walk, scenarios, footpaths, (back, ahead))
+        self.engine = EngineNetwork(files, workers, program)
 
     def matrix(
         self,
         window: tuple[str, str],
         *,
-        trips: int = 4,
-        shares: Sequence[int] = (50,),
+        trips: int = int(MAX_RIDES.default),
+        shares: Sequence[int] = (int(PERCENTILES.default),),
         limits: Sequence[int] = (1800,),
         origins: Pathlike | Sequence[str] | None = None,
         opportunities: Pathlike | Mapping[str, float] | None = None,
@@ -162,55 +129,22 @@ class Network:
         InputError
             An opportunity is negative or too large.
         """
-        rounded, numbers = RoundingCounter(), {"trips": trips, "workers": workers, "tries": tries}
-        options: dict[str, object] = {"from": window[0], "to": window[1], **numbers}
+        options: dict[str, object] = {"from": window[0], "to": window[1], "trips": trips}
+        options |= {"workers": workers, "tries": tries}
         options |= {"share": ",".join(map(str, shares)), "within": ",".join(map(str, limits))}
-        with self.question_folder() as folder:
-            given = {"origins": origins, "opportunities": opportunities, "destinations": destinations}
-            files = write_inputs(folder, rounded, **given)
-            options |= {option: os.path.abspath(path) for option, path in files.items()}
-            answer = self.pool.ask([word for option, value in options.items() for word in (f"--{option}", str(value))])
-            if answer.status != 0:
-                raise EngineError("\n".join(refusal_of(answer.body, answer.status)), answer.status)
-            for line in answer.warnings:
+        files = {"origins": origins, "opportunities": opportunities, "destinations": destinations}
+        with self.engine.ask(options, files) as answered:
+            for line in answered.warnings:
                 warnings.warn(line, stacklevel=2)
-            path = folder / "matrix.csv"
-            path.write_bytes(answer.body)
-            return result_of(open_matrix(str(path)), self.rounded.count + rounded.count, rounded.scale)
-
-    @contextlib.contextmanager
-    def question_folder(self) -> Iterator[Path]:
-        """Create a folder for the files of one question, and remove it afterwards."""
-        if not self.finalizer.alive:
-            raise ArgumentError("the network is closed")
-        try:
-            folder = Path(tempfile.mkdtemp(dir=self.folder))
-            try:
-                yield folder
-            finally:
-                remove(folder)
-        except OSError:
-            # Another thread's `close` removes the folder, so its files may be missing.
-            if self.finalizer.alive:
-                raise
-            raise ArgumentError("the network was closed during a question") from None
+            rounded = self.engine.rounded.count + answered.rounded.count
+            return result_of(open_matrix(str(answered.matrix)), rounded, answered.rounded.scale)
 
     def close(self) -> None:
         """End the processes and remove the temporary files. Closing twice is allowed."""
-        self.finalizer()
+        self.engine.close()
 
     def __enter__(self) -> "Network":
         return self
 
     def __exit__(self, *_: object) -> None:
         self.close()
-
-
-def release(pool: ProcessPool, folder: Path, owner: int) -> None:
-    """End the processes of a network and remove its folder.
-
-    Does nothing in a fork of the process that created the network: they belong to the parent (`owner`, its process id).
-    """
-    if os.getpid() == owner:
-        pool.close()
-        remove(folder)

@@ -8,6 +8,7 @@ from typing import Iterable, Mapping, Sequence
 from ..core.files import output
 from ..core.folders import scratch
 from ..core.tables import RoundingCounter
+from ..core.question import DAYS_AFTER, DAYS_BEFORE, MAX_RIDES, MAX_WALK, PERCENTILES
 from ..engine.arguments import EngineArguments, Pathlike
 from ..engine.inputs import write_inputs
 from ..engine.process import EngineProcess
@@ -37,9 +38,9 @@ def matrix(
     date: str | datetime.date,
     window: tuple[str, str],
     *,
-    trips: int = 4,
-    walk: int = 600,
-    shares: Sequence[int] = (50,),
+    trips: int = int(MAX_RIDES.default),
+    walk: int = int(MAX_WALK.default),
+    shares: Sequence[int] = (int(PERCENTILES.default),),
     limits: Sequence[int] = (1800,),
     scenarios: Sequence[Pathlike] = (),
     origins: Pathlike | Sequence[str] | None = None,
@@ -48,8 +49,8 @@ def matrix(
     footpaths: Pathlike | Iterable[tuple[str, str, float]] | None = None,
     workers: int = 1,
     tries: int = 1,
-    back: int = 1,
-    ahead: int = 1,
+    back: int = int(DAYS_BEFORE.default),
+    ahead: int = int(DAYS_AFTER.default),
     program: Pathlike | None = None,
 ) -> Result:
     """Run `ttm` on the folder of a feed, and return its matrix.

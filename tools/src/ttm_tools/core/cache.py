@@ -1,7 +1,7 @@
 """The user's cache: prepared feeds, streets, and walks between points and stops.
 
-It is in the folder that TTM_CACHE names, else in `ttm-tools` of XDG_CACHE_HOME or ~/.cache. Each entry is a folder
-named by the checksum of everything it depends on. Entries may be removed at any time.
+It is in the folder `settings.cache`: that of TTM_CACHE, else `ttm-tools` of XDG_CACHE_HOME or ~/.cache. Each entry is a
+folder named by the checksum of everything it depends on. Entries may be removed at any time.
 """
 
 import hashlib
@@ -13,17 +13,12 @@ from typing import Callable, Iterable
 from .. import __version__
 from .files import aside_name, remove, remove_leavings, sha256_of_file
 from .locks import lock_file, locked
+from .logs import logger
 from .reading import regular
+from .settings import settings
 
 FORM = "1"  # part of every key: increase it when the format of entries changes
 MAKING = threading.RLock()  # a process makes one entry at a time
-
-
-def cache_folder() -> Path:
-    """Return the folder of the cache."""
-    named = os.environ.get("TTM_CACHE")
-    home = os.environ.get("XDG_CACHE_HOME") or os.path.join(os.path.expanduser("~"), ".cache")
-    return Path(named) if named else Path(home) / "ttm-tools"
 
 
 def key_of(*parts: object) -> str:
@@ -46,7 +41,7 @@ def sum_of_source(path: str) -> str:
 
 def cached_entry(kind: str, key: str, make: Callable[[Path], None]) -> Path:
     """Return the entry of a key. A missing entry is written in a temporary folder, renamed when it is complete."""
-    room = cache_folder() / kind
+    room = settings.cache / kind
     entry = room / key
     if entry.is_dir():
         return entry
@@ -60,6 +55,7 @@ def cached_entry(kind: str, key: str, make: Callable[[Path], None]) -> Path:
         try:
             remove(aside)
             aside.mkdir()
+            logger.info("writing the cache entry %s", entry)
             make(aside)
             try:
                 os.replace(aside, entry)

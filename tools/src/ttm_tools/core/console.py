@@ -2,6 +2,7 @@
 
 import sys
 
+from .notices import note
 from .text import printed
 
 
@@ -18,5 +19,6 @@ def as_line(message: object) -> str:
 
 def say(*lines: object) -> None:
     """Print messages on standard error, one line each."""
+    note(*lines)
     for line in lines:
         print(as_line(line), file=sys.stderr, flush=True)

@@ -3,7 +3,7 @@
 import importlib.util
 import shutil
 import sys
-from typing import Any
+from typing import Any, Self
 
 DEBIAN_NAMES = {"osmium": "pyosmium"}  # Python packages that Debian names differently
 
@@ -13,6 +13,11 @@ class TtmError(Exception):
 
     def __reduce__(self) -> tuple[Any, ...]:
         return restore, (type(self), self.args, vars(self))
+
+    def noting(self, **fields: object) -> Self:
+        """Set attributes of `InputError` that the message states in words of its own, and return the error."""
+        vars(self).update({name: str(value) if name == "file" else value for name, value in fields.items()})
+        return self
 
 
 def restore(kind: type[TtmError], arguments: tuple[Any, ...], values: dict[str, Any]) -> TtmError:
@@ -40,6 +45,10 @@ class InputError(TtmError, ValueError):
         The values that are allowed.
     what
         What is wrong, without the place.
+    limit
+        The limit that is exceeded, if that is the error. The message has it in its own words, as `nearest`.
+    nearest
+        The most similar known name, or the nearest date on which a trip runs.
     """
 
     exit_status = 1
@@ -53,9 +62,11 @@ class InputError(TtmError, ValueError):
         column: str | None = None,
         value: str | None = None,
         allowed: str | None = None,
+        limit: int | None = None,
+        nearest: str | None = None,
     ) -> None:
         self.file, self.record, self.column, self.value, self.allowed = str(file), record, column, value, allowed
-        self.what = what
+        self.what, self.limit, self.nearest = what, limit, nearest
         place = self.file if record is None else f"{self.file}: record {record}"
         found = " ".join([*([column] if column else []), *([repr(value)] if value is not None else []), what])
         super().__init__(f"{place}: {found}" + (f"; allowed: {allowed}" if allowed else ""))
@@ -71,6 +82,18 @@ class ArgumentError(TtmError, ValueError):
     """An argument has a value that is not allowed, or arguments exclude each other."""
 
     exit_status = 2
+
+
+class LimitError(InputError):
+    """More stops, walks, trips or scenarios than the engine takes.
+
+    Attributes
+    ----------
+    limit
+        How many the engine takes. The message has it too, and says what to do.
+    """
+
+    limit: int
 
 
 def needs(*packages: str) -> None:

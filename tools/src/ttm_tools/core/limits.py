@@ -27,4 +27,5 @@ MOST_CUTOFF_MINUTES = 10_000
 MOST_PORT = 65_535
 
 WALKING_SPEED = 1.33  # metres a second
+WALKING_KMH = 4.8  # of a `Question`, kilometres an hour
 DETOUR = 1.3  # metres walked for a metre of straight line

@@ -59,7 +59,7 @@ def sized(path: str | Path, most: int, what: str) -> int:
     """Return the size of a file in bytes, or raise an `InputError` if it is larger than `most`."""
     size = regular(path).st_size
     if size > most:
-        raise InputError(path, f"has {size:,} bytes; {what} has at most {most:,}")
+        raise InputError(path, f"has {size:,} bytes; {what} has at most {most:,}", limit=most)
     return size
 
 

@@ -13,19 +13,28 @@ ENDING = [  # signals that end a process by default, and that it can handle
 ]
 
 
+_reason: str | None = None
+
+
 class Interrupted(BaseException):
-    """A signal ended the command."""
+    """A signal ended the command, or another cause that is reported as one."""
 
-    def __init__(self, number: int) -> None:
-        self.number = number
-        super().__init__(f"ended by {signal.Signals(number).name}")
+    def __init__(self, number: int, reason: str | None = None) -> None:
+        self.number, self.reason = number, reason
+        super().__init__(reason or f"ended by {signal.Signals(number).name}")
 
-    def __reduce__(self) -> tuple[type["Interrupted"], tuple[int]]:
-        return Interrupted, (self.number,)
+    def __reduce__(self) -> tuple[type["Interrupted"], tuple[int, str | None]]:
+        return Interrupted, (self.number, self.reason)
 
     @property
     def exit_status(self) -> int:
         return 128 + self.number
+
+
+def give_reason(reason: str) -> None:
+    """Set why the next signal ends this process, which its message says instead of the signal's name."""
+    global _reason
+    _reason = reason
 
 
 def unwind_on_signals() -> None:
@@ -37,7 +46,7 @@ def unwind_on_signals() -> None:
     def unwind(number: int, _: FrameType | None) -> NoReturn:
         for other in ENDING:
             signal.signal(other, signal.SIG_IGN)
-        raise Interrupted(number)
+        raise Interrupted(number, _reason)
 
     for number in ENDING:
         if signal.getsignal(number) is not signal.SIG_IGN:

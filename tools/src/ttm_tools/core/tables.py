@@ -18,7 +18,7 @@ from .errors import InputError
 from .limits import MOST_NUMBER
 from .lines import field
 from .reading import MOST_COLUMNS, checked_table, csv_records
-from .text import display_text
+from .text import display_text, quantity
 
 
 def records(path: str | Path) -> Iterator[tuple[int, list[str]]]:
@@ -30,7 +30,7 @@ def records(path: str | Path) -> Iterator[tuple[int, list[str]]]:
                 if fields:
                     number += 1
                     if number == 1 and len(fields) > MOST_COLUMNS:
-                        raise InputError(path, f"more than {MOST_COLUMNS:,} columns", record=1)
+                        raise InputError(path, f"more than {MOST_COLUMNS:,} columns", record=1, limit=MOST_COLUMNS)
                     yield number, fields
     except csv.Error as fault:
         raise InputError(path, str(fault), record=number + 1) from None
@@ -45,7 +45,7 @@ def column_positions(header: Sequence[str], path: str | Path, needed: Sequence[s
         places.setdefault(name.strip(" "), place)
     for name in needed:
         if name not in places:
-            raise InputError(path, f"no column {name}", record=1)
+            raise InputError(path, f"no column {name}", record=1).noting(column=name)
     return places
 
 
@@ -54,19 +54,26 @@ def refuse_alike(path: str | Path, header: Sequence[str], names: Iterable[str]) 
     counts = Counter(column.strip(" ") for column in header)
     twice = next((name for name in names if counts[name] > 1), None)
     if twice is not None:
-        raise InputError(path, f"two columns {display_text(twice)}", record=1)
+        raise InputError(path, f"two columns {display_text(twice)}", record=1).noting(column=twice)
 
 
-def rows(path: str | Path, needed: Sequence[str], wanted: Sequence[str] = ()) -> Iterator[tuple[int, list[str]]]:
+def rows(
+    path: str | Path, needed: Sequence[str], wanted: Sequence[str] = (), *, whole: bool = False
+) -> Iterator[tuple[int, list[str]]]:
     """Yield the number of each record after the header, and its needed and wanted fields in that order.
 
-    A wanted column that is missing gives "".
+    A wanted column that is missing gives "". If `whole`, a record with more fields than the header raises an
+    `InputError`, unless these are empty; otherwise they are ignored, as `ttm` does.
     """
     lines = records(path)
     _, header = next(lines, (1, []))
     places = column_positions(header, path, needed)
     chosen = [places.get(name, len(header)) for name in (*needed, *wanted)]
     for number, fields in lines:
+        if whole and any(text.strip() for text in fields[len(header) :]):
+            counts = f"{quantity(len(fields), 'field')}, and the header has {len(header)}"
+            what = f"{counts}; a number with a comma would be cut off"
+            raise InputError(path, what, record=number)
         del fields[len(header) :]
         fields += [""] * (len(header) + 1 - len(fields))
         yield number, [fields[place] for place in chosen]

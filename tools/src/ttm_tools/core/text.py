@@ -56,6 +56,17 @@ def short_number(number: float) -> str:
     return str(int(number)) if math.isfinite(number) and number == int(number) else repr(number)
 
 
+def rounded(number: float, decimals: int) -> str:
+    """Return a number to this many decimals, with commas between thousands: `1,234.5`.
+
+    A number that these decimals would show as 0 has two significant digits: `0.012`.
+    """
+    text = f"{number:,.{decimals}f}"
+    if not number or text.strip("-0."):
+        return text
+    return f"{number:.{1 - math.floor(math.log10(abs(number)))}f}".rstrip("0")
+
+
 def quantity(count: int, noun: str) -> str:
     """Return a count and its noun, in the plural unless the count is 1: `1 stop`, `2,000 stops`."""
     return f"{count:,} {noun}{'' if count == 1 else 's'}"

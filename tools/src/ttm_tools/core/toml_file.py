@@ -10,7 +10,7 @@ from typing import Any, Iterable, Iterator, Sequence
 
 from .errors import InputError
 from .reading import read_toml
-from .toml_values import Kind, NAME, TEXT, TEXTS, Value, WrongItem, as_written, near
+from .toml_values import Kind, NAME, TEXT, TEXTS, Value, WrongItem, as_written, near, nearest_name
 
 TOKENS = re.compile(
     r'"""(?:\\.|[^\\])*?"""|\'\'\'.*?\'\'\'|"(?:\\.|[^"\\\n])*"|\'[^\'\n]*\'|#[^\n]*|[\[\]{}\n]|[^\[\]{}\n#"\']+',
@@ -45,19 +45,22 @@ class Entry:
     ) -> InputError:
         """Return an error about a value, or about the whole table."""
         line = self.lines.line if key is None else self.lines.keys.get(key, self.lines.line)
-        return InputError(f"{self.path}: line {line}", what, column=key, value=value, allowed=allowed)
+        fault = InputError(f"{self.path}: line {line}", what, column=key, value=value, allowed=allowed)
+        return fault.noting(file=self.path, record=line)
 
     def fault_of_item(self, key: str, wrong: WrongItem) -> InputError:
         items, lines = self.values[key], self.lines.items.get(key, [])
         line = lines[wrong.number] if wrong.number < len(lines) else self.lines.keys.get(key, self.lines.line)
         what, value = f"{wrong.what} (item {wrong.number + 1} of {len(items)})", as_written(items[wrong.number])
-        return InputError(f"{self.path}: line {line}", what, column=key, value=value, allowed=wrong.allowed)
+        fault = InputError(f"{self.path}: line {line}", what, column=key, value=value, allowed=wrong.allowed)
+        return fault.noting(file=self.path, record=line)
 
     def only(self, keys: Sequence[str]) -> None:
         """Raise an error for a key that is not in the list."""
         for key in self.values:
             if key not in keys:
-                raise self.fault(f"isn't known{near(key, keys)}", key, allowed=", ".join(keys))
+                fault = self.fault(f"isn't known{near(key, keys)}", key, allowed=", ".join(keys))
+                raise fault.noting(nearest=nearest_name(key, keys))
 
     def has(self, key: str) -> bool:
         return key in self.values
@@ -88,7 +91,8 @@ class Entry:
         except ValueError:
             what = f"{kind.wrong}{near(str(value), kind.names)}"
             shown, allowed = as_written(value) if kind.is_shown else None, None if kind.names else kind.allowed
-            raise self.fault(what, key, shown, allowed) from None
+            nearest = nearest_name(str(value), kind.names)
+            raise self.fault(what, key, shown, allowed).noting(nearest=nearest) from None
 
     def text(self, key: str, default: str | None = None) -> str:
         """Return a text. It may be empty only if the default is."""
@@ -111,7 +115,7 @@ class Entry:
     def known(self, key: str, value: str, names: Iterable[str], what: str) -> None:
         """Raise an error for a value that is not one of the names."""
         if value not in names:
-            raise self.fault(f"{what}{near(value, names)}", key, value)
+            raise self.fault(f"{what}{near(value, names)}", key, value).noting(nearest=nearest_name(value, names))
 
 
 def statements(text: str) -> Iterator[tuple[int, str]]:

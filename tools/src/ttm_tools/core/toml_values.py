@@ -36,10 +36,15 @@ class Kind(Generic[Value]):
     of_tables: bool = False  # the value is a list of tables
 
 
+def nearest_name(name: str, names: Iterable[str]) -> str | None:
+    """Return the most similar of some names, or None if none is similar."""
+    return next(iter(difflib.get_close_matches(name, list(names), 1, 0.5)), None)
+
+
 def near(name: str, names: Iterable[str]) -> str:
     """Return the end of an error message that names the most similar name, or "" if none is similar."""
-    found = difflib.get_close_matches(name, list(names), 1, 0.5)
-    return f"; the nearest is {found[0]!r}" if found else ""
+    found = nearest_name(name, names)
+    return "" if found is None else f"; the nearest is {found!r}"
 
 
 def as_written(value: Any) -> str:

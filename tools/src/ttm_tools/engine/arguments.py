@@ -9,6 +9,7 @@ from pathlib import Path
 from typing import Mapping, Sequence
 
 from ..core.errors import MissingDependencyError
+from ..core.question import DAYS_AFTER, DAYS_BEFORE, MAX_RIDES, MAX_WALK, PERCENTILES
 from ..core.times import as_ttm_reads
 
 PACKAGES = Path(__file__).resolve().parents[2]
@@ -26,15 +27,15 @@ class EngineArguments:
     feed: Pathlike  # the folder of an unpacked feed
     date: str | datetime.date  # as a text YYYYMMDD or YYYY-MM-DD
     window: tuple[str, str]  # the first and the last departure, HH:MM
-    trips: int = 4  # 1 to 8
-    walk: int = 600  # seconds
-    shares: Sequence[int] = (50,)  # percent, ascending
+    trips: int = int(MAX_RIDES.default)
+    walk: int = int(MAX_WALK.default)  # seconds
+    shares: Sequence[int] = (int(PERCENTILES.default),)  # percent, ascending
     limits: Sequence[int] = (1800,)  # seconds, ascending
     scenarios: Sequence[Pathlike] = ()  # scenario files
     workers: int = 1  # threads, 1 to 64
     tries: int = 1  # 1 to 8
-    back: int = 1  # service days before the date, 0 to 6
-    ahead: int = 1  # and after it
+    back: int = int(DAYS_BEFORE.default)  # service days before the date
+    ahead: int = int(DAYS_AFTER.default)  # and after it
     files: Mapping[str, Pathlike] = field(default_factory=dict)  # origins, opportunities, destinations, footpaths
     program: Pathlike | None = None  # see `program_at`
 

@@ -7,6 +7,7 @@ from typing import Sequence
 import numpy as np
 
 from ..core.arrays import Mask, Whole
+from ..core.errors import InputError
 from .columns import distinct, one_of, positions_of, values_of
 from .feeds import Feed, names_in
 from .fields import WEEKDAYS, date, number, time
@@ -109,3 +110,26 @@ def runs_by_day(feed: Feed, days: Days) -> Whole:
     places = positions_of(trips["trip_id"], names_in(feed, "trips.txt", "trip_id") or [])
     np.add.at(total, positions_of(trips["service_id"], days.services), runs_of_trips(feed)[places])
     return np.asarray(total @ days.runs, dtype=np.int64)
+
+
+def busiest_day(feed: Feed) -> tuple[datetime.date, int]:
+    """Return the first weekday on which the most trips run, or else the first day with the most, and how many run.
+
+    Of several such days, one with trips on the days before and after it comes first, since these count as well.
+
+    Raises
+    ------
+    InputError
+        No trip runs on any day.
+    """
+    days = days_of(feed)
+    runs = runs_by_day(feed, days)
+    weekdays = np.where((days.first + np.arange(len(runs)) - 1) % 7 < 5, runs, 0)
+    chosen = weekdays if weekdays.any() else runs
+    if not chosen.any():
+        raise InputError("calendar.txt", "no trip runs on any day")
+    around = np.concatenate([[0], runs, [0]])
+    most = np.flatnonzero(chosen == chosen.max())
+    inside = most[(around[most] > 0) & (around[most + 2] > 0)]
+    place = int((inside if len(inside) else most)[0])
+    return days.day(place), int(chosen[place])

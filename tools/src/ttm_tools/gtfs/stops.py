@@ -130,3 +130,9 @@ def read_list(path: str, known: Sequence[str], kind: str) -> list[str]:
             raise InputError(path, f"the matrix has no {kind} {display_text(stop)}", record=number)
         named.append(stop)
     return named
+
+
+def origins_of_feed(folder: str) -> list[str]:
+    """The stops of a feed at which vehicles call, as `ttm` takes them where no file names origins."""
+    found = rows(in_folder(folder, "stops.txt"), ["stop_id"], ["location_type"])
+    return [stop for _, (stop, kind) in found if kind_of(kind) == 0]

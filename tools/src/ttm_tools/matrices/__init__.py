@@ -5,13 +5,13 @@ The room is called `matrices`, since `ttm_tools.matrix` is the function that run
 """
 
 from ..core.reading import as_one_line, regular
+from .base import BASE, Matrix, Pair, Share, Sums, TODAY, has_all, lacking, pair_of
 from .beside import Beside
 from .capped import capped
 from .csv_matrix import CsvMatrix
 from .layout import layout_of
 from .lines import Seconds
-from .matrix import BASE, Matrix, Pair, Share, Sums, TODAY, has_all, lacking, pair_of
-from .open_matrix import OpenMatrix, is_open_matrix, write_open_matrix
+from .omx import OpenMatrix, is_open_matrix, write_open_matrix
 
 __all__ = [
     "BASE",

@@ -9,8 +9,8 @@ import numpy as np
 
 from ..core.errors import InputError
 from ..core.text import display_text
+from .base import LEFT_OUT, Matrix, Places, Share, Sums, sentences_on_lacking
 from .lines import Seconds
-from .matrix import LEFT_OUT, Matrix, Places, Share, Sums, sentences_on_lacking
 from .origin import told_of
 
 

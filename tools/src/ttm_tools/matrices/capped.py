@@ -5,8 +5,8 @@ from dataclasses import replace
 import numpy as np
 
 from ..core.errors import InputError
+from .base import Matrix, Places, Share, Sums
 from .lines import Seconds
-from .matrix import Matrix, Places, Share, Sums
 
 
 class Capped(Matrix):

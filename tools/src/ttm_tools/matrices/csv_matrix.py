@@ -14,6 +14,7 @@ from ..core.limits import MOST_SECONDS
 from ..core.reading import as_one_line, regular
 from ..core.tables import refuse_alike
 from ..core.text import display_text, quantity
+from .base import Matrix, Share, Sums
 from .layout import MatrixLayout, layout_of
 from .lines import (
     Seconds,
@@ -27,7 +28,6 @@ from .lines import (
     refuse_wide,
     seconds_of,
 )
-from .matrix import Matrix, Share, Sums
 
 BYTES_AT_ONCE = 1 << 20  # a line of a metropolis has a hundred thousand
 NO_MATRIX = "not a matrix: it begins neither with scenario,origin,access nor with scenario,origin,share,access_.."

@@ -17,7 +17,7 @@ from ..core import progress
 from ..core.arrays import Floats
 from ..core.errors import ArgumentError
 from ..matrices import Matrix, Seconds, Share
-from .measure_list import DECAYS
+from .registry import DECAYS
 
 STEP = "step"
 SLACK = 1e-6  # by which a sum of decimals that is meant to be whole may lack, at most a trillionth of it

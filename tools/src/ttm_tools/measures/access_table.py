@@ -14,7 +14,7 @@ from ..core.errors import InputError
 from ..core.tables import number_of, records, rows
 from ..core.text import display_text, first_few, quantity
 from ..matrices import BASE, TODAY
-from ..matrices.matrix import LEFT_OUT, sentences_on_lacking
+from ..matrices.base import LEFT_OUT, sentences_on_lacking
 from .opportunities import Counts
 
 COLUMNS, OF_TIMES = names_of(ACCESS), names_of(NEAREST)

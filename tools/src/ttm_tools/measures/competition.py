@@ -12,9 +12,9 @@ import numpy as np
 
 from ..core.arrays import Floats
 from ..matrices import Matrix, Seconds, Share
-from ..matrices.matrix import Places
+from ..matrices.base import Places
 from .access import Weighting, by_blocks
-from .measure_list import COMPETITIONS
+from .registry import COMPETITIONS
 
 
 LEAST = 1e-100  # a lesser weight counts as none, since a supply divided by it is no number

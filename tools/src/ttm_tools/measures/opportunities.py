@@ -77,7 +77,7 @@ def identifier_of(path: str) -> str:
 def numbers_of(path: str, names: Sequence[str], places: dict[str, int], kind: str) -> Floats:
     """Some columns of a file, each a number from 0 on for each stop."""
     numbers, seen = np.zeros((len(places), len(names))), set[str]()
-    for number, (stop, *fields) in rows(path, [identifier_of(path), *names]):
+    for number, (stop, *fields) in rows(path, [identifier_of(path), *names], whole=True):
         if stop not in places:
             raise InputError(path, f"no {kind} is called {display_text(stop)}", record=number)
         if stop in seen:

@@ -43,6 +43,15 @@ LISTED = (
         '`route = "R2"`: T1 alone runs',
         "trips.remove",
     ),
+    Action(
+        "remove_mode",
+        ("mode",),
+        "mode: tram, metro, rail, bus, ferry, cable_tram, aerial, funicular, trolleybus or monorail",
+        "removes the trips of all routes of a `mode`: tram, metro, rail, bus, ferry, cable_tram, aerial, funicular,"
+        " trolleybus or monorail; extended route types count as the nearest of these",
+        '`mode = "tram"`: of a bus R1 and a tram R2, T1 of R1 alone runs',
+        "trips.remove_modes",
+    ),
     Action("remove_trip", ("trip",), "trip", "removes a `trip`", '`trip = "T2"`: T1 alone runs', "trips.remove"),
     Action(
         "remove_stop",
@@ -54,9 +63,9 @@ LISTED = (
     ),
     Action(
         "shift_route",
-        ("route", "seconds"),
-        "route, seconds (negative for earlier)",
-        "moves all times of a `route` by `seconds`, negative for earlier",
+        ("route", "direction", "seconds"),
+        "route, direction, seconds (negative for earlier)",
+        "moves all times of a `route`, or of one `direction` of it, by `seconds`, negative for earlier",
         '`route = "R1"`, `seconds = 300`: A 08:05, B 08:15, just in time for T2',
         "trips.shift",
     ),

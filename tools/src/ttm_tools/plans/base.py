@@ -20,14 +20,14 @@ from ..core.toml_file import Entry
 from ..core.toml_values import decimal
 from ..gtfs.call_numbers import CALLS, CallNumbers, CallReader, narrow
 from ..gtfs.calls import begins_of, calls_of
+from ..gtfs.check import check
 from ..gtfs.columns import Codes, positions_of, values_of
+from ..gtfs.fault_report import refuse
 from ..gtfs.feeds import Feed, is_stop, read_feed, read_folder, refuse_planned
 from ..gtfs.fields import date, number, time
+from ..gtfs.likely import unclosed
 from ..gtfs.service_days import Days, MOST_DAYS, days_of, ordinals
 from ..gtfs.stops import Stops, place_of
-from ..prepare.check import check
-from ..prepare.likely import unclosed
-from ..prepare.report import refuse
 
 BLOCK = 1 << 20  # calls that are counted at once
 NO_ROW = -1  # in place of a record: a call that no record of the feed states
@@ -105,6 +105,12 @@ class Base:
         for place, route in enumerate(self.routes):
             trips[route].append(place)
         return {name: np.array(places, dtype=np.int64) for name, places in trips.items()}
+
+    @cached_property
+    def route_types(self) -> dict[str, int]:
+        """The route_type of each route of the feed."""
+        table = self.feed.tables["routes.txt"]
+        return dict(zip(table.texts("route_id"), values_of(table["route_type"], number).tolist()))
 
     @cached_property
     def first_agency(self) -> str:

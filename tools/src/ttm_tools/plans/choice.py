@@ -4,7 +4,7 @@ from typing import Sequence
 
 from ..core.text import display_text
 from ..core.toml_file import Entry
-from ..core.toml_values import near, whole
+from ..core.toml_values import near, nearest_name, whole
 from .state import State, Trip
 
 
@@ -14,7 +14,8 @@ def routes_of(state: State, entry: Entry) -> list[str]:
         if name not in state.base.by_route and name not in state.lines:
             by_name, known = state.base.short_names.get(name), [*state.base.by_route, *state.lines]
             nearest = f"; the nearest is {by_name!r}, which has this name" if by_name else near(name, known)
-            raise entry.fault(f"is not a route of the feed or of the scenario{nearest}", "route", name)
+            fault = entry.fault(f"is not a route of the feed or of the scenario{nearest}", "route", name)
+            raise fault.noting(nearest=by_name or nearest_name(name, known))
     return list(dict.fromkeys(names))
 
 
@@ -42,8 +43,9 @@ def same_pattern(entry: Entry, trips: Sequence[Trip]) -> list[Trip]:
     name = entry.text("pattern")
     found = [trip for trip in trips if trip.label == name]
     if not found:
-        message = f"is not one of these trips{near(name, [trip.label for trip in trips])}"
-        raise entry.fault(message, "pattern", name, "a trip that calls at the pattern's stops")
+        labels = [trip.label for trip in trips]
+        message, allowed = f"is not one of these trips{near(name, labels)}", "a trip that calls at the pattern's stops"
+        raise entry.fault(message, "pattern", name, allowed).noting(nearest=nearest_name(name, labels))
     return [trip for trip in trips if pattern_of(trip) == pattern_of(found[0])]
 
 
@@ -82,7 +84,8 @@ def stop_named(state: State, entry: Entry, key: str, name: str) -> int:
     if name not in places.places:
         by_name = [stop for stop, shown_name in zip(places.identifiers, places.names) if shown_name == name]
         nearest = f"; the nearest is {by_name[0]!r}, which has this name" if by_name else near(name, places.places)
-        raise entry.fault(f"is not a stop of the feed or of the plan{nearest}", key, name)
+        fault = entry.fault(f"is not a stop of the feed or of the plan{nearest}", key, name)
+        raise fault.noting(nearest=by_name[0] if by_name else nearest_name(name, places.places))
     return places.places[name]
 
 

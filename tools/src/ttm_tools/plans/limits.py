@@ -6,8 +6,9 @@ from typing import Iterator, Sequence
 import numpy as np
 
 from ..core.arrays import Whole
-from ..core.errors import InputError
+from ..core.errors import LimitError
 from ..core.limits import MOST_EVENTS, MOST_RUNS, MOST_TRIPS
+from ..core.notices import Notice
 from ..gtfs.service_days import runs_of_trips
 from .base import Base
 from .days import runs_of
@@ -24,7 +25,7 @@ def refuse_limits(path: str, base: Base, states: Sequence[State]) -> None:
     for count, most, what in ((trips, MOST_TRIPS, "trips"), (events, MOST_EVENTS, "stop times")):
         if count > most:
             too_many = f"the feed of all scenarios would have {count:,} {what}, and ttm takes {most:,}"
-            raise InputError(path, f"{too_many}: {FEWER}")
+            raise LimitError(path, f"{too_many}: {FEWER}", limit=most)
 
 
 def by_day(base: Base, states: Sequence[State]) -> Whole:
@@ -62,9 +63,9 @@ def sentences_on_days(base: Base, states: Sequence[State]) -> Iterator[str]:
     what = f"{who}: at most {most[0]:,} runs with {most[1]:,} stop times on a day ({base.days.day(day)})"
     taken = f"ttm takes {MOST_RUNS:,} and {MOST_EVENTS:,}"
     if is_too_much(*most):
-        yield f"{what}, and {taken}: {FEWER}"
+        yield Notice(f"{what}, and {taken}: {FEWER}", "engine", most[0])
     elif is_too_much(*around):
         more = f"with the day before and after {around[0]:,} runs with {around[1]:,}"
-        yield f"{what}; {more}: use --back 0 --ahead 0, since {taken}"
+        yield Notice(f"{what}; {more}: use --back 0 --ahead 0, since {taken}", "engine", around[0])
     else:
         yield what

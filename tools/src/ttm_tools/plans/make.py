@@ -1,15 +1,17 @@
 """From a feed and a plan to the feed of all scenarios with their files, or to that of one."""
 
 import shlex
+from dataclasses import dataclass
 from pathlib import Path
 
 from ..core.errors import InputError
 from ..core.files import atomic_folder, require_empty
+from ..core.progress import reported
 from ..core.reading import as_one_line
 from ..core.text import as_text
-from ..core.toml_values import near
+from ..core.toml_values import near, nearest_name
+from .apply import Finished, carried_out
 from .base import read_base
-from .carrying_out import Finished, carried_out
 from .limits import refuse_limits, sentences_on_days
 from .plan_file import PlanFile, read_plan
 from .report import sentences, unused, write_lists
@@ -19,16 +21,34 @@ from .writing import Written, write_all, written_of
 FOLDER, WORDS, REPORT = "scenarios", "scenarios.words", "scenarios.md"
 
 
+@dataclass(frozen=True)
+class Planned:
+    """A feed of scenarios that was written."""
+
+    lines: list[str]  # what was done, a sentence a line
+    arguments: str | None  # of a run with all scenarios; none for the feed of one
+    finished: list[Finished]
+
+
 def make(feed: str, path: str, out: str, only: str | None = None, called: str = "") -> tuple[list[str], str | None]:
     """Writes the folder of all scenarios of a plan, or of one. Gives what is reported, and the arguments of a run with
     all, which name the folder as it is called.
     """
+    made = planned(feed, path, out, only, called)
+    return made.lines, made.arguments
+
+
+def planned(feed: str, path: str, out: str, only: str | None = None, called: str = "") -> Planned:
+    """Writes the same folder, and gives what was done."""
     require_empty(Path(out))
     plan = read_plan(path)
-    if only is not None and only not in [scenario.name for scenario in plan.scenarios]:
-        raise InputError(path, f"no scenario {only}{near(only, [scenario.name for scenario in plan.scenarios])}")
+    names = [scenario.name for scenario in plan.scenarios]
+    if only is not None and only not in names:
+        found = {"column": "--only", "value": only, "nearest": nearest_name(only, names)}
+        raise InputError(path, f"no scenario {only}{near(only, names)}").noting(**found)
     base = read_base(feed, plan.stops)
-    finished = [carried_out(base, scenario) for scenario in plan.scenarios if only in (None, scenario.name)]
+    chosen = [scenario for scenario in plan.scenarios if only in (None, scenario.name)]
+    finished = [carried_out(base, scenario) for scenario in reported(chosen, len(chosen), "scenarios")]
     refuse_limits(path, base, [scenario.state for scenario in finished])
     written = written_of(base, finished, alone=only is not None)
     lines = [*sentences(finished), *([] if only else unused(written)), *sentences_on_days(base, written.states)]
@@ -37,7 +57,7 @@ def make(feed: str, path: str, out: str, only: str | None = None, called: str = 
         write_lists(written, folder)
         arguments = write_arguments(written, folder, called or out) if only is None else None
         write_report(plan, finished, lines, folder)
-    return lines, arguments
+    return Planned(lines, arguments, finished)
 
 
 def write_arguments(written: Written, folder: Path, out: str) -> str:

@@ -3,6 +3,7 @@
 import os
 from typing import Iterator
 
+from ..core.notices import Notice
 from ..core.tables import rows
 from ..core.text import display_text, quantity
 from ..gtfs.nearest import reached_from
@@ -31,7 +32,7 @@ def sentences_on_nearer(folder: str, footpaths: str, walk: int = 0) -> Iterator[
         without = "out of reach" if before is None else before
         times = f"{seconds} seconds apart by way of them, and {without} without them"
         pairs = f"{quantity(len(found), 'pair')} of old stops nearer to each other, so today differs from the feed"
-        yield f"walks to new stops bring {pairs}: {ends}, {times}"
+        yield Notice(f"walks to new stops bring {pairs}: {ends}, {times}", "scenario", len(found))
 
 
 def nearer_by_plan(feed: str | os.PathLike[str], footpaths: str | os.PathLike[str] | None, walk: int) -> list[str]:

@@ -3,6 +3,7 @@
 import re
 from dataclasses import dataclass, field
 
+from ..core.errors import LimitError
 from ..core.toml_file import Entry, read_entry
 
 NAME = re.compile(r"[^\s.@#/\\\"',](?:[^@#/\\\"',\x00-\x1f\x7f]*[^\s@#/\\\"',\x00-\x1f\x7f])?")
@@ -40,7 +41,10 @@ def read_plan(path: str) -> PlanFile:
             raise scenario.entry.fault("occurs twice", "name", scenario.name)
         if number >= MOST_SCENARIOS:
             message = f"is scenario {number + 1}; ttm takes {MOST_SCENARIOS} in addition to base and today"
-            raise scenario.entry.fault(message, "name", scenario.name)
+            at = scenario.entry.fault(message, "name")
+            place = f"{at.file}: line {at.record}"
+            found = LimitError(place, message, column="name", value=scenario.name, limit=MOST_SCENARIOS)
+            raise found.noting(file=at.file, record=at.record)
         seen.add(scenario.name)
     return PlanFile(path, scenarios, stops)
 

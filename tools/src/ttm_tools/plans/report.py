@@ -3,13 +3,15 @@
 from pathlib import Path
 from typing import Iterator, Sequence
 
+from ..core.notices import Notice
 from ..core.tables import write_rows
 from ..core.text import first_few
-from .carrying_out import Done, Finished
+from .apply import Done, Finished
 from .writing import Written, used_stops
 
 COUNTS = {"trips": "trips", "stops": "stops", "events": "stop times"}  # with their nouns in sentences
 KINDS = ("taken out", "shifted", "changed", "added")
+FIELDS = {"taken out": "removed", "shifted": "shifted", "changed": "changed", "added": "added"}
 ACTIONS = ["scenario", "action", "line", "do", "about"]
 ACTIONS += [f"{name}_{when}" for name in COUNTS for when in ("before", "after")]
 ACTIONS += [kind.replace(" ", "_") for kind in KINDS]
@@ -21,6 +23,25 @@ def action_rows(finished: Sequence[Finished]) -> Iterator[list[object]]:
     for done in (done for scenario in finished for done in scenario.done):
         counts = [part[name] for name in COUNTS for part in (done.before, done.after)]
         yield [*begin_of(done), " ".join(done.about), *counts, *map(done.count, KINDS)]
+
+
+def action_fields(finished: Sequence[Finished]) -> Iterator[dict[str, object]]:
+    """The actions for programs: docs/reference/json.md has each field."""
+    for done in (done for scenario in finished for done in scenario.done):
+        yield {
+            "scenario": done.scenario,
+            "number": done.number,
+            "line": done.entry.lines.line,
+            "do": done.what,
+            "about": done.about,
+            **{
+                f"{noun.replace(' ', '_')}_{when}": part[name]
+                for name, noun in COUNTS.items()
+                for when, part in (("before", done.before), ("after", done.after))
+            },
+            **{FIELDS[kind]: done.count(kind) for kind in KINDS},
+            "notes": list(done.notes),
+        }
 
 
 def begin_of(done: Done) -> list[object]:
@@ -81,4 +102,5 @@ def unused(written: Written) -> list[str]:
     """The plan's stops at which no scenario calls, which are left out."""
     base, used = written.base, set(used_stops(written))
     stops = enumerate(base.places.identifiers[base.old_stops :], base.old_stops)
-    return [f"stop {name} is left out: no trip calls there" for place, name in stops if place not in used]
+    lost = [name for place, name in stops if place not in used]
+    return [Notice(f"stop {name} is left out: no trip calls there", "left out", 1) for name in lost]

@@ -7,7 +7,7 @@ import numpy as np
 
 from ..core.errors import InputError
 from ..core.tables import write_rows
-from .carrying_out import Finished
+from .apply import Finished
 from .new_records import own_routes
 from .plan_file import TAKEN
 from .state import State
@@ -46,9 +46,10 @@ def own_records(state: State) -> Iterator[Record]:
 def too_long(mine: Finished | None, count: int) -> InputError:
     """The fault of a scenario whose file is longer than `ttm` takes."""
     if mine is None:
-        return InputError(f"{TODAY}.csv", f"would have {count:,} records, and ttm takes {MOST_RECORDS:,}")
+        what = f"would have {count:,} records, and ttm takes {MOST_RECORDS:,}"
+        return InputError(f"{TODAY}.csv", what, limit=MOST_RECORDS)
     what = f"takes a scenario file of {count:,} records, and ttm {MOST_RECORDS:,}: change fewer trips, or whole routes"
-    return mine.planned.entry.fault(what, "name", mine.name)
+    return mine.planned.entry.fault(what, "name", mine.name).noting(limit=MOST_RECORDS)
 
 
 def write_scenarios(written: Written, folder: Path) -> list[str]:

@@ -18,8 +18,8 @@ from ..core.tables import names_of as columns_of, records
 from ..gtfs.columns import one_of
 from ..gtfs.tables import Table, joined, no_table, read_table, write_lines, write_table
 from . import new_records as new
+from .apply import Finished
 from .base import Base
-from .carrying_out import Finished
 from .shapes import NAME as SHAPES, Shapes, read_shapes
 from .state import State
 

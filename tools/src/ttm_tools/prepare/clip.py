@@ -18,13 +18,14 @@ from ..core.reading import as_one_line, read_json
 from ..core.tables import rows
 from ..core.text import display_text
 from ..core.times import as_clock
+from ..core.toml_values import nearest_name
 from ..gtfs.calls import Calls, calls_of
 from ..gtfs.columns import distinct, is_group_start, one_of, positions_of, values_of
 from ..gtfs.feeds import Feed, names_in, parents_of
 from ..gtfs.fields import FILES, number, time
+from ..gtfs.likely import places_of
 from ..gtfs.service_days import on_days
 from ..gtfs.tables import Table
-from .likely import places_of
 from .references import leave_out_references, there
 
 Box = tuple[float, float, float, float]  # west, south, east, north in degrees
@@ -82,7 +83,8 @@ def of_routes(feed: Feed, options: Clip) -> Mask:
     for name, wanted, known in (("route", options.routes, kept), ("agency", options.agencies, agencies)):
         lost = [name for name in wanted if name not in set(known)]
         if lost:
-            raise InputError("routes.txt", f"no {name} {display_text(lost[0])}")
+            place = {"column": f"{name}_id", "value": lost[0], "nearest": nearest_name(lost[0], known)}
+            raise InputError("routes.txt", f"no {name} {display_text(lost[0])}").noting(**place)
     among, of = set(options.routes or kept), set(options.agencies or agencies)
     chosen = [route for route, agency in zip(kept, agencies) if route in among and agency in of]
     return one_of(trips["route_id"], chosen)

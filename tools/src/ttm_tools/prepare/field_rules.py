@@ -14,8 +14,8 @@ from ..gtfs.columns import used, values_of
 from ..gtfs.feeds import Feed, stops_of
 from ..gtfs.fields import FILES, Layout, WEEKDAYS, date, number, time
 from ..gtfs.identifiers import KINDS, kind_of
+from ..gtfs.likely import COMMA, PLACES, renamed_columns
 from ..gtfs.tables import Table
-from .likely import COMMA, PLACES, renamed_columns
 from .repair import Repair
 from .report import Repaired
 

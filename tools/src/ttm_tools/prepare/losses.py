@@ -8,12 +8,13 @@ from typing import Iterator, Mapping, Sequence
 import numpy as np
 
 from ..core.errors import InputError
+from ..core.notices import Notice
 from ..core.text import quantity
+from ..gtfs import likely
+from ..gtfs.check import check
 from ..gtfs.feeds import Feed
 from ..gtfs.fields import FILES
 from ..gtfs.service_days import days_of, on_days, runs_by_day, runs_of_trips
-from . import likely
-from .check import check
 from .repair import repair
 from .report import Repaired
 
@@ -21,6 +22,7 @@ MOST_LOST = 0.1  # of a file's records, that one rule may leave out
 FEW_LOST = {"transfers.txt": 10}  # records of a file without which all trips run, that may always be left out
 CALENDARS = ("calendar.txt", "calendar_dates.txt")
 NEEDED = ("stops.txt", "routes.txt", "trips.txt", "stop_times.txt")
+AFTER = "after --repair: "
 NO_LOSS = "same"  # the rule that leaves out a record of which another one is there
 
 
@@ -51,12 +53,13 @@ def losses(before: Mapping[str, int], changes: Sequence[Repaired], feed: Feed) -
     files = ["trips.txt" if it.done.startswith("trip ") else it.file.rpartition("/")[2] for it in lost]
     for (rule, name), count in Counter(zip((change.rule for change in lost), files)).items():
         if count > max(MOST_LOST * before[name], FEW_LOST.get(name, 0)):
-            yield f"rule {rule} removes {count:,} of {quantity(before[name], 'record')} of {name}"
+            text = f"rule {rule} removes {count:,} of {quantity(before[name], 'record')} of {name}"
+            yield Notice(text, "repaired", count)
     for name in NEEDED:
         if not len(feed.get(name)):
-            yield f"{name} has no records"
+            yield Notice(f"{name} has no records", "repaired")
     if not any(len(feed.get(name)) for name in CALENDARS):
-        yield f"{' and '.join(CALENDARS)} have no records"
+        yield Notice(f"{' and '.join(CALENDARS)} have no records", "repaired")
 
 
 def no_runs(feed: Feed, *chosen: datetime.date) -> str | None:
@@ -81,8 +84,8 @@ def sentences(feed: Feed, has_faults: bool) -> Iterator[str]:
     done = repair(feed)
     if any(not fault.is_limit for fault in check(feed)):
         return
-    lines = [*losses(before, done, feed), *(likely.of_days(feed))]
-    yield from (f"after --repair: {line}" for line in lines)
+    for line in (*losses(before, done, feed), *likely.of_days(feed)):
+        yield line.after(AFTER) if isinstance(line, Notice) else f"{AFTER}{line}"
 
 
 def refuse_losses(path: str, before: Mapping[str, int], changes: Sequence[Repaired], feed: Feed, hints: Hints) -> None:
@@ -95,5 +98,15 @@ def refuse_losses(path: str, before: Mapping[str, int], changes: Sequence[Repair
 def refuse_day(path: str, feed: Feed, day: datetime.date | None, hints: Hints) -> None:
     """Ends where no trip runs on the day of the departures."""
     sentence = no_runs(feed, day) if day is not None else None
-    if sentence:
-        raise InputError(path, f"{sentence} ({hints.day})")
+    if sentence and day is not None:
+        found = {"column": "--date", "value": str(day), "nearest": nearest_day(feed, day)}
+        raise InputError(path, f"{sentence} ({hints.day})").noting(**found)
+
+
+def nearest_day(feed: Feed, day: datetime.date) -> str | None:
+    """The day on which a trip runs that is nearest to another one, as ISO 8601 has it; of two the earlier."""
+    days = days_of(feed)
+    busy = np.flatnonzero(runs_by_day(feed, days))
+    if not len(busy):
+        return None
+    return str(days.day(int(busy[np.argmin(np.abs(days.first + busy - day.toordinal()))])))

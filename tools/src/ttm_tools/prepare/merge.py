@@ -6,6 +6,7 @@ from typing import Sequence
 import numpy as np
 
 from ..core.errors import InputError
+from ..core.notices import Notice
 from ..core.text import display_text, quantity
 from ..gtfs.feeds import Feed
 from ..gtfs.fields import FILES, date
@@ -29,7 +30,8 @@ def merge(feeds: Sequence[Feed], same_clock: bool = False) -> tuple[Feed, list[s
         feed.tables |= {name: read_table(name, feed.others[name]) for name in ALSO if name in feed.others}
     refuse_clocks(feeds, same_clock)
     others = [f"{feed.name}/{name}" for feed in feeds for name in sorted(feed.others) if name not in (*ALSO, INFO)]
-    lines += [f"left out, since no rule merges them: {', '.join(others)}"] if others else []
+    if others:
+        lines.append(Notice(f"left out, since no rule merges them: {', '.join(others)}", "left out", len(others)))
     info = feed_info_of([feed.others.get(INFO) for feed in feeds])
     merged = feeds[0]
     lines += name_agency(merged)
@@ -40,7 +42,7 @@ def merge(feeds: Sequence[Feed], same_clock: bool = False) -> tuple[Feed, list[s
         for kind in collided:
             for table in feed.tables.values():
                 rename(table, kind, lambda name: prefix + name)
-            lines.append(f"{feed.name}: the identifiers of all {kind}s begin with {prefix}")
+            lines.append(Notice(f"{feed.name}: the identifiers of all {kind}s begin with {prefix}", "renamed"))
         names = [name for name in (*FILES, *ALSO) if name in merged.tables or name in feed.tables]
         merged = Feed(merged.name, {name: joined(merged.get(name), feed.get(name)) for name in names})
     merged.others = {}
@@ -56,7 +58,8 @@ def refuse_clocks(feeds: Sequence[Feed], same_clock: bool) -> None:
         zones |= {text.strip(): feed.name for text in feed.get("agency.txt").texts("agency_timezone") if text.strip()}
     if len(zones) > 1 and not same_clock:
         zones_stated = ", ".join(f"{display_text(zone)} ({name})" for zone, name in zones.items())
-        raise InputError("agency.txt", f"the feeds have several time zones, {zones_stated}: {HELP}")
+        what = f"the feeds have several time zones, {zones_stated}: {HELP}"
+        raise InputError("agency.txt", what).noting(column="agency_timezone", allowed="one time zone")
 
 
 def name_agency(feed: Feed) -> list[str]:

@@ -6,11 +6,11 @@ import numpy as np
 
 from ..core.times import as_clock
 from ..gtfs.calls import Calls, calls_of
+from ..gtfs.check import faults_in
 from ..gtfs.columns import one_of, values_of
 from ..gtfs.feeds import names_in
 from ..gtfs.fields import number, time
 from ..gtfs.tables import Table
-from .check import faults_in
 from .repair import Repair, Rows
 
 OF_TRIPS = ("no time", "times go back")  # faults of whole trips

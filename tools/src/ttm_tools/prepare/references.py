@@ -6,6 +6,7 @@ import numpy as np
 
 from ..core.arrays import Mask
 from ..core.errors import InputError
+from ..core.notices import Notice
 from ..core.tables import names_of
 from ..core.text import quantity
 from ..gtfs.columns import one_of, used
@@ -42,12 +43,13 @@ def leave_out_references(feed: Feed, before: There) -> list[str]:
             if table is None and name.endswith(".txt") and set(names_of(feed.others[name])) & set(NAMES):
                 table = read_table(name, feed.others[name])
         except InputError as fault:
-            lines.append(f"{name}: copied as it is, since it can't be read ({fault})")
+            lines.append(Notice(f"{name}: copied as it is, since it can't be read ({fault})", "feed"))
         if table is not None and name not in {file for file, _ in GIVEN.values()} | {"stop_times.txt"}:
             counts[name] = left_out(feed, table, named_still(table, gone, feed))
     counts |= leave_out_fares(feed)
     counts_stated = ", ".join(f"{name} {quantity(count, 'record')}" for name, count in counts.items() if count)
-    return [*lines, *([f"removed with what they name: {counts_stated}"] if counts_stated else [])]
+    removed = Notice(f"removed with what they name: {counts_stated}", "left out", sum(counts.values()))
+    return [*lines, *([removed] if counts_stated else [])]
 
 
 def left_out(feed: Feed, table: Table, kept: Mask) -> int:

@@ -5,14 +5,15 @@ from pathlib import Path
 from typing import Collection, Sequence
 
 from ..core.errors import InputError
+from ..core.stop_lists import origins_in
 from ..core.tables import rows
 from ..core.text import display_text
+from ..gtfs import likely
+from ..gtfs.check import check
 from ..gtfs.feeds import read_feed
+from ..gtfs.stops import origins_of_feed
 from ..measures.opportunities import called, columns_of, numbers_of
-from ..parts import origins_in, origins_of_feed
-from ..points import read_points
-from ..prepare import likely
-from ..prepare.check import check
+from ..places.read import read_points
 from ..prepare.losses import Hints, refuse_day
 from .counted import refuse_unknown, unknown_in
 from .settings import Study

@@ -10,12 +10,12 @@ import numpy as np
 
 from ..core.errors import InputError
 from ..core.files import sha256_of_file
+from ..core.scaling import scale_of, times
+from ..core.stop_lists import origins_in
 from ..core.tables import RoundingCounter, names_of, rows as table_rows, write_rows
 from ..core.text import counted, display_text, first_few, quantity, short_number
 from ..measures.opportunities import Counts, OWN_NAME, called, columns_of, identifier_of, read_counts
-from ..core.scaling import scale_of, times
-from ..parts import origins_in
-from ..points import read_points
+from ..places.read import read_points
 from .settings import Study
 from .sources import Sources
 from .stages import Record, Stage

@@ -9,13 +9,14 @@ from pathlib import Path
 from ..core.errors import InputError
 from ..core.files import atomic_folder, copy_file
 from ..core.reading import inside
+from ..core.stop_lists import origins_in, write_stops
 from ..core.text import quantity
 from ..engine.arguments import EngineArguments
 from ..gtfs.feeds import refuse_planned
+from ..gtfs.stops import origins_of_feed
 from ..matrices import BASE, TODAY
-from ..parts import origins_in, origins_of_feed, write_stops
+from ..places import folder as points
 from ..plans import make as plans
-from ..points import study as points
 from ..prepare.clip import Clip
 from .checks import HINTS, check_origins, check_points, check_runs, check_stops, feed_warnings
 from .counted import (

@@ -15,8 +15,8 @@ from ..matrices import Matrix, Seconds, Share, Sums, write_open_matrix
 from ..matrices.chosen import Chosen
 from ..matrices.csv_matrix import CsvMatrix
 from ..core.scaling import unscaled
-from ..parts import PartMatrix, write_whole
-from .cutting import Part
+from ..matrices.parts import PartMatrix, write_whole
+from .parts import Part
 
 MATRIX, CSV = "matrix.omx", "matrix.csv"
 

@@ -6,6 +6,7 @@ from dataclasses import MISSING, dataclass, field
 from typing import Any, Sequence
 
 from ..core import toml_values
+from ..core.question import Setting
 from ..core.times import as_ttm_reads, day_of, is_minute
 from ..core.toml_file import Entry
 from ..core.toml_values import Kind, WrongItem, is_number, taken_if
@@ -28,6 +29,12 @@ class Window:
 def setting(kind: Kind[Any], what: str, example: str, default: Any = None, instead: str | None = None) -> Any:
     """A field of a table: its kind, its meaning, how the template writes it, and its default."""
     return field(default=default, metadata={"kind": kind, "meaning": what, "example": example, "instead": instead})
+
+
+def of_question(known: Setting, what: str) -> Any:
+    """A field for a whole number among the settings of a question, with its range and default."""
+    allowed, default = known.allowed, int(known.default)
+    return setting(toml_values.whole(int(allowed.least), int(allowed.most), allowed.unit), what, str(default), default)
 
 
 def several(kind: Kind[Any], what: str, example: str) -> Any:

@@ -10,7 +10,7 @@ from typing import Any, Sequence
 from .. import __version__
 from ..core.errors import InputError
 from ..core.reading import read_json, regular
-from .results import StudyMatrix
+from .results.tables import StudyMatrix
 from .stages import Record, as_text, logged, sum_of_tools, write_settled
 from .ttm import facts_of
 from .windows import Machine, inputs_of, matrix_of

@@ -9,22 +9,29 @@ from typing import Iterator, Sequence
 from ..core.tables import number_of, records as records_in
 from ..core.text import display_text
 from ..measures.access_table import read_access
-from ..points.grid import OUTSIDE
-from ..points.study import UNREACHED
+from ..places.features import NOT_SUMMED
+from ..places.folder import UNREACHED
+from ..places.grid import OUTSIDE
 from .counted import NOT_COUNTED, REACH_NOTHING
 from .document import Document
-from .maps import AREAS, maps_of
 from .outside import sentence_on_outside
-from .page import PAGE
-from .results import ACCESS_TABLE, Records, StudyMatrix
+from .results.maps import AREAS, maps_of
+from .results.page import PAGE
+from .results.tables import ACCESS_TABLE, Records, StudyMatrix
+from .results.windows import write_changes_by_window, write_windows
 from .settings import Study
 from .stages import Stage
-from .window_results import write_changes_by_window, write_windows
 
 MARKDOWN, HTML, TOLD = "report.md", "report.html", "inputs/told.txt"
 FEW = 10  # origins that lose, and that gain most, which the report names
 MOST_DECIMALS = 6
-MISSED = (OUTSIDE, UNREACHED, NOT_COUNTED, REACH_NOTHING)  # signs of people, jobs or points that the figures miss
+MISSED = (
+    OUTSIDE,
+    UNREACHED,
+    NOT_COUNTED,
+    REACH_NOTHING,
+    NOT_SUMMED,
+)  # signs of people, jobs or points that the figures miss
 OF_PEOPLE = {
     "equity": "Access by groups of people",
     "bands": "People by number of opportunities",

@@ -4,7 +4,7 @@ from dataclasses import dataclass
 
 from ..core.limits import MOST_NUMBER
 from ..core.toml_values import TEXT, ascending, number, one_of, whole
-from ..measures.measure_list import DECAYS
+from ..measures.registry import DECAYS
 from .kinds import TEXTS, flag, setting, several
 
 

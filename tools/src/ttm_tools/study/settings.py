@@ -9,15 +9,29 @@ from typing import Any, get_type_hints
 from ..core.limits import (
     DETOUR,
     MOST_CUTOFF_MINUTES,
-    MOST_DAYS,
     MOST_FOOT_SECONDS,
     MOST_NUMBER,
-    MOST_RIDES,
     MOST_TRIES,
     WALKING_SPEED,
 )
+from ..core.question import DAYS_AFTER, DAYS_BEFORE, MAX_RIDES, MAX_WALK, PERCENTILES
 from ..core.toml_values import TEXT, ascending, number, whole
-from .kinds import BOX, DATE, DATES, FILE, FILES, MINUTE, TEXTS, WINDOWS, Window, flag, needed, setting, several
+from .kinds import (
+    BOX,
+    DATE,
+    DATES,
+    FILE,
+    FILES,
+    MINUTE,
+    TEXTS,
+    WINDOWS,
+    Window,
+    flag,
+    needed,
+    of_question,
+    setting,
+    several,
+)
 from .result_settings import ResultSettings
 
 
@@ -65,10 +79,13 @@ class RunSettings:
         "several windows, instead of from and to: a matrix for each",
         '[{ name = "peak", from = "07:00", to = "08:59" }]',
     )
-    trips: int = setting(whole(1, MOST_RIDES), "the maximum number of vehicles of a journey", "4", 4)
-    walk: int = setting(whole(0, MOST_FOOT_SECONDS, "seconds"), "the longest walk; 0 for none", "600", 600)
+    trips: int = of_question(MAX_RIDES, "the maximum number of vehicles of a journey")
+    walk: int = of_question(MAX_WALK, "the longest walk; 0 for none")
     shares: tuple[int, ...] = setting(
-        ascending(1, 100, "percent"), "the percentiles of the travel times", "[25, 50, 75]", (50,)
+        ascending(PERCENTILES.allowed.least, PERCENTILES.allowed.most, PERCENTILES.allowed.unit),
+        "the percentiles of the travel times",
+        "[25, 50, 75]",
+        (int(PERCENTILES.default),),
     )
     limits: tuple[int, ...] = setting(
         ascending(0, MOST_NUMBER, "seconds"), "limits within which access counts", "[1800]", (1800,)
@@ -79,8 +96,8 @@ class RunSettings:
     origins: str | None = setting(
         FILE, "a file with the column stop_id: where journeys begin; without it, all stops, or points", '"few.csv"'
     )
-    back: int = setting(whole(0, MOST_DAYS, "days"), "service days before the date that count", "1", 1)
-    ahead: int = setting(whole(0, MOST_DAYS, "days"), "service days after the date that count", "1", 1)
+    back: int = of_question(DAYS_BEFORE, "service days before the date that count")
+    ahead: int = of_question(DAYS_AFTER, "service days after the date that count")
     tries: int = setting(whole(1, MOST_TRIES), "how many times a row is attempted", "1", 1)
 
 

@@ -17,7 +17,7 @@ from .. import __version__
 from ..core.console import say
 from ..core.errors import InputError
 from ..core.files import all_in, atomic_path, outputs_noted, remove, sha256_of_file
-from ..shipped import DATA
+from ..core.shipped import DATA
 
 RECORDS = "stages"
 LOCK, MARK = ".lock", "a folder of ttm-tools study\n"

@@ -8,7 +8,7 @@ from pathlib import Path
 from typing import Any, TypeVar
 
 from ..core.toml_file import Entry, LineNumbers, read_entry
-from ..measures.measure_list import DECAYS
+from ..measures.registry import DECAYS
 from .kinds import FILE, FILES
 from .settings import About, NAMES, NEEDED, Study, TABLES
 

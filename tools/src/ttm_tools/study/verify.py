@@ -14,17 +14,18 @@ from ..core.errors import InputError
 from ..core.files import sha256_of_file
 from ..core.limits import MOST_NUMBER
 from ..core.reading import as_one_line
+from ..core.scaling import unscaled
+from ..core.stop_lists import origins_in, write_stops
 from ..core.text import display_text, first_few, quantity
 from ..engine.arguments import EngineArguments
 from ..engine.process import EngineProcess
 from ..matrices import Matrix, open_matrix
 from ..matrices.csv_matrix import CsvMatrix
-from ..core.scaling import unscaled
-from ..parts import origins_in, parts_of, write_stops
+from ..matrices.parts import parts_of
 from .counted import scale_in
-from .cutting import PARTS
 from .joining import CSV, MATRIX
 from .notes import NOTES, read_notes
+from .parts import PARTS
 from .stages import Folder, LOCK, RECORDS, held, room
 from .ttm import found_program, version_of
 from .work import sweep

@@ -6,9 +6,10 @@ from typing import Protocol
 from ..core.tables import write_rows
 from ..core.text import quantity, short_number
 from ..gtfs.stops import read_stops
+from ..places import grid as grids, folder as points
+from ..places.read import read_points
 from ..plans.nearness import sentences_on_nearer
-from ..points import grid as grids, read_points, study as points
-from ..walks import Pace, footpaths_of, walks_of
+from ..streets.walks import Pace, footpaths_of, walks_of
 from .settings import Study
 from .sources import Sources
 from .stages import Stage

@@ -8,12 +8,12 @@ from dataclasses import dataclass, replace
 from typing import Callable, Sequence
 
 from ..engine.arguments import EngineArguments
-from .asking import KeptNetwork
-from .cutting import FIRST, PARTS, Part, Shape, cut_of, parts_for, remove_others, remove_windows, study_key
-from .elsewhere import Means, run_elsewhere
+from .executors.conversation import KeptNetwork
+from .executors.local import Failed, refuse_failed, run_parts
+from .executors.remote import Means, run_elsewhere
 from .inputs import Inputs
 from .joining import CSV, MATRIX, ShownMatrix, join_parts
-from .running import Failed, refuse_failed, run_parts
+from .parts import FIRST, PARTS, Part, Shape, cut_of, parts_for, remove_others, remove_windows, study_key
 from .settings import DayWindow, Study
 from .sources import refuse_other_sums
 from .stages import Folder, Record, Stage

@@ -9,19 +9,19 @@ from ..core.errors import InputError, needs
 from ..core.filenames import sentences_on_names
 from ..core.files import remove, sha256_of_file
 from ..core.locks import is_locked, lock_file
+from ..core.shipped import LEAFLET
 from ..gtfs.stops import read_stops
 from ..matrices import BASE, TODAY, open_matrix
-from ..shipped import LEAFLET
-from ..views.page.document import leaflet_files
+from ..web.page.document import leaflet_files
 from .checks import check_shown
-from .cutting import FIRST, PARTS, remove_others, remove_parts, shape_noted, study_key, trial
-from .elsewhere import Means
+from .executors.remote import Means
 from .inputs import Inputs, make_inputs, sums_of
 from .joining import MATRIX
 from .notes import write_notes
+from .parts import FIRST, PARTS, remove_others, remove_parts, shape_noted, study_key, trial
 from .report import TOLD, day_shown
-from .result_list import make_results
-from .results import StudyMatrix, names_of_scenarios
+from .results.registry import make_results
+from .results.tables import StudyMatrix, names_of_scenarios
 from .settings import Study
 from .stages import Folder, RECORDS, Record, Stage, held, log, refuse_folder, room
 from .ttm import found_program, version_of

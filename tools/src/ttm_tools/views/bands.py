@@ -11,6 +11,7 @@ from ..measures.access_table import AccessKind, AccessTable, by_group
 from ..measures.bands import with_at_least, within_minutes
 from ..measures.opportunities import Counts
 from .access import decimal
+from .classes import TOKENS, from_near
 from .equity import significant
 from .tables import write_table
 from .texts import figure_with, text_alone
@@ -73,11 +74,10 @@ def figure_of(table: AccessTable, kinds: Sequence[AccessKind], people: Counts, l
         there = first_few([kind.label for kind in kinds])
         how = "choose it with --opportunity, --percentile, --cutoff"
         raise InputError(table.path, f"a picture shows one of {there}: {how}")
-    from matplotlib import colormaps
-
     found = list(bands_of(table, kinds, people, limits))
     rows = list(dict.fromkeys((band.group, band.scenario) for band in found))
     labels = labels_of(table, limits, display_text(kinds[0].opportunity))
+    colours = from_near(len(labels))
     high = AROUND + BAR * (len(rows) + len(people.names))
     figure = figure_with(f"People by band: {table.label_of(kinds[0])}", high)
     axes = figure.add_axes((0.24, 0.55 / high, 0.72, 1 - (AROUND - 0.2) / high))
@@ -85,9 +85,9 @@ def figure_of(table: AccessTable, kinds: Sequence[AccessKind], people: Counts, l
         inside = [band.percent for band in found if (band.group, band.scenario) == (group, scenario)]
         begin, at = 0.0, row + people.names.index(group)
         for place, part in enumerate(parts_of(table, inside)):
-            colour = colormaps["viridis"](1 - place / max(1, len(labels) - 1))
             label = labels[place] if row == 0 else None
-            axes.barh(at, part, 0.8, begin, color=colour, edgecolor="#333333", linewidth=0.5, label=label)
+            look: dict[str, Any] = {"color": colours[place], "label": label}
+            axes.barh(at, part, 0.8, begin, edgecolor=TOKENS["mark-edge"], linewidth=0.5, **look)
             begin += part
     ticks = [row + people.names.index(group) for row, (group, _) in enumerate(rows)]
     axes.set(xlim=(0, 100), xlabel="% of the people", yticks=ticks)

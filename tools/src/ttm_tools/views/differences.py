@@ -9,7 +9,7 @@ import numpy.typing as npt
 from ..core.columns import compared
 from ..core.lines import Numerals, Texts, field, fields_as_texts, join_lines, texts_of
 from ..core.tables import write_rows
-from ..core.text import display_text, quantity
+from ..core.text import display_text, quantity, rounded
 from ..gtfs.stops import Stops
 from ..matrices import Pair, Sums
 from ..measures.comparison import (
@@ -88,7 +88,7 @@ def write_origins(
     lines = []
     for row in chosen_origins(first, second, counts, choice):
         before, after = first[row].item(), second[row].item()
-        percent = round(100 * (after - before) / before, 1) if before > 0 else ""
+        percent = rounded(100 * (after - before) / before, 1).replace(",", "") if before > 0 else ""
         name, access = [names[row]] if names else [], map(decimal, (before, after, after - before))
         lines.append([pair.origins[row], *name, *access, percent, *counts[row]])
     write_rows(out, compared(by_pair=False, has_names=names is not None), lines)

@@ -4,61 +4,49 @@ reader needs to know.
 
 import math
 import textwrap
-from dataclasses import dataclass, replace
+from dataclasses import replace
 from typing import Any, Sequence
 
 import numpy as np
 import numpy.typing as npt
-from matplotlib import colormaps, colors
 from matplotlib.backends.backend_agg import FigureCanvasAgg
-from matplotlib.collections import LineCollection
 from matplotlib.figure import Figure
 from matplotlib.lines import Line2D
 from matplotlib.patheffects import withStroke
 
-from ..gtfs.lines import GRID
 from ..gtfs.projection import Projection
 from ..gtfs.stops import Stops
 from .cells import Cells
-from .pictures import NO_ORIGIN, Mark, Picture, round_step
+from .classes import TOKENS, Mark
+from .map_content import NO_ORIGIN, Picture, round_step
+from .map_lines import MapLines, MapPoints, draw_crosses, draw_lines, over_squares
 from .texts import text_alone
 
 MOST_NAMES = 3
-MANY_LINES = 2000  # pieces, from which on lines are drawn thinner
+EDGE_OF_MARK = 0.75 * 0.75  # points
 INCHES = 10  # the picture's width; that of the map, its greatest height, and what stands above it, follow
 MAP_WIDTH, MAP_HEIGHT, HEAD, EDGE = 6.7, 7.0, 0.85, 0.2
 LEAST_HEIGHT = 5.2  # of the picture, so that the key has room
 LEAST_SIDE = 0.5  # kilometres that a map shows
-FAINT, OVER_SQUARES = "#cdcdcd", "#7d7d7d"  # the colours of lines on which vehicles run
-STAR = {"marker": "*", "color": "#111111"}
+INK, SOFT = TOKENS["ink"], TOKENS["soft"]
+STAR = {"marker": "*", "color": INK}
+SHAPES = {
+    "circle": "o",
+    "dot": "o",
+    "down": "v",
+    "up": "^",
+    "cross": "X",
+    "plus": "P",
+    "thin": "x",
+    "diamond": "D",
+    "square": "s",
+}
 LETTERS: dict[str, Any] = {
     "ha": "center",
     "fontsize": 9,
     "zorder": 6,
     "path_effects": [withStroke(linewidth=2.5, foreground="white")],
 }
-STYLES: dict[str, tuple[Any, ...]] = {  # of the lines that a scenario changes: label, colour, width, dashes
-    "taken": ("removed trips", "#222222", 2.0),
-    "changed": ("changed trips", "#882255", 1.6),
-    "added": ("added trips", "#117733", 2.4, (0, (4, 1.5))),
-}
-Pieces = npt.NDArray[np.int32]
-MapPoints = npt.NDArray[np.float64]  # kilometres east and north, NaN where a stop has no place
-
-
-@dataclass(frozen=True)
-class MapLines:
-    """Pieces of lines, and how they are drawn and named."""
-
-    pieces: Pieces
-    label: str
-    colour: str
-    width: float
-    style: str | tuple[int, tuple[float, float]] = "solid"
-
-
-def running(pieces: Pieces) -> MapLines:
-    return MapLines(pieces, "where vehicles run", FAINT, 0.9 if len(pieces) < MANY_LINES else 0.5)
 
 
 @text_alone
@@ -71,10 +59,12 @@ def draw(picture: Picture, stops: Stops, lines: Sequence[MapLines], note: str, w
     write_head(figure, picture)
     if cells.are_there.any():
         lines = over_squares(lines)
+    marked = np.where(cells.are_there[:, None], np.nan, points)
     for number, kind in enumerate(lines):
         draw_lines(axes, kind, 1 + number / 10)
+        draw_crosses(axes, kind, marked, 1.05 + number / 10)
     draw_cells(axes, picture, points, cells)
-    draw_stops(axes, picture, np.where(cells.are_there[:, None], np.nan, points))
+    draw_stops(axes, picture, marked)
     draw_names(axes, picture, stops, points)
     draw_scale(axes)
     draw_key(figure, shaped(picture, cells), points, lines)
@@ -86,24 +76,19 @@ def points_of(stops: Stops, projection: Projection) -> MapPoints:
     return np.stack(projection.kilometres(stops.longitudes, stops.latitudes), axis=1)
 
 
-def over_squares(lines: Sequence[MapLines]) -> list[MapLines]:
-    """Lines in their colours over what is filled."""
-    return [replace(kind, colour=OVER_SQUARES) if kind.colour == FAINT else kind for kind in lines]
-
-
 def write_head(figure: Figure, picture: Picture) -> None:
     """Writes what stands above a map."""
     top, title, subtitle = figure.get_figheight(), shortened(picture.title, 84), shortened(picture.subtitle, 136)
     plain: dict[str, Any] = {"va": "top", "parse_math": False}
     figure.text(EDGE / INCHES, 1 - 0.2 / top, title, fontsize=14.5, fontweight="bold", **plain)
-    figure.text(EDGE / INCHES, 1 - 0.52 / top, subtitle, fontsize=9.5, color="#333333", **plain)
+    figure.text(EDGE / INCHES, 1 - 0.52 / top, subtitle, fontsize=9.5, color=SOFT, **plain)
 
 
 def write_notes(figure: Figure, picture: Picture, note: str) -> None:
     """Writes what stands below the key."""
     beside, low = figure.axes[0].get_position().x1 + EDGE / INCHES, EDGE / figure.get_figheight()
     notes = wrapped(" ".join(filter(None, [picture.source, note])), 44)
-    figure.text(beside, low, notes, fontsize=8, color="#555555", va="bottom", parse_math=False)
+    figure.text(beside, low, notes, fontsize=8, color=SOFT, va="bottom", parse_math=False)
 
 
 def limits_of(points: MapPoints) -> tuple[float, float, float, float]:
@@ -138,13 +123,6 @@ def wrapped(text: str, most: int) -> str:
     return "\n".join(textwrap.fill(line, most) for line in text.split("\n"))
 
 
-def draw_lines(axes: Any, lines: MapLines, order: float) -> None:
-    ends = lines.pieces.reshape(-1, 2, 2) * GRID
-    cap = {"capstyle": "round"} if lines.style == "solid" else {}
-    how: dict[str, Any] = {"colors": lines.colour, "linewidths": lines.width, "linestyles": [lines.style], **cap}
-    axes.add_collection(LineCollection(ends, zorder=order, **how))
-
-
 def mark_size(count: int) -> float:
     """The area of an ordinary mark in square points, so that this many of them don't hide one another."""
     return min(60.0, max(5.0, 60000 / max(1, count)))
@@ -163,17 +141,17 @@ def drawn(picture: Picture, points: MapPoints) -> npt.NDArray[np.bool_]:
     return is_drawn
 
 
-def colour_of(mark: Mark) -> str:
-    if isinstance(mark.colour, str):
-        return mark.colour
-    return str(colors.to_hex(colormaps[mark.colour.scale](mark.colour.place)))
-
-
 def shaped(picture: Picture, cells: Cells) -> Picture:
     """The picture as its key shows it: squares where no mark is drawn."""
     if not cells.are_there.all():
         return picture
-    return replace(picture, marks=[replace(mark, shape="s", size=1.0) for mark in picture.marks])
+    marks = [replace(mark, shape="square", size=1.0, colour=cell_colour(mark)) for mark in picture.marks]
+    return replace(picture, marks=marks)
+
+
+def cell_colour(mark: Mark) -> str:
+    """The colour of a cell; where hardly anything changes there is none but that of the land."""
+    return TOKENS["land"] if mark.colour == TOKENS["none"] else mark.colour
 
 
 def draw_cells(axes: Any, picture: Picture, points: MapPoints, cells: Cells) -> None:
@@ -181,7 +159,7 @@ def draw_cells(axes: Any, picture: Picture, points: MapPoints, cells: Cells) -> 
     here = drawn(picture, points) & cells.are_there
     for above, place in enumerate(order_of_drawing(picture.marks)):
         chosen = np.flatnonzero(here & (picture.classes == place))
-        cells.draw(axes, chosen, points, colour_of(picture.marks[place]), 0.5 + above / 1000)
+        cells.draw(axes, chosen, points, cell_colour(picture.marks[place]), 0.5 + above / 1000)
 
 
 def draw_stops(axes: Any, picture: Picture, points: MapPoints) -> None:
@@ -191,10 +169,10 @@ def draw_stops(axes: Any, picture: Picture, points: MapPoints) -> None:
     for above, place in enumerate(order_of_drawing(picture.marks)):
         mark, chosen = picture.marks[place], points[here & (picture.classes == place)]
         if len(chosen):
-            edge: dict[str, Any] = {"linewidths": 0.35 * min(1, size / 40), "edgecolors": mark.edge}
-            edge = {"linewidths": 1.0} if mark.shape == "x" else edge
-            how = {"s": size * mark.size, "c": colour_of(mark), "marker": mark.shape, "zorder": 3 + above / 100}
-            axes.scatter(chosen[:, 0], chosen[:, 1], **how, **edge)
+            edge: dict[str, Any] = {"linewidths": EDGE_OF_MARK * min(1, size / 40), "edgecolors": mark.edge}
+            edge = {"linewidths": 1.0} if mark.shape == "thin" else edge
+            shape = {"s": size * mark.size**2, "marker": SHAPES[mark.shape], "zorder": 3 + above / 100}
+            axes.scatter(chosen[:, 0], chosen[:, 1], c=mark.colour, **shape, **edge)
 
 
 def draw_names(axes: Any, picture: Picture, stops: Stops, points: MapPoints) -> None:
@@ -224,10 +202,10 @@ def draw_scale(axes: Any) -> None:
     metres = round_step((right - left) * 1000, 5)
     length, x, y = metres / 1000, left + 15 * point, bottom + 17 * point
     ends = ([x, x, x + length, x + length], [y + 4 * point, y, y, y + 4 * point])
-    axes.plot(*ends, color="#222222", linewidth=1.6, zorder=6)
+    axes.plot(*ends, color=INK, linewidth=1.6, zorder=6)
     label = f"{metres // 1000} km" if metres >= 1000 else f"{metres} m"
     axes.text(x + length / 2, y + 6 * point, label, va="bottom", **LETTERS)
-    arrow = {"arrowstyle": "-|>", "color": "#222222"}
+    arrow = {"arrowstyle": "-|>", "color": INK}
     place = (x + length + 30 * point, y + 22 * point)
     axes.annotate("N", place, (0, -24), textcoords="offset points", arrowprops=arrow, **LETTERS)
 
@@ -244,19 +222,19 @@ def write_key(figure: Figure, title: str, classes: list[Any], lines: Sequence[Ma
     star = Line2D([], [], label="origin", linestyle="none", markersize=15, markeredgecolor="white", **STAR)
     handles = [*classes, *[star] * has_star]
     for kind in lines:
-        handles.append(Line2D([], [], color=kind.colour, linewidth=2.0, linestyle=kind.style, label=kind.label))
+        how: dict[str, Any] = {"color": kind.colour, "linewidth": max(1.2, kind.width), "linestyle": kind.style}
+        cross: dict[str, Any] = {"marker": "x", "markersize": kind.cross} if kind.cross else {}
+        handles.append(Line2D([], [], label=kind.label, **how, **cross))
     map_place = figure.axes[0].get_position()
     corner = (map_place.x1 + EDGE / INCHES, map_place.y1)
     place = {"loc": "upper left", "bbox_to_anchor": corner, "borderaxespad": 0, "alignment": "left"}
-    how = {"frameon": False, "fontsize": 9.5, "title_fontsize": 10.5, "labelspacing": 0.75}
-    key = figure.legend(handles=handles, title=wrapped(title, 32), **how, **place)
+    texts = {"frameon": False, "fontsize": 9.5, "title_fontsize": 10.5, "labelspacing": 0.75}
+    key = figure.legend(handles=handles, title=wrapped(title, 32), **texts, **place)
     key.get_title().set_fontweight("bold")
 
 
 def handle(mark: Mark, label: str) -> Line2D:
     """What the key shows of a class."""
-    cross, colour = mark.shape == "x", colour_of(mark)
-    edge = {"markeredgecolor": colour if cross else mark.edge, "markeredgewidth": 1.2 if cross else 0.5}
-    size = 9 * math.sqrt(max(mark.size, 0.3))
-    how = {"marker": mark.shape, "linestyle": "none", "markersize": size, "markerfacecolor": colour}
-    return Line2D([], [], label=label, **how, **edge)
+    edge = {"markeredgecolor": mark.edge, "markeredgewidth": 1.2 if mark.shape == "thin" else EDGE_OF_MARK}
+    how = {"marker": SHAPES[mark.shape], "linestyle": "none", "markerfacecolor": mark.colour}
+    return Line2D([], [], label=label, markersize=9 * max(mark.size, 0.55), **how, **edge)

@@ -7,9 +7,9 @@ from ..core.arrays import Floats
 from ..core.columns import OF_PEOPLE, names_of
 from ..core.errors import InputError
 from ..measures.access_table import AccessKind, AccessTable, by_group
-from ..measures.fairness import Concentration, Poverty, Theil, theil_of_all
-from ..measures.measure_list import FAIRNESS
+from ..measures.inequality import Concentration, Poverty, Theil, theil_of_all
 from ..measures.opportunities import Counts
+from ..measures.registry import FAIRNESS
 from .equity import significant
 from .tables import write_table
 

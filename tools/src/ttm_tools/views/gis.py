@@ -24,7 +24,7 @@ from ..gtfs.stops import Stops
 from ..matrices import Matrix, Share
 from ..measures.access import nearest
 from ..measures.opportunities import Counts
-from ..points.areas import geometry_of, squares_of
+from ..places.areas import geometry_of, squares_of
 from .access import decimal
 
 LAYER = "stops"

@@ -8,13 +8,15 @@ from matplotlib.figure import Figure
 from matplotlib.patches import Patch
 from matplotlib.path import Path
 
+from ..core.text import rounded
 from . import drawing
 from .cells import path_along
+from .classes import from_near
 from .isochrones import AreaGround, polygons_in
-from .pictures import Mark, Picture, shades
+from .map_content import Picture
+from .map_lines import MapLines, draw_lines, over_squares
 from .texts import text_alone
 
-BANDS = (15.0, 30.0, 45.0, 60.0)  # minutes
 Band = tuple[float, Any]  # minutes, and what is reached within them, as a shape in kilometres
 
 
@@ -29,7 +31,7 @@ def path_of(shape: Any) -> Path | None:
 def draw_bands(
     picture: Picture,
     ground: AreaGround,
-    lines: Sequence[drawing.MapLines],
+    lines: Sequence[MapLines],
     note: str,
     width: int,
     bands: Sequence[Band],
@@ -40,15 +42,15 @@ def draw_bands(
     corners = [path.vertices for path in paths if path is not None]
     figure, axes = drawing.empty_map(drawing.limits_of(np.concatenate([points[ground.placed], *corners])), width)
     drawing.write_head(figure, picture)
-    colours = [drawing.colour_of(Mark("", shade)) for shade in shades(len(bands))]
+    colours = from_near(len(bands))
     for above, (path, colour) in enumerate(reversed(list(zip(paths, colours)))):
         if path is not None:
             axes.add_collection(PathCollection([path], facecolors=colour, edgecolors="none", zorder=0.5 + above / 1000))
-    for number, kind in enumerate(drawing.over_squares(lines)):
-        drawing.draw_lines(axes, kind, 1 + number / 10)
+    for number, kind in enumerate(over_squares(lines)):
+        draw_lines(axes, kind, 1 + number / 10)
     drawing.draw_names(axes, picture, ground.stops, points)
     drawing.draw_scale(axes)
-    labels = [f"up to {minutes:g} minutes: {shape.area:,.1f} km²" for minutes, shape in bands]
+    labels = [f"up to {minutes:g} minutes: {rounded(shape.area, 1)} km²" for minutes, shape in bands]
     key = [Patch(facecolor=colour, label=label) for label, colour in zip(labels, colours)]
     drawing.write_key(figure, picture.key, key, lines, True)
     drawing.write_notes(figure, picture, note)

@@ -15,21 +15,25 @@ import numpy as np
 from ..core.arrays import Floats
 from ..core.errors import InputError
 from ..core.limits import DETOUR, WALKING_SPEED
+from ..core.progress import reported
+from ..core.question import MAX_WALK
 from ..core.text import display_text
 from ..gtfs.projection import Projection
 from ..gtfs.stops import Stops
 from ..matrices import Matrix, Share
 from ..measures.opportunities import Counts
-from ..points.features import AREAS, POLYGONS, read_frame, text_of, valid
-from ..walks import Pace
-from ..walks.osm import read_streets
-from ..walks.reach import GrowingStrip, Reach, reach_of
+from ..places.features import AREAS, POLYGONS, read_frame, text_of, valid
+from ..streets.osm import read_streets
+from ..streets.reach import GrowingStrip, Reach, reach_of
+from ..streets.walks import Pace
 from .gis import whole, write_features, write_layer
 
 LAYER = "isochrones"
 QUARTER = 12  # corners of a quarter of a circle
 ASIDE = 50.0  # metres to both sides of a street that one reaches
 DECIMALS = 6  # of degrees, some tenths of a metre
+SLIVER = 0.0005  # kilometres: half the width of a gap that counts as none, above what rounding to DECIMALS moves
+MITRE = 2  # shapely's number for the style of corners that keeps them square
 
 
 @dataclass(frozen=True)
@@ -38,7 +42,7 @@ class Walking:
 
     speed: float = WALKING_SPEED  # metres a second
     detour: float = DETOUR  # metres of way for a metre of straight line
-    most: float = 600.0  # seconds
+    most: float = MAX_WALK.default  # seconds
 
 
 @dataclass(frozen=True)
@@ -111,16 +115,25 @@ class AreaGround:
             longitudes, latitudes = self.projection.degrees(east, north)
             return np.round(longitudes, DECIMALS), np.round(latitudes, DECIMALS)
 
-        area = make_valid(transform(degrees, shape)) if not shape.is_empty else shape
+        area = shape if shape.is_empty else transform(degrees, shape)
+        if not area.is_valid:
+            # Squares around rounded middles leave slivers between them, for which `make_valid` would drop squares.
+            area = make_valid(transform(degrees, without_slivers(shape)))
         return MultiPolygon(polygons_in(area))
 
 
+def without_slivers(shape: Any) -> Any:
+    """Return the shape with gaps of up to twice `SLIVER` closed."""
+    return shape.buffer(SLIVER, join_style=MITRE).buffer(-SLIVER, join_style=MITRE)
+
+
 def polygons_in(shape: Any) -> list[Any]:
-    """The polygons of a shape, their outer rings against the clock."""
+    """The polygons of a shape, also those of collections in it, their outer rings against the clock."""
     from shapely.geometry.polygon import orient
 
-    parts = getattr(shape, "geoms", [shape])
-    return [orient(part) for part in parts if part.geom_type == "Polygon" and not part.is_empty]
+    if hasattr(shape, "geoms"):
+        return [polygon for part in shape.geoms for polygon in polygons_in(part)]
+    return [orient(shape)] if shape.geom_type == "Polygon" and not shape.is_empty else []
 
 
 def ground_of(stops: Stops, polygons: Mapping[str, Any]) -> AreaGround:
@@ -186,7 +199,8 @@ class Bands:
 def isochrones_of(matrix: Matrix, ground: AreaGround, bands: Bands, counts: Counts | None) -> list[Isochrone]:
     """The isochrones of each scenario, share and band, in this order; ground and counts are of the matrix's stops."""
     areas, ground = list[Isochrone](), ground.around(bands.origin)
-    for scenario, share in itertools.product(bands.scenarios, bands.shares):
+    every = list(itertools.product(bands.scenarios, bands.shares))
+    for scenario, share in reported(every, len(every), "scenarios and percentiles"):
         seconds = matrix.seconds(scenario, share, bands.origin).astype(np.float64)
         limits = [round(minutes * 60) for minutes in bands.minutes]
         shapes = ground.shapes_within(seconds, limits, bands.walking)
@@ -216,6 +230,17 @@ def write_geojson(out: BinaryIO, isochrones: Sequence[Isochrone], origin: str) -
     from shapely.geometry import mapping
 
     write_features(out, ((mapping(area.shape), properties_of(area, origin)) for area in widest_first(isochrones)))
+
+
+def collection_of(isochrones: Sequence[Isochrone], origin: str) -> dict[str, Any]:
+    """The areas as a FeatureCollection of GeoJSON."""
+    from shapely.geometry import mapping
+
+    features = [
+        {"type": "Feature", "geometry": mapping(area.shape), "properties": properties_of(area, origin)}
+        for area in widest_first(isochrones)
+    ]
+    return {"type": "FeatureCollection", "features": features}
 
 
 def write_geopackage(path: str, isochrones: Sequence[Isochrone], origin: str) -> None:

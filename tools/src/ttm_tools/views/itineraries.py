@@ -5,7 +5,7 @@ from typing import Iterator, Sequence
 
 from ..core.columns import JOURNEYS
 from ..core.text import display_text
-from ..measures.journeys import Leg
+from ..journeys.search import Leg
 from .journeys import ExplainOptions, Found
 
 

@@ -4,14 +4,23 @@ import itertools
 from dataclasses import dataclass
 from typing import Iterator, Mapping, Sequence
 
-from ..core.tables import rows
 from ..core.text import display_text, quantity
 from ..core.times import as_clock
-from ..gtfs.stops import has_file, in_folder
+from ..gtfs.route_names import routes_called
+from ..gtfs.stops import has_file
 from ..gtfs.timetable import DAY, Runs, Timetable
-from ..measures.journeys import Leg
+from ..journeys.search import Leg
 
 GAP = "   "
+
+
+@dataclass(frozen=True)
+class Option:
+    """A journey that some departure has."""
+
+    departure: int  # seconds on the axis
+    seconds: int
+    legs: list[Leg]
 
 
 @dataclass(frozen=True)
@@ -22,6 +31,7 @@ class Found:
     chosen: int | None  # the place of the departure whose duration the cell is
     legs: list[Leg]
     runs: Runs
+    options: Sequence[Option] = ()  # the journey of the cell, or each that is the fastest of some departure
 
 
 @dataclass(frozen=True)
@@ -47,17 +57,6 @@ class ExplainOptions:
 def span(seconds: int) -> str:
     """A duration in minutes and seconds."""
     return f"{seconds // 60}:{seconds % 60:02}"
-
-
-def routes_called(folder: str) -> dict[str, str]:
-    """What people call each route: its short name, its long one, or else its identifier."""
-    names = ("route_short_name", "route_long_name")
-    found = rows(in_folder(folder, "routes.txt"), ["route_id"], names)
-    return {route: name_of(route, short, long) for _, (route, short, long) in found}
-
-
-def name_of(route: str, short: str, long: str) -> str:
-    return display_text(short.strip() or long.strip() or route)
 
 
 def with_identifiers(names: Mapping[str, str]) -> dict[str, str]:

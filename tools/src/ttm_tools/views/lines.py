@@ -6,10 +6,10 @@ import os
 from dataclasses import dataclass
 from typing import Sequence
 
-from ..gtfs.lines import pieces
+from ..gtfs.shapes import pieces
 from ..matrices import TODAY
-from .drawing import STYLES, MapLines, running
-from .page.lines import DrawnLines, name_of, on_grid, plan_files
+from ..web.page.lines import DrawnLines, name_of, on_grid, plan_files
+from .map_lines import MapLines, running, styled
 
 
 @dataclass(frozen=True)
@@ -47,7 +47,7 @@ def lines_of_edits(drawn: DrawnLines, edits: Sequence[str], base: str | None) ->
     gone, new = changed_trips({name_of(path): drawn.removed(path) for path in edits}, base)
     for kind, chosen in (("taken", gone), ("added", new)):
         found = drawn.pieces(chosen)
-        lines += [MapLines(found, *STYLES[kind])] if len(found) or kind == "taken" and not new else []
+        lines += [styled(kind, found)] if len(found) or kind == "taken" and not new else []
     return lines
 
 
@@ -59,5 +59,5 @@ def lines_of_plan(drawn: DrawnLines, planned: Planned) -> list[MapLines]:
     change = on_grid(drawn.pieces(after - before), drawn.pieces(before - after))
     for kind in ("changed", "taken", "added") if planned.loses else ("added",):
         found = getattr(change, kind)
-        lines += [MapLines(found, *STYLES[kind])] if len(found) else []
+        lines += [styled(kind, found)] if len(found) else []
     return lines

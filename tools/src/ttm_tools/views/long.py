@@ -107,11 +107,18 @@ def minutes(seconds: int) -> bytes:
     return b"%r" % round(seconds / 60, 2)
 
 
-def type_of(column: str) -> str:
-    """The type of a column as QGIS reads it from a file next to a CSV."""
-    if column in ("share", "seconds", "within", "access"):
+def type_of(column: str, has_decimals: bool) -> str:
+    """The type of a column as QGIS reads it from a file next to a CSV; of access by whether it has decimals."""
+    if column in ("share", "seconds", "within") or column == "access" and not has_decimals:
         return "Integer"
-    return "Real" if column.endswith(("_lat", "_lon")) or column.startswith("travel_time") else "String"
+    is_real = column == "access" or column.endswith(("_lat", "_lon")) or column.startswith("travel_time")
+    return "Real" if is_real else "String"
+
+
+def has_decimals(matrix: Matrix, choice: TableChoice) -> bool:
+    """Whether the chosen access is of numbers with decimals."""
+    keys = [(scenario, share) for scenario in choice.scenarios for share in choice.shares]
+    return any(matrix.access(*key).dtype.kind == "f" for key in keys)
 
 
 def safe(text: str) -> str:

@@ -7,17 +7,19 @@ import numpy as np
 
 from ..core.console import say
 from ..core.errors import InputError
-from ..core.text import display_text
+from ..core.text import display_text, quantity, rounded
 from ..gtfs.projection import Projection
 from ..gtfs.stops import Stops
 from ..matrices import Matrix
-from . import drawing, pictures
-from .isochrone_map import BANDS, draw_bands
+from ..web.page.lines import DrawnLines
+from . import drawing, map_content
+from .classes import BANDS
+from .isochrone_map import draw_bands
 from .isochrones import AreaGround, Walking
 from .lines import Planned, lines_of_edits, lines_of_plan
+from .map_content import Picture, PictureOptions
+from .map_lines import MapLines
 from .nearest import Nearest, picture_of_nearest, picture_of_nearest_difference
-from .page.lines import DrawnLines
-from .pictures import Picture, PictureOptions
 
 
 @dataclass(frozen=True)
@@ -52,13 +54,13 @@ def picture_of(
     elif what is not None:
         picture = picture_of_nearest_difference(matrix, stops, options, what)
     elif kind == "access":
-        picture = pictures.picture_of_access(matrix, stops, options)
+        picture = map_content.picture_of_access(matrix, stops, options)
     elif origin is None:
-        picture = pictures.picture_of_access_difference(matrix, stops, options)
+        picture = map_content.picture_of_access_difference(matrix, stops, options)
     elif kind == "times":
-        picture = pictures.picture_of_times(matrix, stops, origin, options)
+        picture = map_content.picture_of_times(matrix, stops, origin, options)
     else:
-        picture = pictures.picture_of_time_difference(matrix, stops, origin, options)
+        picture = map_content.picture_of_time_difference(matrix, stops, origin, options)
     return replace(picture, what=options.what)
 
 
@@ -68,17 +70,23 @@ def figure_of(picture: Picture, matrix: Matrix, stops: Stops, folder: str, sheet
     lost = int((~shown_stops.placed).sum())
     if lost == len(shown_stops.identifiers):
         raise InputError(stops.path, "no stop has stop_lat and stop_lon, so there is nothing to draw")
-    if lost:
-        say(f"{lost} {picture.what} have no stop_lat and stop_lon and are not drawn")
+    say_unplaced(lost, picture.what)
     projection = Projection(shown_stops.latitudes, shown_stops.longitudes)
     lines, note = lines_below(folder, stops, projection, sheet, base)
     picture = replace(picture, title=sheet.title or picture.title)
     return drawing.draw(picture, shown_stops, lines, note, sheet.width)
 
 
+def say_unplaced(count: int, what: str) -> None:
+    """Reports how many stops or points a map leaves out, since nothing says where they are."""
+    if count:
+        has, are = ("has", "is") if count == 1 else ("have", "are")
+        say(f"{quantity(count, what.removesuffix('s'))} {has} no stop_lat and stop_lon and {are} not drawn")
+
+
 def lines_below(
     folder: str, stops: Stops, projection: Projection, sheet: Sheet, base: str | None
-) -> tuple[list[drawing.MapLines], str]:
+) -> tuple[list[MapLines], str]:
     """The lines on which vehicles run, and what is said of them."""
     drawn = DrawnLines(folder, stops, projection)
     if sheet.planned is None:
@@ -103,9 +111,10 @@ def figure_of_isochrones(matrix: Matrix, stops: Stops, folder: str, sheet: Sheet
     limits, ground = areas.options.breaks or BANDS, areas.ground.around(areas.origin)
     shapes = ground.shapes_within(seconds, [round(60 * minutes) for minutes in limits], areas.walking)
     bands = list(zip(limits, shapes))
+    say_unplaced(int((~ground.placed).sum()), areas.options.what)
     title = sheet.title or f"Areas reached from {stops.of([areas.origin]).name_of(areas.origin)}"
-    subtitle = f"{bands[-1][1].area:,.1f} km² within {bands[-1][0]:g} minutes"
-    source, place = pictures.source_of(display_text(scenario), share, matrix), there.places.get(areas.origin)
+    subtitle = f"{rounded(bands[-1][1].area, 1)} km² within {bands[-1][0]:g} minutes"
+    source, place = map_content.source_of(display_text(scenario), share, matrix), there.places.get(areas.origin)
     picture = Picture(title, subtitle, "Reached within", [], np.zeros(0, np.intp), source, place)
     lines, note = lines_below(folder, stops, ground.projection, sheet, None)
     return draw_bands(picture, ground, lines, note, sheet.width, bands)

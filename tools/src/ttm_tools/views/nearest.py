@@ -10,8 +10,10 @@ from ..core.text import display_text, singular
 from ..gtfs.stops import Stops
 from ..matrices import Matrix, Share, pair_of
 from ..measures.access import nearest
-from . import pictures
-from .pictures import MINUTES, MINUTES_OF_DIFFERENCE, Picture, PictureOptions
+from . import map_content
+from .access import decimal
+from .classes import MINUTES, MINUTES_OF_CHANGE
+from .map_content import Picture, PictureOptions
 
 
 @dataclass(frozen=True)
@@ -22,7 +24,7 @@ class Nearest:
 
     def label(self) -> str:
         """As it stands in a title."""
-        return f"nearest {self.thing()}" if self.count == 1 else f"{self.count:g} nearest {self.thing()}"
+        return f"nearest {self.thing()}" if self.count == 1 else f"{decimal(self.count)} nearest {self.thing()}"
 
     def thing(self) -> str:
         """What is looked for, in the singular if it is one."""
@@ -38,14 +40,14 @@ def picture_of_nearest(matrix: Matrix, options: PictureOptions, what: Nearest) -
     """The time from each origin to the nearest, in classes of minutes."""
     scenario, share = matrix.scenario(options.scenario or options.base), matrix.share(options.share)
     seconds = what.seconds(matrix, scenario, share)
-    marks, classes = pictures.classes_of_minutes(seconds, options.breaks or MINUTES)
+    marks, classes = map_content.classes_of_minutes(seconds, options.breaks or MINUTES)
     there = ~np.isnan(seconds)
-    subtitle = f"{there.sum():,} of {len(there):,} {options.what} reach at least {what.count:g} {what.thing()}"
+    subtitle = f"{there.sum():,} of {len(there):,} {options.what} reach at least {decimal(what.count)} {what.thing()}"
     if there.any():
         subtitle += f", half of these within {math.ceil(float(np.median(seconds[there])) / 60)} minutes"
-    title, source = f"Travel time to the {what.label()}", pictures.source_of(display_text(scenario), share, matrix)
-    picture = Picture(title, subtitle, pictures.KEY_OF_TIMES, marks, classes, source)
-    return pictures.of_all(picture, matrix, matrix.origins(scenario, share), options)
+    title, source = f"Travel time to the {what.label()}", map_content.source_of(display_text(scenario), share, matrix)
+    picture = Picture(title, subtitle, map_content.KEY_OF_TIMES, marks, classes, source)
+    return map_content.of_all(picture, matrix, matrix.origins(scenario, share), options)
 
 
 def picture_of_nearest_difference(matrix: Matrix, stops: Stops, options: PictureOptions, what: Nearest) -> Picture:
@@ -53,13 +55,13 @@ def picture_of_nearest_difference(matrix: Matrix, stops: Stops, options: Picture
     pair = pair_of(matrix, options.base, options.scenario, options.share)
     before = what.seconds(matrix, pair.base, pair.share)[pair.before]
     after = what.seconds(matrix, pair.other, pair.share)[pair.after]
-    marks, classes, subtitle = pictures.changes_of_times(before, after, options)
+    marks, classes, subtitle = map_content.changes_of_times(before, after, options)
     cut_off = np.isnan(after) & ~np.isnan(before)
-    gain = np.where(cut_off, -np.inf, pictures.minutes_gained(before, after))
-    least = (options.breaks or MINUTES_OF_DIFFERENCE)[0]
-    order = np.argsort(gain, kind="stable")[: pictures.MOST_WORST]
+    gain = np.where(cut_off, -np.inf, map_content.minutes_gained(before, after))
+    least = (options.breaks or MINUTES_OF_CHANGE)[0]
+    order = np.argsort(gain, kind="stable")[: map_content.MOST_WORST]
     worst = [pair.origins[row] for row in order[gain[order] <= -least].tolist()]
-    title = f"Travel time to the {what.label()}: {pictures.beside(pair)}"
-    source = pictures.source_of(pictures.beside(pair), pair.share, matrix)
-    picture = Picture(title, subtitle, pictures.KEY_OF_CHANGES, marks, classes, source)
-    return pictures.with_names(pictures.of_all(picture, matrix, pair.origins, options), worst, stops)
+    title = f"Travel time to the {what.label()}: {map_content.beside(pair)}"
+    source = map_content.source_of(map_content.beside(pair), pair.share, matrix)
+    picture = Picture(title, subtitle, map_content.KEY_OF_CHANGES, marks, classes, source)
+    return map_content.with_names(map_content.of_all(picture, matrix, pair.origins, options), worst, stops)

@@ -1,97 +1,21 @@
 """What is shown of service: tables by route and direction, by route, in all, or by stop; what a scenario costs."""
 
-from dataclasses import dataclass, fields
-from typing import Any, BinaryIO, Iterator, Mapping, Sequence
+from dataclasses import fields
+from typing import Any, BinaryIO, Iterator, Sequence
 
 import numpy as np
 
-from ..core.arrays import Whole
+from ..api.service import Day, Groups, ServiceLine
 from ..core.columns import SERVICE, SERVICE_OF_STOPS, names_of
-from ..core.tables import rows, write_rows
-from ..core.text import display_text, quantity
+from ..core.notices import Notice
+from ..core.tables import write_rows
+from ..core.text import display_text, quantity, rounded
 from ..core.times import as_clock
-from ..gtfs.stops import in_folder
-from ..gtfs.timetable import Timetable
 from ..measures.columns import header
-from ..measures.service import Period, Service, ServiceRuns, departures_by_stop, headway_stops, service_of
+from ..measures.service import Period, Service, departures_by_stop, service_of
 from .equity import significant
-from .journeys import routes_called
 
-DIRECTION, ROUTE, ALL, STOP = "direction", "route", "all", "stop"
-
-
-@dataclass(frozen=True)
-class Groups:
-    """The routes, or directions of routes, of which lines report."""
-
-    keys: list[tuple[str, str]]  # route and direction, "" for all
-    of_trip: Whole  # for each trip the place of its key
-    by: str
-    names: dict[str, str]  # of routes
-
-
-@dataclass(frozen=True)
-class Day:
-    """What runs in each scenario, by its name, on one day."""
-
-    timetable: Timetable
-    running: dict[str, ServiceRuns]
-    periods: list[Period]
-
-
-@dataclass(frozen=True)
-class ServiceLine:
-    scenario: str
-    key: tuple[str, str]
-    period: Period
-    service: Service
-
-
-def groups_of(timetable: Timetable, by: str, scenarios: Sequence[str]) -> Groups:
-    """Directions of routes, routes, or all trips as one, in the order of their routes in trips.txt. What a scenario of
-    a plan adds to a route, under the route's name with an @ and its own behind it, is of that route.
-    """
-    folder = timetable.folder
-    names = routes_called(folder)
-    directions = [fields[1] for _, fields in rows(in_folder(folder, "trips.txt"), ["trip_id"], ["direction_id"])]
-    own = {route: route_of(route, names, scenarios) for route in names}
-    keys = [
-        ("", "") if by == ALL else (own.get(route, route), "" if by == ROUTE else direction.strip())
-        for route, direction in zip(timetable.routes, directions)
-    ]
-    known = {key: place for place, key in enumerate(dict.fromkeys(keys))}
-    return Groups(list(known), np.array([known[key] for key in keys], dtype=np.int64), by, names)
-
-
-def route_of(route: str, names: Mapping[str, str], scenarios: Sequence[str]) -> str:
-    """The route that a route is of: another, where a scenario of a plan added it to that one."""
-    base = next((route.removesuffix(f"@{name}") for name in scenarios if route.endswith(f"@{name}")), route)
-    return base if base in names else route
-
-
-def lines_of(day: Day, groups: Groups) -> Iterator[ServiceLine]:
-    """A line for each group, period and scenario, scenarios below each other; none where nothing runs in any."""
-    stops = stops_of(day, groups)
-    for place, key in enumerate(groups.keys):
-        chosen = {name: groups.of_trip[runs.trip] == place for name, runs in day.running.items()}
-        for period in day.periods:
-            lines = [
-                ServiceLine(name, key, period, service_of(runs, chosen[name], period, int(stops[name][place])))
-                for name, runs in day.running.items()
-            ]
-            if any(line.service.departures for line in lines):
-                yield from lines
-
-
-def stops_of(day: Day, groups: Groups) -> dict[str, Whole]:
-    """For each scenario the stops whose headways are those of the groups; both directions together have none."""
-    if groups.by != DIRECTION:
-        return {name: np.full(len(groups.keys), -1, dtype=np.int64) for name in day.running}
-    count = len(day.timetable.stops)
-    return {
-        name: headway_stops(runs, groups.of_trip[runs.trip], len(groups.keys), count)
-        for name, runs in day.running.items()
-    }
+SINGULAR = {"departures": "departure", "vehicles at once": "vehicle at once"}
 
 
 def period_shown(period: Period) -> str:
@@ -105,7 +29,21 @@ def texts_of(service: Service) -> list[str]:
 def text_of(number: float, is_time: bool = False, decimals: int = 4, **_: Any) -> str:
     if is_time:
         return "" if np.isnan(number) else as_clock(int(number))
-    return str(number) if isinstance(number, int) else significant(round(number, decimals))
+    return str(number) if isinstance(number, int) else significant(round(number, decimals) or number)
+
+
+def value_of(number: float, is_time: bool = False, decimals: int = 4, **_: Any) -> object:
+    """The same number for programs: None for none, and a time as a text."""
+    if np.isnan(number):
+        return None
+    return as_clock(int(number)) if is_time else number if isinstance(number, int) else round(number, decimals)
+
+
+def line_values(line: ServiceLine, groups: Groups) -> dict[str, object]:
+    """A line of the table for programs, by its columns."""
+    named = dict(zip(names_of(SERVICE), named_of(line, groups)))
+    numbers = {own.name: value_of(getattr(line.service, own.name), **own.metadata) for own in fields(Service)}
+    return {**{name: text or None for name, text in named.items()}, **numbers}
 
 
 def write_lines(out: BinaryIO, lines: Iterator[ServiceLine], groups: Groups) -> None:
@@ -113,17 +51,23 @@ def write_lines(out: BinaryIO, lines: Iterator[ServiceLine], groups: Groups) -> 
 
 
 def fields_of(line: ServiceLine, groups: Groups) -> list[str]:
+    return [*named_of(line, groups), *texts_of(line.service)]
+
+
+def named_of(line: ServiceLine, groups: Groups) -> list[str]:
+    """The scenario, route, direction and period of a line."""
     route, direction = line.key
-    named = [line.scenario, route, groups.names.get(route, ""), direction]
-    return [*named, period_shown(line.period), *texts_of(line.service)]
+    return [line.scenario, route, groups.names.get(route, ""), direction, period_shown(line.period)]
 
 
 def write_stops(out: BinaryIO, day: Day) -> None:
     """Writes the table by stop: each at which a vehicle leaves in some scenario."""
-    write_rows(out, names_of(SERVICE_OF_STOPS), stop_fields(day))
+    lines = ([*named, str(count), significant(an_hour)] for *named, count, an_hour in stop_values(day))
+    write_rows(out, names_of(SERVICE_OF_STOPS), lines)
 
 
-def stop_fields(day: Day) -> Iterator[list[str]]:
+def stop_values(day: Day) -> Iterator[tuple[str, str, str, str, int, float]]:
+    """The columns of the table by stop, numbers as numbers."""
     all_stops, stops = day.timetable.all_stops, day.timetable.stops
     for period in day.periods:
         found = {name: departures_by_stop(runs, period, len(stops)) for name, runs in day.running.items()}
@@ -131,7 +75,7 @@ def stop_fields(day: Day) -> Iterator[list[str]]:
             counts = {name: int(counts[place]) for name, counts in found.items()}
             for name, count in counts.items() if any(counts.values()) else ():
                 known = all_stops.names[all_stops.places[stop]]
-                yield [name, stop, known, period_shown(period), str(count), significant(count / period.hours)]
+                yield name, stop, known, period_shown(period), count, count / period.hours
 
 
 def costs_stated(day: Day) -> list[str]:
@@ -139,12 +83,18 @@ def costs_stated(day: Day) -> list[str]:
     whole = Period(min(period.start for period in day.periods), max(period.end for period in day.periods))
     every = {name: np.ones(len(runs.trip), dtype=np.bool_) for name, runs in day.running.items()}
     (base, first), *others = ((name, service_of(runs, every[name], whole, -1)) for name, runs in day.running.items())
-    lines = [f"{display_text(base)}: {', '.join(f'{number} {what}' for what, number in numbers_of(first))}"]
+    lines = [f"{display_text(base)}: {', '.join(map(counts_stated, numbers_of(first)))}"]
     for name, service in others:
         pairs = zip(numbers_of(first), numbers_of(service))
         parts = [f"{what} {before} to {after}" for (what, before), (_, after) in pairs]
         lines.append(f"{display_text(name)} compared with {display_text(base)}: {', '.join(parts)}")
     return [*lines, *sentences_on_unplaced(day)]
+
+
+def counts_stated(counted: tuple[str, str]) -> str:
+    """A number and what it counts, in the singular if it is 1."""
+    what, number = counted
+    return f"{number} {SINGULAR.get(what, what) if number == '1' else what}"
 
 
 def sentences_on_unplaced(day: Day) -> list[str]:
@@ -156,13 +106,14 @@ def sentences_on_unplaced(day: Day) -> list[str]:
     runs = np.isin(np.repeat(np.arange(len(counts)), counts), called)
     lost = int((~stops.placed[np.unique(events.stop[runs])]).sum())
     what = "kilometres and speeds are those of straight lines between the others"
-    return [f"vehicles call at {quantity(lost, 'stop')} without coordinates: {what}"] if lost else []
+    text = f"vehicles call at {quantity(lost, 'stop')} without coordinates: {what}"
+    return [Notice(text, "place", lost)] if lost else []
 
 
 def numbers_of(service: Service) -> Sequence[tuple[str, str]]:
     return [
         ("departures", f"{service.departures:,}"),
         ("vehicles at once", f"{service.vehicles:,}"),
-        ("vehicle hours", f"{service.vehicle_hours:,.1f}"),
-        ("vehicle kilometres", f"{service.vehicle_kilometres:,.1f}"),
+        ("vehicle hours", rounded(service.vehicle_hours, 1)),
+        ("vehicle kilometres", rounded(service.vehicle_kilometres, 1)),
     ]

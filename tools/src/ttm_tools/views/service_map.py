@@ -4,11 +4,12 @@ from typing import Any
 
 import numpy as np
 
+from ..api.service import Day
 from ..core.errors import InputError
 from ..core.text import display_text
 from ..gtfs.projection import Projection
 from ..measures.service import Period, departures_by_piece
-from .service import Day, period_shown
+from .service import period_shown
 from .texts import text_alone
 
 CLASSES = (1.0, 2.0, 4.0, 8.0, 16.0, 32.0)  # vehicles an hour, where wider lines begin

@@ -15,6 +15,7 @@ from ..gtfs.projection import Projection
 from ..gtfs.stops import Stops
 from ..measures.equity import TENTHS, mean, part
 from ..measures.opportunities import Counts
+from .classes import shading
 from .equity import COLOURS
 from .texts import figure_with, text_alone
 
@@ -22,7 +23,6 @@ ACROSS = 4  # panels in a row
 MOST_ACROSS = 6  # maps in a row where each row is a day
 HEAD, FOOT = 0.7, 0.55  # inches above and below the panels
 MOST_MAPS = 48
-SCALE = "viridis"
 
 
 @dataclass(frozen=True)
@@ -117,7 +117,7 @@ def figure_of_heat(columns: Sequence[WindowColumn], scenario: int, labels: Figur
     order = np.argsort(-numbers.mean(axis=1), kind="stable")
     figure = figure_with(f"{labels.kind_of_scenario}: each of {len(order):,} {labels.places} by window", 7.0)
     axes = figure.add_axes((0.09, 0.17, 0.76, 0.72))
-    image = axes.imshow(numbers[order], aspect="auto", interpolation="nearest", cmap=SCALE, vmin=0)
+    image = axes.imshow(numbers[order], aspect="auto", interpolation="nearest", cmap=shading(), vmin=0)
     names = [column.name for column in columns]
     axes.set(xticks=range(len(columns)), ylabel=f"{labels.places}, the most on top")
     turned = {"rotation": 45, "ha": "right"} if sum(map(len, names)) > 60 else {}
@@ -151,7 +151,9 @@ def figure_of_maps(columns: Sequence[WindowColumn], scenario: int, stops: Stops,
     for axes in panels.flat[len(drawn) :]:
         axes.set_visible(False)
     for axes, column in zip(panels.flat, drawn):
-        marks = axes.scatter(east, north, s=size, c=column.numbers[scenario], cmap=SCALE, vmin=0, vmax=most, marker="s")
+        marks = axes.scatter(
+            east, north, s=size, c=column.numbers[scenario], cmap=shading(), vmin=0, vmax=most, marker="s"
+        )
         axes.set(xticks=[], yticks=[], aspect="equal")
         axes.set_title(f"{column.day} {column.name}", fontsize=9, parse_math=False)
     bar = figure.colorbar(marks, cax=figure.add_axes((0.89, 0.2 / high, 0.022, 1 - (HEAD + 0.2) / high)))

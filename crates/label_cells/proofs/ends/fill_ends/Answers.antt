@@ -3,7 +3,7 @@ use Rattle.std.proofs.Common.{slice_index, slice_index_or, inl, inr, ap, sym, su
 use Rattle.std.proofs.lemmas.Bool.{cases_lt}
 use Rattle.std.proofs.lemmas.List.{length-append, get_or_append_left, get_or_at}
 use Rattle.label_cells.specs.Runs.{AreEnds, GoesOn}
-use Rattle.label_cells.specs.Windows.{lane_of}
+use Rattle.label_cells.specs.GroupLanes.{lane_of}
 use Rattle.label_cells.proofs.LanesOfGroups.{length-lane, lane_at}
 use Rattle.label_cells.proofs.ends.fill_ends.Goals as goal
 use Rattle.label_cells.proofs.ends.fill_ends.Goals.{then-j-eq0, else-j-eq0}

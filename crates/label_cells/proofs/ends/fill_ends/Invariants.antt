@@ -1,6 +1,6 @@
 use Rattle.std.proofs.Common.{◌≡◌, ◌≢◌, ◌<◌, ◌+◌, ◌*◌, ◌/◌, ◌%◌, ℕ, false, length, slice_index, slice_index_or}
 use Rattle.label_cells.specs.Runs.{GoesOn}
-use Rattle.label_cells.specs.Windows.{lane_of}
+use Rattle.label_cells.specs.GroupLanes.{lane_of}
 use Rattle.label_cells.proofs.ends.fill_ends.Given as goal
 
 abbrev pub invariant-loop-j : goal.invariant-loop-j

@@ -3,7 +3,7 @@ use Rattle.std.proofs.lemmas.List.{length-append}
 use Rattle.label_cells.specs.Runs.{IsSplitRun}
 use Rattle.label_cells.specs.Sums.{sum_to}
 use Rattle.label_cells.specs.declared.split_runs.SplitRun.{SplitRun}
-use Rattle.label_cells.specs.Windows.{shortest_at, span_in}
+use Rattle.label_cells.specs.GroupLanes.{shortest_at, span_in}
 use Rattle.label_cells.specs.SplitRuns.{whole_at, rest_at, reached_at}
 use Rattle.label_cells.proofs.ListsOfSplitRuns.{part_few, parts_more, wholes_more, spans_more}
 use Rattle.label_cells.proofs.group.fill_split_runs.Goals as goal

@@ -1,7 +1,7 @@
 use Rattle.std.proofs.Common.{◌≡◌, ◌≤◌, ◌<◌, ℕ, length, slice_index}
 use Rattle.label_cells.specs.Runs.{IsSplitRun}
 use Rattle.label_cells.specs.Sums.{sum_to}
-use Rattle.label_cells.specs.Windows.{shortest_at, span_in}
+use Rattle.label_cells.specs.GroupLanes.{shortest_at, span_in}
 use Rattle.label_cells.specs.SplitRuns.{whole_at, rest_at, reached_at}
 use Rattle.label_cells.proofs.group.fill_split_runs.Given as goal
 

@@ -1,7 +1,7 @@
 use Rattle.std.proofs.Common.{◌≡◌, ℕ, inl, inr, ap, arith}
 use Rattle.std.proofs.lemmas.Bool.{cases_lt}
 use Rattle.std.proofs.lemmas.Simd.{get_or-replicate}
-use Rattle.label_cells.specs.Windows.{shortest_at}
+use Rattle.label_cells.specs.GroupLanes.{shortest_at}
 use Rattle.label_cells.proofs.group.low_of.Goals as goal
 
 pub loop-run-init : goal.loop-run-init

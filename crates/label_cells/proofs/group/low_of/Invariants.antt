@@ -1,5 +1,5 @@
 use Rattle.std.proofs.Common.{◌≤◌, ◌<◌, ℕ, slice_index}
-use Rattle.label_cells.specs.Windows.{shortest_at}
+use Rattle.label_cells.specs.GroupLanes.{shortest_at}
 use Rattle.label_cells.proofs.group.low_of.Given as goal
 
 abbrev pub invariant-loop-run : goal.invariant-loop-run

@@ -1,9 +1,8 @@
 use Rattle.std.proofs.Common.{◌≡◌, ◌<◌, ℕ, List, length, ap, refl, subst, ◌∙◌}
 use Rattle.rounds.specs.Table.{known_of}
 use Rattle.rounds.proofs.BoundedStops.{written}
-use Rattle.label_cells.specs.Durations.{lesser}
+use Rattle.rounds.specs.Labels.{least_walk, lesser}
 use Rattle.label_cells.specs.Groups.{cell_at}
-use Rattle.label_cells.specs.Windows.{least_walk}
 use Rattle.label_cells.proofs.StopsOfGroups.{cell_with_walks}
 use Rattle.label_cells.proofs.group_cells.rank_cells.Goals as goal
 

@@ -1,12 +1,12 @@
 use Rattle.std.proofs.Common.{◌≡◌, ◌≤◌, ◌<◌, ◌+◌, ◌*◌, ◌-◌, ◌++◌, ◌∷◌, [], ℕ, Bool, List, Option, Vec, Global, length}
 use Rattle.std.proofs.Common.{slice_index, ap, sym, subst, ◌∙◌, arith}
-use Rattle.label_cells.specs.Durations.{AreDurations}
+use Rattle.rounds.specs.Labels.{AreLabelDurations, ArePositions, AreSince}
 use Rattle.label_cells.specs.Runs.{IsRun, AreEnds}
 use Rattle.label_cells.specs.Sums.{sum_to}
 use Rattle.label_cells.proofs.RunsOfPositions.{IsLeft, AreBegun, left_few, left_end, left_on, left_last, run_here}
 use Rattle.label_cells.proofs.RunsOfPositions.{begun_end, begun_on}
 use Rattle.label_cells.specs.declared.runs.Run.{Run}
-use Rattle.label_cells.specs.Windows.{ArePositions, AreSince, lane_of, shortest_at, span_in}
+use Rattle.label_cells.specs.GroupLanes.{lane_of, shortest_at, span_in}
 use Rattle.label_cells.proofs.LanesOfGroups.{length-lane, lane_at, are_labels, nevers, never_labels, never_ends}
 use Rattle.label_cells.proofs.ListsOfRuns.{longer, same_shortest, same_span, new_shortest, new_span, span_more}
 use Rattle.label_cells.proofs.ListsOfRuns.{fits_more}
@@ -47,7 +47,7 @@ Preserved found from width bases searched first minutes ends j was runs = record
   left : IsLeft searched ends j was;
   begun : (l : ℕ) (ds : ℕ → Option ℕ) → l < 16 → AreSince (lane_of found from width (length searched) l) bases
       searched first →
-      AreDurations (lane_of found from width (length searched) l) bases searched first minutes ds →
+      AreLabelDurations (lane_of found from width (length searched) l) bases searched first minutes ds →
       AreBegun (lane_of found from width (length searched) l) bases searched first ds j was (shortest_at runs l)
       (span_in runs) (length runs);
 }
@@ -88,7 +88,7 @@ loop-j-preserved c =
           let fewer = old.few in
           let one_longer = longer runs run in
           let begun : (l : ℕ) (ds : ℕ → Option ℕ) → l < 16 → AreSince (lane l) bases searched first →
-          AreDurations (lane l) bases searched first minutes ds →
+          AreLabelDurations (lane l) bases searched first minutes ds →
           AreBegun (lane l) bases searched first ds (j + 1) (slice_index searched j + 1) (shortest_at (runs ++ run ∷
           []) l)
           (span_in (runs ++ run ∷ [])) (length (runs ++ run ∷ [])) = λ l ds h since counted.

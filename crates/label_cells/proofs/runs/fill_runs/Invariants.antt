@@ -1,8 +1,8 @@
 use Rattle.std.proofs.Common.{◌≡◌, ◌≤◌, ◌<◌, ℕ, Option, length}
-use Rattle.label_cells.specs.Durations.{AreDurations}
+use Rattle.rounds.specs.Labels.{AreLabelDurations, AreSince}
 use Rattle.label_cells.specs.Sums.{sum_to}
 use Rattle.label_cells.proofs.RunsOfPositions.{IsLeft, AreBegun}
-use Rattle.label_cells.specs.Windows.{AreSince, lane_of, shortest_at, span_in}
+use Rattle.label_cells.specs.GroupLanes.{lane_of, shortest_at, span_in}
 use Rattle.label_cells.proofs.runs.fill_runs.Given as goal
 
 abbrev pub invariant-loop-j : goal.invariant-loop-j
@@ -14,7 +14,7 @@ invariant-loop-j v = record {
   begun : (l : ℕ) (ds : ℕ → Option ℕ) → l < 16 →
       AreSince (lane_of v.window.found.labels.now v.from v.window.found.width (length v.window.searched.now) l)
       v.window.found.bases.now v.window.searched.now v.window.first →
-      AreDurations (lane_of v.window.found.labels.now v.from v.window.found.width (length v.window.searched.now) l)
+      AreLabelDurations (lane_of v.window.found.labels.now v.from v.window.found.width (length v.window.searched.now) l)
       v.window.found.bases.now v.window.searched.now v.window.first v.window.minutes ds →
       AreBegun (lane_of v.window.found.labels.now v.from v.window.found.width (length v.window.searched.now) l)
       v.window.found.bases.now v.window.searched.now v.window.first ds v.j v.was

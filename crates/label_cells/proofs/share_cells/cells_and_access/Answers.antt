@@ -5,7 +5,7 @@ use Rattle.rounds.specs.Table.{DurationTable}
 use Rattle.label_cells.specs.declared.share_cells.ShareCells.{ShareCells}
 use Rattle.label_cells.specs.Groups.{AreRankCells}
 use Rattle.label_cells.specs.ShareCells.{AreOfRanks, AreRanks, AreShareCells}
-use Rattle.label_cells.specs.Windows.{Represent}
+use Rattle.rounds.specs.Labels.{Represent}
 use Rattle.label_cells.proofs.CellsOfShares.{share_cells}
 use Rattle.label_cells.proofs.StopsOfGroups.{rows_within}
 use Rattle.label_cells.proofs.share_cells.cells_and_access.Goals as goal

@@ -1,7 +1,7 @@
 use Rattle.std.proofs.Common.{◌≡◌, ◌≢◌, ◌≤◌, ◌<◌, ◌+◌, ◌*◌, ◌∷◌, [], ℕ, zero, suc, List, length, slice_index, inr}
 use Rattle.std.proofs.Common.{refl, arith}
 use Rattle.std.proofs.lemmas.Bool.{cases_eq}
-use Rattle.label_cells.specs.Windows.{AreSince}
+use Rattle.rounds.specs.Labels.{AreSince}
 use Rattle.label_cells.proofs.tests.of_shares.Goals as goal
 
 -- by cases on a number below two or three

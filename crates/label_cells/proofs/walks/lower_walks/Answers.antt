@@ -1,7 +1,7 @@
 use Rattle.std.proofs.Common.{◌≡◌, ℕ, min, inl, inr, sym, subst, ◌∙◌}
 use Rattle.std.proofs.lemmas.Bool.{cases_eq}
 use Rattle.label_cells.specs.Groups.{cell_at}
-use Rattle.label_cells.specs.Windows.{walk_stop, walk_seconds}
+use Rattle.rounds.specs.Labels.{walk_seconds, walk_stop}
 use Rattle.label_cells.proofs.LeastWalks.{walk_here, walk_elsewhere}
 use Rattle.label_cells.proofs.walks.lower_walks.Goals as goal
 

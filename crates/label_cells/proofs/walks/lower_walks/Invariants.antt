@@ -1,8 +1,7 @@
 use Rattle.std.proofs.Common.{◌≡◌, ◌<◌, ℕ, length}
 use Rattle.rounds.specs.Table.{known_of}
-use Rattle.label_cells.specs.Durations.{lesser}
+use Rattle.rounds.specs.Labels.{least_walk, lesser}
 use Rattle.label_cells.specs.Groups.{cell_at}
-use Rattle.label_cells.specs.Windows.{least_walk}
 use Rattle.label_cells.proofs.walks.lower_walks.Given as goal
 
 abbrev pub invariant-loop-i : goal.invariant-loop-i

@@ -11,6 +11,8 @@ returns-clause-exact g c =
     let suffice = c.in_ok-labels_suffice_for_reachable.ensures in
     record {
       early = are.early;
+      before = λ l h within. let t = (are.departures l h).used within in omega (arith, t);
+      near = λ l h within. let near = are.near l h within in omega (arith, near);
       each = λ l p h within there.
           let t = (are.departures l h).used within in
           let near = are.near l h within in

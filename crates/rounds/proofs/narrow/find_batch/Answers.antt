@@ -53,6 +53,39 @@ returns-clause-found g c _ =
               let early = old.told.early j ge l in
               omega (arith, kept, had, early)
         ];
+        before = λ j le l. elim (cases_lt j f.from) [
+          | inl lt ↦
+              let k : ℕ = j - from in
+              let place : from + k ≡ j = omega (arith, le) in
+              let h : k < lanes = omega (arith, lt, place, ends) in
+              let here = bases.written k (omega (arith, h, same)) in
+              let at = ap (λ (x : ℕ). slice_index c.write_bases.new.bases x) place in
+              let departure = ap (departure_at q) place in
+              let before = told.before k h (omega (arith, place, l)) in
+              omega (arith, here, at, departure, before)
+          | inr ge ↦
+              let kept = bases.kept j (inr (omega (arith, ge, ends, same))) in
+              let had = ap (λ (xs : List ℕ). slice_index xs j) had_bases in
+              let before = old.told.before j ge l in
+              omega (arith, kept, had, before)
+        ];
+        near = λ j le l. elim (cases_lt j f.from) [
+          | inl lt ↦
+              let k : ℕ = j - from in
+              let place : from + k ≡ j = omega (arith, le) in
+              let h : k < lanes = omega (arith, lt, place, ends) in
+              let here = bases.written k (omega (arith, h, same)) in
+              let at = ap (λ (x : ℕ). slice_index c.write_bases.new.bases x) place in
+              let departure = ap (departure_at q) place in
+              let near = told.near k h (omega (arith, place, l)) in
+              let never = g.met.R.NarrowLabels.narrow in
+              omega (arith, here, at, departure, near, never)
+          | inr ge ↦
+              let kept = bases.kept j (inr (omega (arith, ge, ends, same))) in
+              let had = ap (λ (xs : List ℕ). slice_index xs j) had_bases in
+              let near = old.told.near j ge l in
+              omega (arith, kept, had, near)
+        ];
         each = λ p j there le l. elim (cases_lt j f.from) [
           | inl lt ↦
               let k : ℕ = j - from in

@@ -35,6 +35,8 @@ loop-found-init c =
         bounds = λ _. c.in_ok-bounds.ensures.bounds 65535;
         told = record {
           early = λ j le l. absurd (omega (arith, le, l, past));
+          before = λ j le l. absurd (omega (arith, le, l, past));
+          near = λ j le l. absurd (omega (arith, le, l, past));
           each = λ p j there le l. absurd (omega (arith, le, l, past));
         };
       };

@@ -6,11 +6,13 @@ import numpy as np
 
 from ...core.arrays import Mask, Whole
 from ...core.limits import LAST_TIME
-from ...core.text import quantity
+from ...core.text import display_text, first_few, quantity
 from ...core.toml_file import Entry
-from ...core.toml_values import near, whole
+from ...core.toml_values import near, nearest_name, whole
+from ...gtfs.modes import MODES, mode_of
 from ..base import NO_ROW
 from ..choice import chosen, routes_of, stop_named, stop_shown, stops_named
+from ..new_records import ROUTE_TYPE
 from ..state import State, Trip, in_range
 from .lines import run_times
 
@@ -33,6 +35,28 @@ def shift(state: State, entry: Entry) -> list[str]:
     return []
 
 
+def remove_modes(state: State, entry: Entry) -> list[str]:
+    """Takes out all trips of the routes of some modes, and names these routes."""
+    modes = entry.texts("mode")
+    for mode in modes:
+        entry.known("mode", mode, MODES, f"is not one of {', '.join(MODES)}")
+    routes = [route for route in [*state.base.by_route, *state.lines] if mode_in(state, route) in modes]
+    trips = [trip for route in routes for trip in state.of_route(route)]
+    if not trips:
+        raise entry.fault("has no trips in this scenario, so nothing changes", "mode", ", ".join(modes))
+    for trip in trips:
+        state.drop(trip)
+    gone = dict.fromkeys(trip.route for trip in trips)
+    return [f"{quantity(len(gone), 'route')} removed: {first_few([*map(display_text, gone)])}"]
+
+
+def mode_in(state: State, route: str) -> str:
+    """The mode of a route of the feed, or of a new line."""
+    if route in state.lines:
+        return mode_of(state.lines[route].read("type", ROUTE_TYPE, MODES["bus"]))
+    return mode_of(state.base.route_types.get(route, -1))
+
+
 def trips_about(state: State, entry: Entry) -> list[Trip]:
     return trips_of_routes(state, entry) if entry.text("do").endswith("route") else trips_named(state, entry)
 
@@ -42,6 +66,9 @@ def trips_of_routes(state: State, entry: Entry) -> list[Trip]:
     trips_found = []
     for route in routes_of(state, entry):
         trips = state.of_route(route)
+        if entry.has("direction"):
+            direction = str(entry.read("direction", whole(0, 1)))
+            trips = [trip for trip in trips if trip.direction.strip() == direction]
         if not trips:
             raise entry.fault("has no trips in this scenario, so nothing changes", "route", route)
         trips_found += trips
@@ -56,7 +83,8 @@ def trips_named(state: State, entry: Entry) -> list[Trip]:
             continue
         place = state.base.numbers.get(name, -1)
         if place < 0:
-            raise entry.fault(f"is not a trip of the feed{near(name, state.base.trips)}", "trip", name)
+            fault = entry.fault(f"is not a trip of the feed{near(name, state.base.trips)}", "trip", name)
+            raise fault.noting(nearest=nearest_name(name, state.base.trips))
         if not state.kept[place]:
             message = "is already removed" if state.base.lengths[place] else "never runs: it has no calls at stops"
             raise entry.fault(f"{message}, so nothing changes", "trip", name)
@@ -113,7 +141,8 @@ def extend(state: State, entry: Entry) -> list[str]:
     if not found:
         ends = sorted({stop_shown(state, int(trip.stop[place])) for trip in trips})
         message = f"is not a stop at which trips of the route {'begin' if place == 0 else 'end'}"
-        raise entry.fault(f"{message}{near(entry.text(key), ends)}", key, entry.text(key))
+        fault = entry.fault(f"{message}{near(entry.text(key), ends)}", key, entry.text(key))
+        raise fault.noting(nearest=nearest_name(entry.text(key), ends))
     further = np.array(stops_named(state, entry, "stops"), dtype=np.int64)
     way = np.append(further, stop) if place == 0 else np.append(stop, further)
     run, dwell = run_times(state, entry, way)

@@ -1,0 +1,4 @@
+library(testthat)
+library(ttmr)
+
+test_check("ttmr")

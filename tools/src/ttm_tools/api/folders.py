@@ -1,0 +1,153 @@
+"""Folders from which the engine answers about places: a feed that has them as stops, and the walks to them."""
+
+from collections.abc import Sequence
+from dataclasses import dataclass, replace
+from functools import partial
+from pathlib import Path
+
+from ..core.cache import cached_entry, key_of
+from ..core.limits import MOST_FOOT_SECONDS
+from ..core.stop_lists import write_stops
+from ..core.tables import write_rows
+from ..gtfs.stops import Stops, read_stops
+from ..places.doors import BEGINS, ENDS, Doors, write_doors, write_unreached
+from ..places.folder import FEED, FOOTPATHS, PointsOptions, make
+from ..places.long_walks import LongWalks
+from ..places.read import Points
+from ..streets.osm import Streets
+from ..streets.router import Endpoints, street_walks
+from ..streets.straight import straight_walks
+from ..streets.walks import Pace, Walks
+from .frames import GivenPlaces
+
+NEAR = 1600.0  # metres to a street that are walked as they are: R5's radius of links
+
+
+@dataclass(frozen=True)
+class PreparedFeed:
+    """A feed that the engine reads, with the scenario files that go with it.
+
+    Attributes
+    ----------
+    key
+        The checksum of all that it depends on.
+    folder
+        The folder of the feed.
+    scenarios
+        The names of its scenario files, in order; without scenarios, none.
+    """
+
+    key: str
+    folder: Path
+    scenarios: tuple[str, ...] = ()
+
+    @property
+    def scenario_files(self) -> list[Path]:
+        return [self.folder / "scenarios" / name for name in self.scenarios]
+
+
+@dataclass(frozen=True)
+class WalkNetwork:
+    """On what, how far and how fast travellers walk.
+
+    Attributes
+    ----------
+    streets
+        The streets; without them, walks are straight lines with a detour.
+    key
+        The checksum of the file of streets.
+    pace
+        The longest walk, speed and detour.
+    merges
+        Whether no journey takes longer than the longest walk, so that walks alone are found apart from the engine.
+    """
+
+    streets: Streets | None
+    key: str
+    pace: Pace
+    merges: bool = False
+
+    def walks(self, stops: Stops, first: int | None, only: Endpoints | None = None) -> Walks:
+        """Return the walks between all stops, or between the `first` ones and all."""
+        if self.streets is None:
+            return straight_walks(stops, self.pace, first)
+        return street_walks(stops, self.pace, self.streets, NEAR, first, only)
+
+
+@dataclass(frozen=True)
+class PlacesFolder(Doors):
+    """A folder of places that is complete.
+
+    Attributes
+    ----------
+    feed
+        The feed that has the places as stops.
+    """
+
+    feed: PreparedFeed
+
+    @property
+    def footpaths(self) -> Path:
+        return self.folder / FOOTPATHS
+
+    @property
+    def scenario_files(self) -> list[Path]:
+        return self.feed.scenario_files
+
+
+def folder_of(feed: PreparedFeed, walking: WalkNetwork, sides: Sequence[GivenPlaces]) -> PlacesFolder:
+    """Return the folder for origins and destinations, from the cache if it was written before.
+
+    Parameters
+    ----------
+    sides
+        Origins and destinations; one element if they are the same places.
+
+    Raises
+    ------
+    LimitError
+        There are more walks or places than the engine takes.
+    """
+    content = [side.content() + str(side.stops).encode() for side in sides]
+    key = key_of("places", feed.key, feed.scenarios, walking.key, walking.pace, walking.merges, NEAR, *content)
+    writer = partial(write_folder, feed=feed, walking=walking, sides=sides)
+    folder = cached_entry("places", key, lambda entry: writer(entry / "places")) / "places"
+    own = feed if all(side.are_stops for side in sides) else replace(feed, folder=folder / FEED)
+    found = PlacesFolder(folder, key, int(walking.pace.limit), own)
+    return found if found.direct is None else replace(found, walk=MOST_FOOT_SECONDS)
+
+
+def write_folder(folder: Path, feed: PreparedFeed, walking: WalkNetwork, sides: Sequence[GivenPlaces]) -> None:
+    """Write the folder of some places."""
+    files = [side for side in sides if not side.are_stops]
+    if not files:
+        folder.mkdir()
+        write_walks(folder / FOOTPATHS, walking.walks(read_stops(str(feed.folder)), None))
+    elif walking.streets is not None and len(files) == len(sides) and not feed.scenarios:
+        walks = LongWalks(str(feed.folder), points_of(files), walking.streets, walking.pace, NEAR)
+        write_doors(folder, walks, walking.merges)
+    else:
+        write_whole(folder, feed, walking, sides)
+    for name, side in zip((BEGINS, ENDS), (sides[0], sides[-1])):
+        if side.are_stops:
+            with open(folder / name, "wb") as out:
+                write_stops(out, side.stops)
+    write_unreached(folder, (sides[0].are_stops, sides[-1].are_stops))
+
+
+def points_of(files: Sequence[GivenPlaces]) -> list[Points]:
+    return [side.points() for side in files]
+
+
+def write_whole(folder: Path, feed: PreparedFeed, walking: WalkNetwork, sides: Sequence[GivenPlaces]) -> None:
+    """Write the folder with all walks between places and stops."""
+    files = [side for side in sides if not side.are_stops]
+    begins, ends = [side is sides[0] for side in files], [side is sides[-1] for side in files]
+    limit = int(walking.pace.limit)
+    options = PointsOptions(str(feed.folder), str(folder), points_of(files), begins, ends, limit, False, NEAR)
+    make(options, walking.walks)
+
+
+def write_walks(path: Path, walks: Walks) -> None:
+    with open(path, "wb") as out:
+        write_rows(out, ["from_stop_id", "to_stop_id", "seconds"], walks.rows())

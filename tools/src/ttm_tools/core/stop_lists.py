@@ -1,0 +1,21 @@
+"""Files that list stops: CSV with the column `stop_id`."""
+
+from typing import BinaryIO, Sequence
+
+from .errors import InputError
+from .tables import rows, write_rows
+from .text import display_text
+
+
+def origins_in(path: str) -> list[str]:
+    """The stops that a file with the column stop_id names, in order, each once."""
+    named: dict[str, None] = {}
+    for number, (stop,) in rows(path, ["stop_id"]):
+        if stop in named:
+            raise InputError(path, f"{display_text(stop)} occurs twice", record=number)
+        named[stop] = None
+    return list(named)
+
+
+def write_stops(file: BinaryIO, stops: Sequence[str]) -> None:
+    write_rows(file, ["stop_id"], [[stop] for stop in stops])

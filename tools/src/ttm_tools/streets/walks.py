@@ -1,0 +1,60 @@
+"""Walks between the stops of a feed, or places among them: straight lines, and ways along streets."""
+
+from ..core.errors import needs
+from ..core.notices import Notice, note
+from ..core.tables import RoundingCounter
+from ..core.text import quantity
+from ..gtfs.stops import Stops
+from .straight import Pace, Walks, distances, points_of, read_walks, straight_walks
+
+NEAR = 100.0  # metres to a street
+__all__ = ["NEAR", "Pace", "Walks", "distances", "footpaths_of", "points_of", "straight_walks", "summary", "walks_of"]
+
+
+def walks_of(
+    stops: Stops, pace: Pace, streets: str | None = None, near: float = NEAR, first: int | None = None
+) -> Walks:
+    """The walks between all stops, or the first ones and all, by straight lines or along the streets of a file."""
+    if streets is None:
+        return straight_walks(stops, pace, first)
+    needs("osmium", "scipy")
+    from .osm import read_streets
+    from .router import street_walks
+
+    return street_walks(stops, pace, read_streets(streets), near, first)
+
+
+def footpaths_of(
+    stops: Stops, table: str | None, pace: Pace, streets: str | None, near: float
+) -> tuple[list[tuple[str, str, int]], str]:
+    """The footpaths of a table, or else the walks between all stops; and what is reported of them."""
+    rows, sentence, _ = footpaths_and_walks(stops, table, pace, streets, near)
+    return rows, sentence
+
+
+def footpaths_and_walks(
+    stops: Stops, table: str | None, pace: Pace, streets: str | None, near: float
+) -> tuple[list[tuple[str, str, int]], str, Walks | None]:
+    """The same, and the walks that were found; none for a table."""
+    found: Walks | None = None
+    if table:
+        rounded = RoundingCounter()
+        rows = read_walks(table, stops, rounded)
+        sentence = f"{quantity(rounded.count, 'time')} with decimals rounded up"
+        note(*([Notice(f"{table}: {sentence}", "rounded", rounded.count)] if rounded.count else []))
+    else:
+        found = walks_of(stops, pace, streets, near)
+        rows, sentence = found.rows(), summary(found, "stops", near)
+    return rows, f"{quantity(len(rows), 'footpath')}; {sentence}", found
+
+
+def summary(walks: Walks, what: str, near: float) -> str:
+    """The places that have no walks, or only a straight line to a street."""
+    found = [Notice(f"{quantity(walks.lost, what.removesuffix('s'))} without coordinates", "place", walks.lost)]
+    if walks.far:
+        text = f"{walks.far:,} more than {near:g} metres from a street, joined to it by a straight line"
+        found.append(Notice(text, "place", walks.far))
+    if walks.apart:
+        found.append(Notice(f"{walks.apart:,} without a street in reach", "place", walks.apart))
+    note(*(one for one in found if one.affected))
+    return "; ".join(found)

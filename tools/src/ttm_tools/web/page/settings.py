@@ -1,0 +1,39 @@
+"""The settings of a page."""
+
+from dataclasses import dataclass, field
+
+from ...core.limits import DETOUR, WALKING_SPEED
+from ...core.question import MAX_WALK
+from ...core.shipped import LEAFLET
+from ...streets.walks import NEAR
+
+
+@dataclass(frozen=True, kw_only=True)
+class PageSettings:
+    """The settings of a page, as arguments and names of files."""
+
+    feed: str
+    points: str | None
+    edits: list[str]
+    opportunities: list[str]
+    people: list[str]
+    scenarios: list[str] = field(default_factory=list)  # in addition to the base; none for all
+    base: str
+    share: int | None = None
+    cutoffs: list[float]  # minutes
+    origins: str | None = None
+    seed: int
+    unit: str
+    title: str | None
+    note: str | None
+    arguments: str | None
+    tiles: str | None = None
+    attribution: str | None = None
+    leaflet: str = LEAFLET
+    within: int | None = None  # seconds, the limit with which the page opens; without it, the first of the matrix
+    nearest: list[float] = field(default_factory=list)  # how many of the nearest opportunities are looked for
+    walk: int = int(MAX_WALK.default)  # the longest walk from a stop, in seconds
+    speed: float = WALKING_SPEED  # metres a second
+    detour: float = DETOUR  # metres of way for a metre of straight line
+    streets: str | None = None  # an OpenStreetMap file with the ways for these walks
+    near: float = NEAR  # the greatest distance of a stop from a way, metres

@@ -1,0 +1,77 @@
+"""Computes what an exploration begins with if its options say so: walks along streets, and cells of a grid."""
+
+import os
+import shutil
+from dataclasses import replace
+from pathlib import Path
+
+from ..core.errors import ArgumentError
+from ..core.files import copy_file, writing_to
+from ..core.folders import scratch
+from ..core.tables import write_rows
+from ..core.text import quantity
+from ..gtfs.stops import Stops, read_stops
+from ..places import folder as points_folder, grid
+from ..places.folder import PointsOptions
+from ..streets.walks import NEAR, Pace, Walks, summary, walks_of
+from .options import ExploreOptions
+from .point import FEED, HEADER, Point, WALKS, Walk, laid_out
+
+CELLS = "cells"
+
+
+def with_generated(options: ExploreOptions, room: Path) -> tuple[ExploreOptions, list[str]]:
+    """What is explored, with a feed and walks that are made in a room, and sentences about them; the walks take at most
+    as long as the longest walk of the command.
+    """
+    if options.grid is None and options.streets is None:
+        return options, []
+    if options.footpaths is not None:
+        raise ArgumentError("--footpaths has walks, and --streets and --grid compute them: choose one")
+    name = options.name or os.path.basename(os.path.abspath(options.feed))
+    own = replace(options, most_walk=options.walk, name=name, generated=True)
+    return with_walks(own, room) if options.grid is None else with_cells(own, room, options.grid)
+
+
+def with_walks(options: ExploreOptions, room: Path) -> tuple[ExploreOptions, list[str]]:
+    walks = walks_of(read_stops(options.feed), Pace(options.walk), options.streets)
+    path = room / WALKS
+    with open(path, "wb") as file:
+        write_rows(file, HEADER, walks.rows())
+    return replace(options, footpaths=str(path)), [
+        f"{quantity(len(walks.seconds), 'walk')}; {summary(walks, 'stops', NEAR)}"
+    ]
+
+
+def with_cells(options: ExploreOptions, room: Path, side: float) -> tuple[ExploreOptions, list[str]]:
+    """A feed whose stops include the cells from whose middle one walks to a stop, and walks between all of them."""
+    pace, folder = Pace(options.walk), room / CELLS
+    cells = grid.filled(grid.grid_near(read_stops(options.feed), side, pace.metres), []).points
+
+    def walker(stops: Stops, first: int | None) -> Walks:
+        return walks_of(stops, pace, options.streets, NEAR, first)
+
+    point_options = PointsOptions(options.feed, str(folder), [cells], [True], [True], options.walk, False, NEAR)
+    sentences = points_folder.make(point_options, walker)[:-1]
+    count = f"{quantity(len(cells.identifiers), 'cell')} of {side:g} metres"
+    feed, footpaths = folder / points_folder.FEED, folder / points_folder.FOOTPATHS
+    return replace(options, feed=str(feed), footpaths=str(footpaths)), [count, *sentences]
+
+
+def copy_generated(options: ExploreOptions, folder: Path) -> None:
+    """Copies what was made into the folder of a study, which outlives the exploration."""
+    if options.footpaths is not None:
+        copy_file(options.footpaths, folder / WALKS)
+    if options.grid is not None:
+        with writing_to(folder / FEED):
+            shutil.copytree(options.feed, folder / FEED)
+
+
+def copy_with_point(options: ExploreOptions, folder: Path, point: Point, walks: list[Walk]) -> str:
+    """Copies the feed with a point as one more stop, and the walks with those from there; gives its identifier."""
+    with scratch("point") as room:
+        name, feed, footpaths = laid_out(room, options.feed, options.footpaths, point, walks)
+        copy_file(footpaths, folder / WALKS)
+        with writing_to(folder / FEED):
+            shutil.copytree(feed, folder / FEED)
+    return name
