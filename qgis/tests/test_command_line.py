@@ -40,7 +40,9 @@ class Installed:
         subprocess.run(made, check=True, stdout=subprocess.DEVNULL)
         with zipfile.ZipFile(next(room.glob("ttm_processing-*.zip"))) as packed:
             packed.extractall(plugins)
-        own = {"HOME": str(home), "XDG_RUNTIME_DIR": str(home), "QT_QPA_PLATFORM": "offscreen"}
+        # QGIS takes the library of the first `python3` on the path, and crashes with that of another Python
+        path = os.pathsep.join([str(Path(sys.executable).parent), os.environ.get("PATH", os.defpath)])
+        own = {"HOME": str(home), "XDG_RUNTIME_DIR": str(home), "QT_QPA_PLATFORM": "offscreen", "PATH": path}
         found = {"TTM_TOOLS": programs[0], "TTM_PROGRAM": programs[1], "TTM_CACHE": str(home / "cache")}
         self.environment = {**os.environ, **own, **found}
         self.feed = town(room / "town")
