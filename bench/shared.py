@@ -122,7 +122,7 @@ def run_into(arguments: Sequence[str], path: str) -> Ran:
     return ran
 
 
-def sum_of(path: str) -> str:
+def sha256_of_file(path: str) -> str:
     """A sum of a file's bytes."""
     with open(path, "rb") as file:
         return hashlib.file_digest(file, "sha256").hexdigest()

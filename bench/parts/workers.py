@@ -1,7 +1,7 @@
 """How rows gain by more threads, and what memory each thread takes."""
 
 from setting import Setting, stop
-from shared import Study, sum_of
+from shared import Study, sha256_of_file
 
 
 def measure(setting: Setting) -> None:
@@ -11,7 +11,7 @@ def measure(setting: Setting) -> None:
     for turn in setting.each_turn:
         for workers in (1, 2, 4):
             ran, matrix = setting.run(Study(), feed, some, workers)
-            sums.add(sum_of(str(matrix)))
+            sums.add(sha256_of_file(str(matrix)))
             rest, _ = setting.run(Study(), feed, none, workers)
             name = f"{workers} threads"
             setting.record_run("workers", feed, "ttm", name, ran, turn)

@@ -16,7 +16,7 @@ from ttm_tools.core.errors import InputError
 from ttm_tools.core.times import as_clock
 from ttm_tools.core.toml_file import Entry, LineNumbers
 from ttm_tools.gtfs.fields import FILES
-from ttm_tools.plans.apply import carried_out
+from ttm_tools.plans.apply import apply_scenario
 from ttm_tools.plans.base import Base, read_base
 from ttm_tools.plans.nearness import sentences_on_nearer
 from ttm_tools.plans.plan_file import PlannedScenario
@@ -172,7 +172,7 @@ def does_something(base: Base, actions: Sequence[Values]) -> bool:
     """Whether actions are carried out one after another; else a fault says why not."""
     entries = [Entry("plan", action, LineNumbers(1)) for action in actions]
     try:
-        carried_out(base, PlannedScenario("new", entries[0], entries))
+        apply_scenario(base, PlannedScenario("new", entries[0], entries))
     except InputError:
         return False
     return True

@@ -45,7 +45,7 @@ def test_they_are_those_of_the_table(
     table, whole = found.feed.tables["stop_times.txt"], read_table("stop_times.txt", path)
     assert table.names == whole.columns and "more" in table.columns and "trip_id" not in table.columns
     assert table.texts("more") == whole.texts("more")
-    assert table.whole().rows() == whole.rows()
+    assert table.with_all_columns().rows() == whole.rows()
 
 
 @pytest.mark.parametrize("in_order", [True, False])
@@ -70,12 +70,12 @@ def test_a_timetable_of_such_numbers_is_that_of_the_table(tmp_path: Path, seed: 
 
 def test_columns_grow_piece_by_piece(monkeypatch: pytest.MonkeyPatch) -> None:
     monkeypatch.setattr(growing, "BLOCK", 4)
-    none, made = growing.GrowableArray(np.int8).whole(), growing.GrowableArray(np.int8)
+    none, made = growing.GrowableArray(np.int8).to_array(), growing.GrowableArray(np.int8)
     assert none.dtype == np.int8 and none.tolist() == []
     for piece in ([], [1, 2, 3], [4, 5, 6, 7, 8, 9]):
         made.take(np.array(piece, np.int8))
     made.take(np.array([300], np.int16))
-    whole = made.whole()
+    whole = made.to_array()
     assert whole.dtype == np.int16 and whole.tolist() == [1, 2, 3, 4, 5, 6, 7, 8, 9, 300]
 
 

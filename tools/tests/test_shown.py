@@ -8,7 +8,7 @@ import pytest
 
 from helpers import TOWN, Town, read, town_matrix
 from ttm_tools.matrices import open_matrix
-from ttm_tools.matrices.chosen import Chosen
+from ttm_tools.matrices.chosen import MatrixSubset
 
 
 def points(town: Town) -> str:
@@ -19,7 +19,7 @@ def points(town: Town) -> str:
 
 def test_rows_and_columns_of_points_are_those_of_the_matrix(town: Town) -> None:
     whole = open_matrix(town.matrix(town_matrix(True, shares=(25, 50))))
-    result = Chosen(whole, ["D", "B", "X"])
+    result = MatrixSubset(whole, ["D", "B", "X"])
     assert (result.stops, result.origins("base", 50), result.is_any) == (["B", "D"], ["D"], True)
     assert result.rows("cut", 50, 0, 1).tolist() == [[1700, 0]]
     assert result.access("base", 50).tolist() == [[3]]
@@ -29,10 +29,10 @@ def test_rows_and_columns_of_points_are_those_of_the_matrix(town: Town) -> None:
 
 def test_where_no_row_is_a_point_all_rows_stay(town: Town) -> None:
     whole = open_matrix(town.matrix(town_matrix(True)))
-    result = Chosen(whole, ["C"])
+    result = MatrixSubset(whole, ["C"])
     assert (result.stops, result.origins("base", 50)) == (["C"], ["A", "D"])
     assert result.rows("base", 50, 0, 2).tolist() == [[900], [600]]
-    assert not Chosen(whole, ["X"]).is_any
+    assert not MatrixSubset(whole, ["X"]).is_any
 
 
 def test_lines_are_those_between_points_with_their_names(town: Town) -> None:

@@ -19,11 +19,11 @@ from ttm_tools.core.files import sha256_of_file
 from ttm_tools.engine.arguments import EngineArguments
 from ttm_tools.engine.refusals import error_line
 from ttm_tools.study.executors.local import shown
-from ttm_tools.study.executors.remote import Means
+from ttm_tools.study.executors.remote import ExecutorOptions
 from ttm_tools.study.executors.slurm import ranges
 from ttm_tools.study.executors.task import write_task
 from ttm_tools.study.inputs import make_inputs
-from ttm_tools.study.parts import Costs, Part, costs_of, parts_for, shape_of, study_key
+from ttm_tools.study.parts import Costs, Part, costs_of, layout_of, parts_for, study_key
 from ttm_tools.study.results import registry
 from ttm_tools.study.settings import PartSettings
 from ttm_tools.study.stages import Folder
@@ -142,12 +142,14 @@ def killed_after(seconds: float, work: Callable[[], None]) -> bool:
 def test_a_study_killed_at_drawn_moments_has_the_bytes_of_one_that_was_not(place: Place) -> None:
     study = read_study(place.lay_out())
     begin = time.monotonic()
-    make_study(study, place.folder / "nine", Means(2))
+    make_study(study, place.folder / "nine", ExecutorOptions(2))
     whole, wanted = time.monotonic() - begin, place.made()
     seed = random.SystemRandom().randrange(1 << 32)
     drawn = random.Random(seed)
     kills = 0
-    while not killed_after(drawn.uniform(0, whole), lambda: make_study(study, place.folder / "killed", Means(2))):
+    while not killed_after(
+        drawn.uniform(0, whole), lambda: make_study(study, place.folder / "killed", ExecutorOptions(2))
+    ):
         kills += 1
     found = place.made("killed")
     print(f"seed {seed}: {kills} kills")
@@ -157,7 +159,7 @@ def test_a_study_killed_at_drawn_moments_has_the_bytes_of_one_that_was_not(place
 
 
 def test_the_matrix_is_that_of_one_run_and_every_result_is_there(place: Place, program: str) -> None:
-    make_study(read_study(place.lay_out()), place.folder / "nine", Means(2))
+    make_study(read_study(place.lay_out()), place.folder / "nine", ExecutorOptions(2))
     files = place.made()
     arguments = json.loads(files["study.json"])["words"]
     whole = subprocess.run([program, *arguments], cwd=place.folder / "nine", capture_output=True, check=True).stdout
@@ -172,7 +174,7 @@ def test_the_matrix_is_that_of_one_run_and_every_result_is_there(place: Place, p
 
 
 def test_the_notes_say_what_was_run_from_what_and_by_which_versions(place: Place, program: str) -> None:
-    make_study(read_study(place.lay_out()), place.folder / "nine", Means(2))
+    make_study(read_study(place.lay_out()), place.folder / "nine", ExecutorOptions(2))
     folder = place.folder / "nine"
     notes = json.loads((folder / "study.json").read_text())
     known = {name: was for stage in notes["stages"].values() for name, was in stage["files"].items()}
@@ -196,11 +198,11 @@ def test_the_toolchain_of_a_program_is_named_by_its_package_alone(tmp_path: Path
 
 
 def test_parts_of_any_number_and_processes_give_the_same_results(place: Place) -> None:
-    make_study(read_study(place.lay_out()), place.folder / "nine", Means(2))
+    make_study(read_study(place.lay_out()), place.folder / "nine", ExecutorOptions(2))
     wanted = place.made()
     for count, workers in ((1, 1), (9, 3)):
         study = read_study(place.say(NO_MAPS.replace("count = 4", f"count = {count}\nkeep = true")))
-        make_study(study, place.folder / str(count), Means(workers))
+        make_study(study, place.folder / str(count), ExecutorOptions(workers))
         files = place.made(str(count))
         assert sorted(path.name for path in (place.folder / str(count) / "parts").iterdir())[-1] == f"{count:04}"
         for name in ("matrix.csv", "matrix.omx", "access.csv", "equity.csv", "compare_cut.csv"):
@@ -231,7 +233,7 @@ def test_what_is_done_is_not_done_again_and_what_changed_is(place: Place) -> Non
 
 def test_a_part_of_other_inputs_or_with_other_bytes_is_never_taken(place: Place, program: str) -> None:
     study = read_study(place.lay_out(NO_MAPS.replace("count = 4", "count = 4\nkeep = true")))
-    make_study(study, place.folder / "nine", Means(2))
+    make_study(study, place.folder / "nine", ExecutorOptions(2))
     wanted = place.made()
     parts = place.folder / "nine/parts"
 
@@ -239,7 +241,7 @@ def test_a_part_of_other_inputs_or_with_other_bytes_is_never_taken(place: Place,
         """The parts that are made when the matrix is lost."""
         before = {path: path.stat().st_mtime_ns for path in sorted(parts.glob("*/matrix.csv"))}
         (place.folder / "nine/matrix.omx").unlink()
-        make_study(study, place.folder / "nine", Means(2))
+        make_study(study, place.folder / "nine", ExecutorOptions(2))
         assert place.made() == wanted
         return [path.parent.name for path in before if path.stat().st_mtime_ns != before[path]]
 
@@ -252,12 +254,12 @@ def test_a_part_of_other_inputs_or_with_other_bytes_is_never_taken(place: Place,
     (parts / "0001/matrix.csv").write_bytes(rotten.replace(b"base,S0,25,1008,", b"base,S0,25,2008,"))
     (place.folder / "nine/matrix.omx").unlink()
     with pytest.raises(InputError, match="parts/0001/matrix.csv: changed since it was written"):
-        make_study(study, place.folder / "nine", Means(2))
+        make_study(study, place.folder / "nine", ExecutorOptions(2))
     assert computed_after(study, place) == wanted
 
 
 def computed_after(study: Any, place: Place) -> dict[str, bytes]:
-    make_study(study, place.folder / "nine", Means(2))
+    make_study(study, place.folder / "nine", ExecutorOptions(2))
     return place.made()
 
 
@@ -284,7 +286,7 @@ def test_a_part_that_fails_is_named_and_the_others_go_on(
 
 
 def test_verification_computes_rows_again_and_tells_what_was_changed(place: Place) -> None:
-    make_study(read_study(place.lay_out(NO_MAPS)), place.folder / "nine", Means(2))
+    make_study(read_study(place.lay_out(NO_MAPS)), place.folder / "nine", ExecutorOptions(2))
     folder = place.path("nine")
     rows = "rows: those of 1 of 9 origins, chosen with --seed 7, have the same bytes\n"
     message = f"checksums: 21 files are as study.json says\n{rows}"
@@ -295,7 +297,7 @@ def test_verification_computes_rows_again_and_tells_what_was_changed(place: Plac
 
 
 def test_verification_removes_what_one_that_was_killed_left_aside(place: Place) -> None:
-    make_study(read_study(place.lay_out(NO_MAPS)), place.folder / "nine", Means(2))
+    make_study(read_study(place.lay_out(NO_MAPS)), place.folder / "nine", ExecutorOptions(2))
     ended = subprocess.Popen(["true"])
     ended.wait()
     left, own = (place.folder / "nine" / f".part.{item}.room" for item in (ended.pid, os.getpid()))
@@ -305,7 +307,7 @@ def test_verification_removes_what_one_that_was_killed_left_aside(place: Place) 
 
 
 def test_verification_finds_a_row_that_ttm_does_not_compute(place: Place) -> None:
-    make_study(read_study(place.lay_out(NO_MAPS)), place.folder / "nine", Means(2))
+    make_study(read_study(place.lay_out(NO_MAPS)), place.folder / "nine", ExecutorOptions(2))
     notes = json.loads((place.folder / "nine/study.json").read_text())
     text = (place.folder / "nine/matrix.csv").read_text()
     assert "base,S0,25,1008,1008,0,435," in text  # tenths of a job: the jobs have decimals
@@ -381,17 +383,17 @@ def test_words_that_do_not_go_together_are_wrong_words(bare: Place) -> None:
 def test_parts_are_cut_by_time_and_memory() -> None:
     # a second for each of 10,000 origins, after 20: five minutes are 280 of them, 36 parts
     costs = Costs(setup=20, each=1, network=10**9, row=10**6, free=10**11)
-    assert shape_of(PartSettings(), costs, 10_000, 4).parts == 36
+    assert layout_of(PartSettings(), costs, 10_000, 4).parts == 36
     # with 8 GB four share 6.4 GB: 1.6 GB each, 1 GB of which is the network, leave 600 rows
     tight = Costs(setup=0, each=0.01, network=10**9, row=10**6, free=8 * 10**9)
-    shape = shape_of(PartSettings(), tight, 10_000, 4)
+    shape = layout_of(PartSettings(), tight, 10_000, 4)
     assert (shape.parts, shape.at_once, shape.threads) == (20, 4, 1)
     # a network of 3 GB with 143 rows of 1 MB fits twice into 6.4 GB, so two run at once with two threads each
     wide = Costs(0, 1, 3 * 10**9, 10**6, 8 * 10**9)
-    shape = shape_of(PartSettings(count=70), wide, 10_000, 4)
+    shape = layout_of(PartSettings(count=70), wide, 10_000, 4)
     assert (shape.parts, shape.at_once, shape.threads) == (70, 2, 2)
     # with 1,429 rows, 4.4 GB, it fits once
-    shape = shape_of(PartSettings(count=7), wide, 10_000, 4)
+    shape = layout_of(PartSettings(count=7), wide, 10_000, 4)
     assert (shape.parts, shape.at_once, shape.threads) == (7, 1, 4)
 
 
@@ -409,9 +411,9 @@ def test_a_machine_whose_clock_is_slow_cuts_no_more_parts(place: Place, program:
 def test_more_processes_than_before_stay_within_the_memory() -> None:
     # twenty parts of 500 rows of 1 MB, 1.5 GB with the network, were cut for four at once: 6.4 GB hold four of them
     costs = Costs(setup=0, each=0.01, network=10**9, row=10**6, free=8 * 10**9)
-    shape = shape_of(PartSettings(), costs, 10_000, 8, known=20)
+    shape = layout_of(PartSettings(), costs, 10_000, 8, known=20)
     assert (shape.parts, shape.at_once, shape.threads) == (20, 4, 2)
-    shape = shape_of(PartSettings(memory=3000), costs, 10_000, 4, known=20)
+    shape = layout_of(PartSettings(memory=3000), costs, 10_000, 4, known=20)
     assert (shape.parts, shape.at_once, shape.threads) == (20, 2, 2)
 
 
@@ -433,7 +435,7 @@ def test_arrays_name_the_parts_that_are_missing() -> None:
 
 def test_one_part_is_computed_where_the_folder_says_so(place: Place, monkeypatch: pytest.MonkeyPatch) -> None:
     study = read_study(place.lay_out(NO_MAPS.replace("count = 4", "count = 4\nkeep = true")))
-    make_study(study, place.folder / "nine", Means(2))
+    make_study(study, place.folder / "nine", ExecutorOptions(2))
     folder, arguments = place.folder / "nine", ["study", "--part", "3", place.path("nine")]
     message = f"ttm-tools study: {folder}: is not the folder of a study with parts to compute: no parts/run.json\n"
     assert place.ran(*arguments) == ("", message, 1)

@@ -16,7 +16,7 @@ from helpers import LAUNCHER, Room, as_in_a_terminal, wait_until
 from test_study import STUDY, Place, place  # noqa: F401
 from ttm_tools.core.signals import Interrupted
 from ttm_tools.engine.arguments import EngineArguments
-from ttm_tools.study.executors.local import Pool, run_parts, tell_ending
+from ttm_tools.study.executors.local import Pool, log_ending, run_parts
 from ttm_tools.study.parts import Part
 
 WAITED_FOR = "interrupted: waiting for the running parts, which will be kept; Ctrl-C again stops at once"
@@ -69,10 +69,10 @@ def when_told(monkeypatch: pytest.MonkeyPatch, act: Callable[[], None]) -> None:
     """Does something as soon as it is told that the parts that run are waited for."""
 
     def tell(count: int) -> None:
-        tell_ending(count)
+        log_ending(count)
         act()
 
-    monkeypatch.setattr("ttm_tools.study.executors.local.tell_ending", tell)
+    monkeypatch.setattr("ttm_tools.study.executors.local.log_ending", tell)
 
 
 def test_the_parts_that_run_at_ctrl_c_are_kept(room: Room, monkeypatch: pytest.MonkeyPatch) -> None:

@@ -25,9 +25,9 @@ from ttm_tools.matrices import open_matrix
 from ttm_tools.measures.access_table import AccessKind, AccessTable
 from ttm_tools.measures.opportunities import Counts
 from ttm_tools.study.executors.conversation import KeptNetwork, PartQuestion, kept_arguments, question_of
-from ttm_tools.study.executors.remote import Means
+from ttm_tools.study.executors.remote import ExecutorOptions
 from ttm_tools.study.kinds import Window
-from ttm_tools.study.parts import Shape, parts_for, remove_parts, remove_windows
+from ttm_tools.study.parts import PartLayout, parts_for, remove_parts, remove_windows
 from ttm_tools.study.results.window_changes import changes_of, write_changes
 from ttm_tools.study.settings import DayWindow
 from ttm_tools.study.study_file import read_study
@@ -138,10 +138,10 @@ def test_a_ttm_that_keeps_its_network_gives_the_same_bytes(
 
 def test_a_study_of_windows_killed_at_drawn_moments_has_the_same_bytes(place: Place) -> None:  # noqa: F811
     study = read_study(laid_out(place))
-    make_study(study, place.folder / "nine", Means(2))
+    make_study(study, place.folder / "nine", ExecutorOptions(2))
     wanted, drawn = place.made(), random.Random(7)
     kills = 0
-    while not killed_after(drawn.uniform(0, 6), lambda: make_study(study, place.folder / "killed", Means(2))):
+    while not killed_after(drawn.uniform(0, 6), lambda: make_study(study, place.folder / "killed", ExecutorOptions(2))):
         kills += 1
     found = place.made("killed")
     assert sorted(found) == sorted(wanted)
@@ -295,14 +295,14 @@ def test_a_part_that_a_network_refuses_is_named_and_the_others_are_kept(
     with standing_in(tmp_path), KeptNetwork(run, tmp_path) as network:
         os.mkdir("stages")
         parts = parts_for(["A", "fault", "end", "B"], 4, "key")
-        failed = network.run_parts(run, parts, Shape(4, 2, 1))
+        failed = network.run_parts(run, parts, PartLayout(4, 2, 1))
         assert sorted((item.part.number, item.message) for item in failed) == [
             (2, "ttm: origins: record 2: unknown stop"),
             (3, "ttm: out of memory"),
         ]
         assert [part.is_done() for part in parts] == [True, False, False, True]
         assert parts[0].matrix.read_text() == "scenario,origin,share,access_1800,A\nbase,A,50,1,300\n"
-        assert len(network.run_parts(run, parts, Shape(4, 2, 1))) == 2
+        assert len(network.run_parts(run, parts, PartLayout(4, 2, 1))) == 2
 
 
 def test_the_first_ctrl_c_keeps_the_parts_that_are_asked_for(tmp_path: Path, monkeypatch: pytest.MonkeyPatch) -> None:
@@ -320,7 +320,7 @@ def test_the_first_ctrl_c_keeps_the_parts_that_are_asked_for(tmp_path: Path, mon
 
         monkeypatch.setattr(network, "ask", ask)
         with pytest.raises(Interrupted):
-            network.run_parts(run, parts, Shape(2, 1, 1))
+            network.run_parts(run, parts, PartLayout(2, 1, 1))
         assert [part.is_done() for part in parts] == [True, False]
         assert not [path for path in Path(".").rglob(".part.*")]
 

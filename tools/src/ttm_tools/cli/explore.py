@@ -83,7 +83,7 @@ def run(args: argparse.Namespace) -> None:
     needs("numpy", "pandas", "jinja2", "flask")
     options = options_of(args)
     from ..web.server import application
-    from ..web.session import Exploration
+    from ..web.session import ExploreSession
     from ..web.guard import Guard
     from ..web.session_inputs import with_generated
     from ..web.memory import give_back_at_once
@@ -97,12 +97,12 @@ def run(args: argparse.Namespace) -> None:
     with own, scratch("explore") as room:
         options, sentences = with_generated(options, room)
         say(*sentences)
-        exploration = Exploration(options, room)
+        session = ExploreSession(options, room)
         try:
             say("The page is at the address below, for this machine alone, until Ctrl-C ends it.")
             print(guard.address, flush=True)
-            exploration.read_ahead()
+            session.read_ahead()
             opened = None if args.no_browser else guard.write_redirect(room / "explore.html")
-            serve(application(exploration, guard), own, opened)
+            serve(application(session, guard), own, opened)
         finally:
-            exploration.close()
+            session.close()

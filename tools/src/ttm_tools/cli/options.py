@@ -236,14 +236,14 @@ def opened(args: argparse.Namespace) -> "Matrix":
     """The matrix that a command names, with the greatest travel time that it names, and compared with the base of
     another file where --base names one.
     """
-    from ..matrices import Beside, capped, open_matrix
+    from ..matrices import JoinedMatrix, capped, open_matrix
 
     own, base = capped(open_matrix(args.matrix), args.max_minutes), getattr(args, "base", None)
     if base is None or not is_file_of_base(base, own.scenarios):
         if getattr(args, "base_scenario", None) is not None:
             raise ArgumentError("--base-scenario goes with a file as --base")
         return own
-    matrix = Beside(own, capped(open_matrix(base), args.max_minutes), args.base_scenario)
+    matrix = JoinedMatrix(own, capped(open_matrix(base), args.max_minutes), args.base_scenario)
     args.base = None  # what is compared with is the base of the whole
     say(*matrix.sentences())
     return matrix

@@ -81,14 +81,14 @@ def run(args: argparse.Namespace) -> None:
 
 
 def make(args: argparse.Namespace) -> None:
-    from ..study.executors.remote import Means
+    from ..study.executors.remote import ExecutorOptions
     from ..study.study_file import read_study
     from ..study.work import make_study
 
     study = read_study(args.study)
     out = Path(args.out) if args.out else study.path.with_suffix("")
     try:
-        make_study(study, out, Means(args.workers, args.slurm, args.hosts, args.option))
+        make_study(study, out, ExecutorOptions(args.workers, args.slurm, args.hosts, args.option))
     except (Interrupted, KeyboardInterrupt):
         print("finished parts are kept: the same command resumes the study", file=sys.stderr)
         raise

@@ -107,10 +107,10 @@ class Pieces:
 
     def stated(self) -> Stated:
         """The records of all pieces; a column that isn't kept is empty."""
-        return Stated(*(self.columns.get(name, GrowableArray(np.int32)).whole() for name in STATED))
+        return Stated(*(self.columns.get(name, GrowableArray(np.int32)).to_array() for name in STATED))
 
     def others(self) -> Columns:
-        return {name: column_of(list(self.known[name]), codes.whole()) for name, codes in self.codes.items()}
+        return {name: column_of(list(self.known[name]), codes.to_array()) for name, codes in self.codes.items()}
 
 
 class CallReader:

@@ -33,7 +33,7 @@ LAST = 1 << 50  # ranks of what is found once all records are read
 
 
 @dataclass(frozen=True)
-class Fault:
+class FeedError:
     """What one check of a file finds: the records that fail it, in the order in which `ttm` would report them."""
 
     table: Table
@@ -72,7 +72,7 @@ class Checks:
     """The checks of a file's records, in their order."""
 
     def __init__(self, table: Table) -> None:
-        self.table, self.found = table, list[Fault]()
+        self.table, self.found = table, list[FeedError]()
         self.failed: dict[str, Mask] = {}
 
     def add(self, column: str, what: str, allowed: str, fails: Mask) -> None:
@@ -82,7 +82,7 @@ class Checks:
         self.failed[column] = fails if before is None else fails | before
         if len(rows):
             ranks = rows * 64 + len(self.failed) + len(self.found)
-            self.found.append(Fault(self.table, what, column, allowed, rows, ranks))
+            self.found.append(FeedError(self.table, what, column, allowed, rows, ranks))
 
     def filled(self, column: str) -> None:
         self.add(column, "empty id", ID, empty(self.table[column]))
@@ -110,11 +110,13 @@ class Checks:
         self.add("", TOO_MANY, allowed, np.arange(len(self.table)) >= most)
 
 
-def check(feed: Feed) -> list[Fault]:
+def check(feed: Feed) -> list[FeedError]:
     """All faults of a feed: one for each check that fails, the first in the order of `ttm` first."""
     none = np.zeros(0, np.int64)  # `ttm` reads all files before it looks at one
     allowed = "a file has to be there, and it is a folder"
-    unread = [Fault(no_table(name, path), UNREAD, "", allowed, none, none, True) for name, path in feed.unread.items()]
+    unread = [
+        FeedError(no_table(name, path), UNREAD, "", allowed, none, none, True) for name, path in feed.unread.items()
+    ]
     misspelt = [name for name in FILES if feed.tables.get(name) is not None and lacking_in(feed.tables[name])]
     renamed = with_right_names(feed, misspelt) if misspelt else feed
     in_order = []
@@ -141,7 +143,7 @@ def with_right_names(feed: Feed, names: Sequence[str]) -> Feed:
     return replace(feed, tables=tables)
 
 
-def faults_in(feed: Feed, name: str) -> list[Fault]:
+def faults_in(feed: Feed, name: str) -> list[FeedError]:
     table, none = feed.get(name), np.zeros(0, np.int64)
     if name in feed.unread:
         return []
@@ -149,15 +151,15 @@ def faults_in(feed: Feed, name: str) -> list[Fault]:
         if name in OPTIONAL and (name != "calendar.txt" or "calendar_dates.txt" in feed.tables):
             return []
         allowed = "the file has to be there" + (", or calendar_dates.txt" if name == "calendar.txt" else "")
-        return [Fault(table, "missing file", "", allowed, none, none, missing=True)]
+        return [FeedError(table, "missing file", "", allowed, none, none, missing=True)]
     if table.source is not None and table.source.stat().st_size > MOST_BYTES:
-        return [Fault(table, TOO_LONG, "", "a file has at most 1,073,741,824 bytes", none, none)]
+        return [FeedError(table, TOO_LONG, "", "a file has at most 1,073,741,824 bytes", none, none)]
     lacking = lacking_in(table)
     if lacking:
         sign = next((sign for sign in SIGNS if any(sign in column for column in table.columns)), None)
         allowed = f"the header has to name {', '.join(lacking)}"
         allowed += f"; {SIGNS[sign]} separate its fields, where commas have to" if sign else ""
-        return [Fault(table, "missing column", "", allowed, none, none)]
+        return [FeedError(table, "missing column", "", allowed, none, none)]
     checks = Checks(table)
     CHECKS[name](feed, checks)
     if name == "stop_times.txt":  # once the columns that its checks looked at are gone
@@ -236,7 +238,7 @@ def check_transfers(feed: Feed, checks: Checks) -> None:
     checks.found += too_many_footpaths(feed, table)
 
 
-def too_many_footpaths(feed: Feed, table: Table) -> Iterator[Fault]:
+def too_many_footpaths(feed: Feed, table: Table) -> Iterator[FeedError]:
     """The rows of transfers.txt from that one on with which they make more footpaths than `ttm` takes."""
     if not feed.has_columns("stops.txt"):
         return
@@ -244,7 +246,7 @@ def too_many_footpaths(feed: Feed, table: Table) -> Iterator[Fault]:
     rows = np.flatnonzero((np.cumsum(footpaths) > MOST_FOOTPATHS) & (footpaths > 0))
     if len(rows):
         allowed = f"at most {MOST_FOOTPATHS:,} footpaths, one for each pair of stops of its two ends"
-        yield Fault(table, TOO_MANY, "", allowed, rows, LAST + rows)
+        yield FeedError(table, TOO_MANY, "", allowed, rows, LAST + rows)
 
 
 def footpaths_of(table: Table, stops: Table) -> Whole:
@@ -261,7 +263,7 @@ def footpaths_of(table: Table, stops: Table) -> Whole:
     return np.where((a >= 0) & (b >= 0), sizes[a] * sizes[b] - shared, 0)
 
 
-def whole_trips(feed: Feed, table: Table) -> Iterator[Fault]:
+def whole_trips(feed: Feed, table: Table) -> Iterator[FeedError]:
     """The faults of whole trips, in the order of trips.txt; a field that is a fault isn't reported again."""
     trips = names_in(feed, "trips.txt", "trip_id")
     if trips is None:
@@ -275,7 +277,7 @@ def whole_trips(feed: Feed, table: Table) -> Iterator[Fault]:
     ):
         if len(places):
             ranks = (1 << 40) + (calls.trip[places] << 32) + within
-            yield Fault(table, what, "arrival_time", allowed, calls.rows[places], ranks)
+            yield FeedError(table, what, "arrival_time", allowed, calls.rows[places], ranks)
 
 
 CHECKS = {

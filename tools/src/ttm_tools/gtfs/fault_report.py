@@ -7,7 +7,7 @@ import numpy as np
 from ..core.console import one_line
 from ..core.errors import InputError
 from ..core.text import display_text, quantity
-from .check import Fault
+from .check import FeedError
 
 FEW = 8  # records that are named
 
@@ -17,7 +17,7 @@ def escaped(text: str) -> str:
     return display_text(text).encode("utf-8", "backslashreplace").decode("utf-8")
 
 
-def fault_lines(faults: Sequence[Fault]) -> Iterator[str]:
+def fault_lines(faults: Sequence[FeedError]) -> Iterator[str]:
     """Two lines for each failed check: the line of `ttm`, then the value, what is allowed, and how often it fails."""
     for fault in faults:
         yield fault.line()
@@ -28,7 +28,7 @@ def fault_lines(faults: Sequence[Fault]) -> Iterator[str]:
         yield f"  {found}{fault.allowed}{often}"
 
 
-def refuse(path: str, faults: Sequence[Fault], hint: str, causes: Iterable[str] = ()) -> None:
+def refuse(path: str, faults: Sequence[FeedError], hint: str, causes: Iterable[str] = ()) -> None:
     """Reports the first of some errors, and how many there are; or the first cause of them that is known."""
     if faults:
         cause = next(iter(causes), None)
@@ -39,7 +39,7 @@ def refuse(path: str, faults: Sequence[Fault], hint: str, causes: Iterable[str] 
         raise InputError(path, what).noting(**place_of(faults[0]))
 
 
-def place_of(fault: Fault) -> dict[str, object]:
+def place_of(fault: FeedError) -> dict[str, object]:
     """The attributes of an `InputError` about the first record of a fault."""
     record = None if fault.missing else int(fault.records[0])
     value = fault.value()
@@ -47,7 +47,7 @@ def place_of(fault: Fault) -> dict[str, object]:
     return {"file": fault.table.name, **found}
 
 
-def fault_rows(faults: Sequence[Fault]) -> Iterator[list[object]]:
+def fault_rows(faults: Sequence[FeedError]) -> Iterator[list[object]]:
     """Every single fault, file by file in the order in which `ttm` would report them."""
     files = list(dict.fromkeys(fault.table.name for fault in faults))
     for name in files:

@@ -29,6 +29,6 @@ class GrowableArray:
         self.numbers[self.used : end] = piece
         self.used = end
 
-    def whole(self) -> Numbers:
+    def to_array(self) -> Numbers:
         self.numbers.resize(self.used, refcheck=False)
         return self.numbers

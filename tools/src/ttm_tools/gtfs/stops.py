@@ -53,7 +53,7 @@ class Stops:
         areas = {name: self.areas[name] for name in identifiers if name in self.areas} if self.areas else {}
         return Stops(self.path, list(identifiers), names, *places, self.kinds[chosen], stations, wide, high, areas)
 
-    def followed_by(self, more: "Stops") -> "Stops":
+    def append(self, more: "Stops") -> "Stops":
         """These with others behind them; without cells."""
         return Stops(
             self.path,

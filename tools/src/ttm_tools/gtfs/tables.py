@@ -50,7 +50,7 @@ class Table:
         """All columns of the file."""
         return names_of(self.source) if self.apart and self.source is not None else self.columns
 
-    def whole(self) -> "Table":
+    def with_all_columns(self) -> "Table":
         """The same with all columns of the file."""
         return read_table(self.name, self.source) if self.apart and self.source is not None else self
 

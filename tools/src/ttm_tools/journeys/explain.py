@@ -62,14 +62,16 @@ def all_found(
         return read_walks(timetable, footpaths, task.walk, begin)
 
     for pair, (begin, end) in reported(zip(pairs, ends), len(pairs), "pairs"):
-        what = ExplainOptions(timetable, begin, end, departures, task.back, task.shares[0], told_of(task, date))
+        what = ExplainOptions(
+            timetable, begin, end, departures, task.back, task.shares[0], describe_question(task, date)
+        )
         found = []
         for name, seconds in cells[pair].items():
             walks, changes = walks_of(begin)
             runs = runs_of(timetable, date, (task.back, task.ahead), read_edits(files[name]))
             schedule = Schedule(timetable.events, runs, walks, changes, departures[0])
             found.append(found_by(what, name, task.trips, schedule, all_options))
-            tell_difference(name, found[-1].cell, seconds, *pair)
+            refuse_difference(name, found[-1].cell, seconds, *pair)
         yield what, found
 
 
@@ -80,7 +82,7 @@ def scenarios_of(files: Sequence[Pathlike]) -> dict[str, str | None]:
     return {name: path for name, path in paths.items() if name != BASE or TODAY not in paths}
 
 
-def told_of(task: EngineArguments, date: datetime.date) -> str:
+def describe_question(task: EngineArguments, date: datetime.date) -> str:
     """The date, days, departures and limits of a search."""
     days = f"service days: {task.back} before and {task.ahead} after"
     limits = f"at most {task.trips} rides, walks up to {task.walk} seconds"
@@ -182,7 +184,7 @@ def different(options: Sequence[Option]) -> list[Option]:
     return [option for place, option in enumerate(options) if keys[place] not in keys[:place]]
 
 
-def tell_difference(
+def refuse_difference(
     name: str, own: int | None, seconds: int | None, origin: str, destination: str, at: str = ""
 ) -> None:
     """The fault where `ttm` has another travel time in a scenario."""

@@ -19,7 +19,7 @@ from ..engine.refusals import EngineError
 from ..gtfs.timetable import DAY
 from ..matrices import Matrix, open_matrix
 from ..views.journeys import ExplainOptions, Found
-from .explain import Pairs, cells_of, tell_difference
+from .explain import Pairs, cells_of, refuse_difference
 
 EVERY = 100  # the percentile of a window of one departure
 
@@ -53,7 +53,7 @@ def checked_options(
                     if at not in matrices:
                         matrices[at] = matrix_at(conversation, at, folder)
                     cells = cells_of(matrices[at], [found.name], EVERY, [pair])
-                    tell_difference(found.name, option.seconds, cells[pair][found.name], *pair, f" at {at}")
+                    refuse_difference(found.name, option.seconds, cells[pair][found.name], *pair, f" at {at}")
             yield options, every_found
 
 

@@ -6,7 +6,7 @@ The room is called `matrices`, since `ttm_tools.matrix` is the function that run
 
 from ..core.reading import as_one_line, regular
 from .base import BASE, Matrix, Pair, Share, Sums, TODAY, has_all, lacking, pair_of
-from .beside import Beside
+from .beside import JoinedMatrix
 from .capped import capped
 from .csv_matrix import CsvMatrix
 from .layout import layout_of
@@ -15,8 +15,8 @@ from .omx import OpenMatrix, is_open_matrix, write_open_matrix
 
 __all__ = [
     "BASE",
-    "Beside",
     "TODAY",
+    "JoinedMatrix",
     "Matrix",
     "Pair",
     "Seconds",

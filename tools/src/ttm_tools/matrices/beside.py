@@ -11,7 +11,7 @@ from ..core.errors import InputError
 from ..core.text import display_text
 from .base import LEFT_OUT, Matrix, Places, Share, Sums, sentences_on_lacking
 from .lines import Seconds
-from .origin import told_of
+from .origin import describe_origin
 
 
 @dataclass(frozen=True)
@@ -32,7 +32,7 @@ class MatrixSource:
         return np.array([places[name] for name in self.origins], dtype=np.intp)
 
 
-class Beside(Matrix):
+class JoinedMatrix(Matrix):
     """The scenarios of a matrix, and as their base one of another: the origins, stops, shares and limits that both
     have.
     """
@@ -109,7 +109,7 @@ class Beside(Matrix):
         texts, others = [], self.sources[self.base].shares
         for label, of in list(self.sources.items())[1::-1]:
             differs = [f"percentile {of.shares[share]}" for share in self.shares if others[share] != share]
-            texts_of_scenario = [f"scenario {display_text(of.scenario)}", *told_of(of.matrix.path), *differs]
+            texts_of_scenario = [f"scenario {display_text(of.scenario)}", *describe_origin(of.matrix.path), *differs]
             texts.append(f"{display_text(label)} is {of.matrix.path} ({', '.join(texts_of_scenario)})")
         return "; ".join(texts)
 

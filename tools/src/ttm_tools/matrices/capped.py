@@ -9,7 +9,7 @@ from .base import Matrix, Places, Share, Sums
 from .lines import Seconds
 
 
-class Capped(Matrix):
+class LimitedMatrix(Matrix):
     """The same matrix without the travel times above a number of seconds, and without access within longer limits,
     which counts such pairs.
     """
@@ -42,4 +42,4 @@ class Capped(Matrix):
 
 def capped(matrix: Matrix, minutes: float | None) -> Matrix:
     """A matrix whose travel times end at a number of minutes, if one is given."""
-    return matrix if minutes is None else Capped(matrix, round(60 * minutes))
+    return matrix if minutes is None else LimitedMatrix(matrix, round(60 * minutes))

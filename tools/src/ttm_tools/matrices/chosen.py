@@ -9,7 +9,7 @@ from .base import Matrix, Places, Share, Sums
 from .lines import Seconds
 
 
-class Chosen(Matrix):
+class MatrixSubset(Matrix):
     """The rows of those origins, and the columns of those stops, that are named; where none of the rows is, or none of
     the columns, all of them.
     """

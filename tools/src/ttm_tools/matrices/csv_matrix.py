@@ -137,11 +137,11 @@ class CsvMatrix(Matrix):
                 cells = os.pread(file.fileno(), line.end - line.begin, line.begin)
                 seconds = seconds_of(cells, len(self.stops))
                 if seconds is None:
-                    self.tell_bad(cells, line.record)
+                    self.refuse_bad(cells, line.record)
                 values[row] = seconds
         return values
 
-    def tell_bad(self, cells: bytes, record: int) -> None:
+    def refuse_bad(self, cells: bytes, record: int) -> None:
         place, text = first_bad(cells)
         column = display_text(self.stops[place]) if place < len(self.stops) else None
         raise InputError(

@@ -8,7 +8,7 @@ from ..core.reading import read_json
 NOTES = "study.json"
 
 
-def told_of(path: str) -> list[str]:
+def describe_origin(path: str) -> list[str]:
     """The day and the window of a matrix in a study's folder, or in a folder of it; nothing for another one."""
     matrix = Path(path).absolute()
     folder = next((folder for folder in (matrix.parent, matrix.parent.parent) if (folder / NOTES).is_file()), None)

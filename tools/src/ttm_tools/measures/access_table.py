@@ -90,7 +90,7 @@ def read_access(path: str) -> AccessTable:
         raise InputError(path, "no lines")
     numbers[tuple(np.array(list(found)).T)] = list(found.values())
     table = AccessTable(path, list(scenarios), list(kinds), list(origins), numbers, of_times)
-    tell_gaps(table)
+    warn_of_gaps(table)
     table.numbers[np.isinf(table.numbers)] = np.nan
     return table
 
@@ -154,7 +154,7 @@ def lines_of(path: str, named: Sequence[str]) -> Iterator[tuple[int, str, Access
         yield number, scenario or "base", AccessKind(opportunity, percentile, cutoff), origin, value
 
 
-def tell_gaps(table: AccessTable) -> None:
+def warn_of_gaps(table: AccessTable) -> None:
     """Refuses the first scenario and kind that lacks origins."""
     gaps = np.isnan(table.numbers)
     for scenario, kind in np.argwhere(gaps.any(axis=2))[:1].tolist():

@@ -38,14 +38,14 @@ def competition(matrix: Matrix, scenario: str, share: Share, market: Market) -> 
     people = np.array([market.demand.get(name, 0.0) for name in matrix.origins(scenario, share)])
     compute = COMPETITIONS[market.method].compute()
     found = np.zeros((len(people), market.supply.shape[1], len(market.cutoffs)))
-    for column, supply in enumerate(market.supply.T):
+    for column, amounts in enumerate(market.supply.T):
         for place, cutoff in enumerate(market.cutoffs):
-            found[:, column, place] = compute(Thing(matrix, scenario, share, market, cutoff, people, supply))
+            found[:, column, place] = compute(Supply(matrix, scenario, share, market, cutoff, people, amounts))
     return found
 
 
 @dataclass(frozen=True)
-class Thing:
+class Supply:
     """A column of the supply that people compete for within a cutoff."""
 
     matrix: Matrix
@@ -54,11 +54,11 @@ class Thing:
     market: Market
     cutoff: float
     people: Floats  # by origin
-    supply: Floats  # by stop
+    amounts: Floats  # by stop
 
     @property
     def used(self) -> Places:
-        return np.flatnonzero(self.supply)
+        return np.flatnonzero(self.amounts)
 
     def weights(self, seconds: Seconds) -> Floats:
         found = self.market.weighting.weights(seconds[:, self.used], self.cutoff)
@@ -67,7 +67,7 @@ class Thing:
 
     def rates(self, demand: Floats) -> Floats:
         """What each person who competes for a destination has of it."""
-        return divided(self.supply[self.used], demand)
+        return divided(self.amounts[self.used], demand)
 
     def shared_out(self, rates: Floats) -> Floats:
         """What each origin has of all destinations."""
@@ -79,18 +79,18 @@ class Thing:
         return by_blocks(self.matrix, self.scenario, self.share, (1, 1), access)[:, 0, 0]
 
 
-def floating(thing: Thing) -> Floats:
-    demand, _ = totals(thing, balanced=False)
-    return thing.shared_out(thing.rates(demand))
+def floating(supply: Supply) -> Floats:
+    demand, _ = totals(supply, balanced=False)
+    return supply.shared_out(supply.rates(demand))
 
 
-def balanced(thing: Thing) -> Floats:
-    demand, sums = totals(thing, balanced=True)
-    return thing.shared_out(divided(thing.rates(demand), sums))
+def balanced(supply: Supply) -> Floats:
+    demand, sums = totals(supply, balanced=True)
+    return supply.shared_out(divided(supply.rates(demand), sums))
 
 
-def availability(thing: Thing) -> Floats:
-    return floating(thing) * thing.people
+def availability(supply: Supply) -> Floats:
+    return floating(supply) * supply.people
 
 
 def divided(numbers: Floats, by: Floats) -> Floats:
@@ -98,15 +98,15 @@ def divided(numbers: Floats, by: Floats) -> Floats:
     return np.divide(numbers, by, out=np.zeros(len(numbers)), where=by > 0)
 
 
-def totals(thing: Thing, *, balanced: bool) -> tuple[Floats, Floats]:
+def totals(supply: Supply, *, balanced: bool) -> tuple[Floats, Floats]:
     """For each destination the people who compete for it, and the sum of its weights over the origins with people.
     Where it is balanced the people of an origin are shared out among its destinations, so that each of them counts
     once.
     """
     demand, sums, begin = np.zeros(0), np.zeros(0), 0
-    for block in thing.matrix.blocks(thing.scenario, thing.share):
-        found = thing.weights(block.seconds)
-        there = thing.people[begin : begin + len(found)]
+    for block in supply.matrix.blocks(supply.scenario, supply.share):
+        found = supply.weights(block.seconds)
+        there = supply.people[begin : begin + len(found)]
         begin += len(found)
         whole = found.sum(axis=1) if balanced else np.ones(len(found))
         more = divided(there, whole) @ found, (there > 0) @ found

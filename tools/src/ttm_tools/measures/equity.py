@@ -30,14 +30,14 @@ def mean(numbers: Floats, people: Floats) -> float:
     return float(numbers @ people / people.sum())
 
 
-def within(numbers: Floats, people: Floats, part: float) -> float:
+def weighted_quantile(numbers: Floats, people: Floats, part: float) -> float:
     """The least number such that this part of the people, or more, have no more; NaN stands last."""
     order = np.argsort(numbers, kind="stable")
     sums = np.cumsum(people[order])
     return float(numbers[order][np.argmax(sums >= sums[-1] * part * NEARLY)])
 
 
-def part(access: Floats, people: Floats, begin: float, end: float) -> Floats:
+def people_in_slice(access: Floats, people: Floats, begin: float, end: float) -> Floats:
     """How many of the people at each point stand between two shares (0 to 1) of all, by ascending access."""
     values, group = np.unique(access, return_inverse=True)
     counts = np.bincount(group, people, len(values))
@@ -69,17 +69,19 @@ def losers_percent(case: EquityCase) -> float:
 
 
 def palma(case: EquityCase) -> float:
-    most, least = part(case.access, case.people, 1 - TOP, 1), part(case.access, case.people, 0, BOTTOM)
+    most, least = people_in_slice(case.access, case.people, 1 - TOP, 1), people_in_slice(
+        case.access, case.people, 0, BOTTOM
+    )
     of_least = mean(case.access, least)
     return mean(case.access, most) / of_least if of_least > 0 else float("nan")
 
 
-def least_tenth(case: EquityCase) -> float:
-    return mean(case.access, part(case.access, case.people, 0, 1 / TENTHS))
+def mean_lowest_decile(case: EquityCase) -> float:
+    return mean(case.access, people_in_slice(case.access, case.people, 0, 1 / TENTHS))
 
 
 def least_tenth_change(case: EquityCase) -> float:
-    return mean(case.access - case.base, part(case.base, case.people, 0, 1 / TENTHS))
+    return mean(case.access - case.base, people_in_slice(case.base, case.people, 0, 1 / TENTHS))
 
 
 @dataclass(frozen=True)
@@ -89,7 +91,7 @@ class Equity:
     people: float = column(lambda case: float(case.people.sum()))
     mean: float = column(lambda case: mean(case.access, case.people), "Σ *p a* / *P*")
     median: float = column(
-        lambda case: within(case.access, case.people, 0.5),
+        lambda case: weighted_quantile(case.access, case.people, 0.5),
         "the least access that at least half of the people don't exceed",
     )
     losers_percent: float = column(
@@ -110,7 +112,7 @@ class Equity:
         " since no incomes are known",
     )
     least_tenth: float = column(
-        least_tenth,
+        mean_lowest_decile,
         "mean access of the tenth with the least access in this scenario",
         'after J. Rawls, "A Theory of Justice", 1971',
     )
@@ -123,5 +125,5 @@ def equity(base: Floats, access: Floats, people: Floats, percent: float) -> Equi
 
 def changes_by_tenth(base: Floats, access: Floats, people: Floats) -> Floats:
     """The mean change of each tenth of the people, from that with the least access in the base on."""
-    tenths = [part(base, people, place / TENTHS, (place + 1) / TENTHS) for place in range(TENTHS)]
+    tenths = [people_in_slice(base, people, place / TENTHS, (place + 1) / TENTHS) for place in range(TENTHS)]
     return np.array([mean(access - base, tenth) for tenth in tenths])

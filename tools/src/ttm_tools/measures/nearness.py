@@ -6,7 +6,7 @@ import numpy as np
 
 from ..core.arrays import Floats, Mask
 from .columns import column, row_of
-from .equity import NEARLY, within
+from .equity import NEARLY, weighted_quantile
 
 MINUTE = 60.0
 OF_PARTS = "the least time within which at least half, or nine tenths, of all people are there; none if fewer ever are"
@@ -55,8 +55,10 @@ class Nearness:
         lambda case: 100 * float(case.inside / case.people.sum()), "percentage of people with an *s*"
     )
     mean_minutes: float = column(mean_minutes, "Σ *p s*, divided by the number of these people")
-    median_minutes: float = column(lambda case: within(case.seconds, case.people, 0.5) / MINUTE, OF_PARTS)
-    nine_tenths_minutes: float = column(lambda case: within(case.seconds, case.people, 0.9) / MINUTE, OF_PARTS)
+    median_minutes: float = column(lambda case: weighted_quantile(case.seconds, case.people, 0.5) / MINUTE, OF_PARTS)
+    nine_tenths_minutes: float = column(
+        lambda case: weighted_quantile(case.seconds, case.people, 0.9) / MINUTE, OF_PARTS
+    )
     losers_percent: float = column(
         losers_percent,
         "percentage of people with *s* − *s* (base) ≥ `--lose` percent of *s* (base), and above 0, or with an *s* in"

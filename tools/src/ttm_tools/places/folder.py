@@ -94,7 +94,7 @@ def folder_of(options: PointsOptions, walker: WalkFinder) -> PointsFolder:
     helps = HELPS_AFTER if options.leaves_out else HELPS + HELPS_AFTER
     if not options.leaves_out:
         refuse_places(len(stops.identifiers), study, helps)
-    walks = walker(stops.followed_by(study.points.as_stops()), len(stops.identifiers) if options.leaves_out else None)
+    walks = walker(stops.append(study.points.as_stops()), len(stops.identifiers) if options.leaves_out else None)
     near = in_reach(stops, study, walks)
     sentences = list(sentences_on(options, prefixes, study, near))
     sentences += [walks_summary(walks, "stops", options.near)] if walks.lost or walks.far or walks.apart else []
@@ -103,7 +103,7 @@ def folder_of(options: PointsOptions, walker: WalkFinder) -> PointsFolder:
         places = np.flatnonzero(near)
         study = PointStudy(study.points.only(places), study.file[places])
         refuse_places(len(stops.identifiers), study, helps)
-        walks = walker(stops.followed_by(study.points.as_stops()), None)
+        walks = walker(stops.append(study.points.as_stops()), None)
     refuse_walks(walks, study, helps)
     rounded = RoundingCounter()
     with atomic_folder(options.out) as folder:

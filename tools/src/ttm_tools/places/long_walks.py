@@ -49,7 +49,7 @@ class LongWalks:
 
     @cached_property
     def stops(self) -> Stops:
-        return self.own.followed_by(self.study.points.as_stops())
+        return self.own.append(self.study.points.as_stops())
 
     @cached_property
     def snapped(self) -> SnappedStops:

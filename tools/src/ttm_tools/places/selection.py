@@ -8,7 +8,7 @@ import numpy as np
 from ..core.errors import InputError
 from ..gtfs.stops import Stops, read_stops
 from ..matrices import Matrix
-from ..matrices.chosen import Chosen
+from ..matrices.chosen import MatrixSubset
 from .areas import areas_beside
 from .folder import POINTS
 from .read import Points, read_points
@@ -30,7 +30,7 @@ def select_points(matrix: Matrix, feed: str | None, points: str | None) -> tuple
     found = read_points(path)
     if os.path.basename(path) == POINTS:
         found = replace(found, areas=areas_beside(path))
-    chosen = Chosen(matrix, found.identifiers)
+    chosen = MatrixSubset(matrix, found.identifiers)
     if points is not None and not chosen.is_any:
         raise InputError(matrix.path, f"it has no point of {points}")
     return chosen, with_points(stops, found) if stops is not None else found.as_stops()
@@ -40,6 +40,6 @@ def with_points(stops: Stops, points: Points) -> Stops:
     """The stops of a feed with the widths and areas of points, and behind them those points that it hasn't."""
     new = np.array([place for place, name in enumerate(points.identifiers) if name not in stops.places], dtype=np.intp)
     known = dict(zip(points.identifiers, points.as_stops().sides().tolist()))
-    every = stops.followed_by(points.only(new).as_stops())
+    every = stops.append(points.only(new).as_stops())
     wide, high = np.array([known.get(name, [np.nan] * 2) for name in every.identifiers]).reshape(-1, 2).T
     return replace(every, widths=wide, heights=high, areas=points.areas)

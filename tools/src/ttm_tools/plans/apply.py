@@ -13,7 +13,7 @@ ABOUT = ("route", "trip", "stop")  # keys that say what an action is about
 
 
 @dataclass(frozen=True)
-class Done:
+class ActionResult:
     """What an action did."""
 
     scenario: str
@@ -38,21 +38,21 @@ class Done:
 
 
 @dataclass(frozen=True)
-class Finished:
+class ScenarioResult:
     """A scenario whose actions were carried out."""
 
     planned: PlannedScenario
     state: State
-    done: list[Done]
+    done: list[ActionResult]
 
     @property
     def name(self) -> str:
         return self.planned.name
 
 
-def carried_out(base: Base, planned: PlannedScenario) -> Finished:
+def apply_scenario(base: Base, planned: PlannedScenario) -> ScenarioResult:
     """Carries out all actions of a scenario; one that changes nothing is reported by its line."""
-    state, done = State(base, planned.name), list[Done]()
+    state, done = State(base, planned.name), list[ActionResult]()
     for number, entry in enumerate(planned.actions, 1):
         what = entry.text("do")
         if what not in ACTIONS:
@@ -64,5 +64,5 @@ def carried_out(base: Base, planned: PlannedScenario) -> Finished:
         notes = action.carry_out()(state, entry)
         if not state.changes:
             raise entry.fault("changes nothing", "do", what)
-        done.append(Done(planned.name, number, entry, before, state.counts(), notes, state.changes))
-    return Finished(planned, state, done)
+        done.append(ActionResult(planned.name, number, entry, before, state.counts(), notes, state.changes))
+    return ScenarioResult(planned, state, done)

@@ -10,7 +10,7 @@ from ..core.progress import reported
 from ..core.reading import as_one_line
 from ..core.text import as_text
 from ..core.toml_values import near, nearest_name
-from .apply import Finished, carried_out
+from .apply import ScenarioResult, apply_scenario
 from .base import read_base
 from .limits import refuse_limits, sentences_on_days
 from .plan_file import PlanFile, read_plan
@@ -27,7 +27,7 @@ class Planned:
 
     lines: list[str]  # what was done, a sentence a line
     arguments: str | None  # of a run with all scenarios; none for the feed of one
-    finished: list[Finished]
+    finished: list[ScenarioResult]
 
 
 def make(feed: str, path: str, out: str, only: str | None = None, called: str = "") -> tuple[list[str], str | None]:
@@ -48,7 +48,7 @@ def planned(feed: str, path: str, out: str, only: str | None = None, called: str
         raise InputError(path, f"no scenario {only}{near(only, names)}").noting(**found)
     base = read_base(feed, plan.stops)
     chosen = [scenario for scenario in plan.scenarios if only in (None, scenario.name)]
-    finished = [carried_out(base, scenario) for scenario in reported(chosen, len(chosen), "scenarios")]
+    finished = [apply_scenario(base, scenario) for scenario in reported(chosen, len(chosen), "scenarios")]
     refuse_limits(path, base, [scenario.state for scenario in finished])
     written = written_of(base, finished, alone=only is not None)
     lines = [*sentences(finished), *([] if only else unused(written)), *sentences_on_days(base, written.states)]
@@ -82,7 +82,7 @@ def files_in_order(folder: str) -> list[str]:
     return [files[name] for name in names]
 
 
-def write_report(plan: PlanFile, finished: list[Finished], lines: list[str], folder: Path) -> None:
+def write_report(plan: PlanFile, finished: list[ScenarioResult], lines: list[str], folder: Path) -> None:
     names = ", ".join(scenario.name for scenario in finished)
     text = [f"# Scenarios of {as_text(Path(plan.path).name)}: {names}", ""]
     text += [line[2:] if line.startswith("  ") else f"- {line}" for line in map(as_text, lines)]

@@ -6,7 +6,7 @@ from typing import Iterator, Sequence
 from ..core.notices import Notice
 from ..core.tables import write_rows
 from ..core.text import first_few
-from .apply import Done, Finished
+from .apply import ActionResult, ScenarioResult
 from .writing import Written, used_stops
 
 COUNTS = {"trips": "trips", "stops": "stops", "events": "stop times"}  # with their nouns in sentences
@@ -19,13 +19,13 @@ CHANGES = ["scenario", "action", "line", "do", "what", "trip", "now", "route", "
 STOPS = ["stop_id", "stop_name", "stop_lat", "stop_lon", "scenarios"]
 
 
-def action_rows(finished: Sequence[Finished]) -> Iterator[list[object]]:
+def action_rows(finished: Sequence[ScenarioResult]) -> Iterator[list[object]]:
     for done in (done for scenario in finished for done in scenario.done):
         counts = [part[name] for name in COUNTS for part in (done.before, done.after)]
         yield [*begin_of(done), " ".join(done.about), *counts, *map(done.count, KINDS)]
 
 
-def action_fields(finished: Sequence[Finished]) -> Iterator[dict[str, object]]:
+def action_fields(finished: Sequence[ScenarioResult]) -> Iterator[dict[str, object]]:
     """The actions for programs: docs/reference/json.md has each field."""
     for done in (done for scenario in finished for done in scenario.done):
         yield {
@@ -44,7 +44,7 @@ def action_fields(finished: Sequence[Finished]) -> Iterator[dict[str, object]]:
         }
 
 
-def begin_of(done: Done) -> list[object]:
+def begin_of(done: ActionResult) -> list[object]:
     """The fields that say which action it is."""
     return [done.scenario, done.number, done.entry.lines.line, done.what]
 
@@ -77,7 +77,7 @@ def write_lists(written: Written, folder: Path) -> None:
             write_rows(file, header, rows)
 
 
-def sentences(finished: Sequence[Finished]) -> list[str]:
+def sentences(finished: Sequence[ScenarioResult]) -> list[str]:
     """What each action did, and below it what it chose."""
     return [
         line
@@ -87,7 +87,7 @@ def sentences(finished: Sequence[Finished]) -> list[str]:
     ]
 
 
-def sentence_of(done: Done) -> str:
+def sentence_of(done: ActionResult) -> str:
     """What an action did to its scenario."""
     kinds = [f"{done.count(kind):,} {kind}" for kind in KINDS if done.count(kind)]
     counts = [

@@ -7,7 +7,7 @@ import numpy as np
 
 from ..core.errors import InputError
 from ..core.tables import write_rows
-from .apply import Finished
+from .apply import ScenarioResult
 from .new_records import own_routes
 from .plan_file import TAKEN
 from .state import State
@@ -19,7 +19,7 @@ TODAY = TAKEN[1]
 Record = tuple[str, str, str]
 
 
-def records_of(written: Written, mine: Finished | None) -> list[Record]:
+def records_of(written: Written, mine: ScenarioResult | None) -> list[Record]:
     """What the file of a scenario says; of today, which changes nothing, where there is none."""
     records = [] if mine is None else list(own_records(mine.state))
     for other in written.finished:
@@ -43,7 +43,7 @@ def own_records(state: State) -> Iterator[Record]:
         yield ("shift_trip", base.trips[place], str(int(state.shift[place])))
 
 
-def too_long(mine: Finished | None, count: int) -> InputError:
+def too_long(mine: ScenarioResult | None, count: int) -> InputError:
     """The fault of a scenario whose file is longer than `ttm` takes."""
     if mine is None:
         what = f"would have {count:,} records, and ttm takes {MOST_RECORDS:,}"

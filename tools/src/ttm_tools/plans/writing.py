@@ -18,7 +18,7 @@ from ..core.tables import names_of as columns_of, records
 from ..gtfs.columns import one_of
 from ..gtfs.tables import Table, joined, no_table, read_table, write_lines, write_table
 from . import new_records as new
-from .apply import Finished
+from .apply import ScenarioResult
 from .base import Base
 from .shapes import NAME as SHAPES, Shapes, read_shapes
 from .state import State
@@ -33,7 +33,7 @@ class Written:
     """What is written: the feed's scenarios, and what theirs is called in it."""
 
     base: Base
-    finished: Sequence[Finished]
+    finished: Sequence[ScenarioResult]
     names: new.Names
 
     @property
@@ -53,7 +53,7 @@ class Written:
         return new.own_trips(self.states, self.names, self.shapes)
 
 
-def written_of(base: Base, finished: Sequence[Finished], alone: bool) -> Written:
+def written_of(base: Base, finished: Sequence[ScenarioResult], alone: bool) -> Written:
     added = Counter(route for scenario in finished for route in scenario.state.lines)
     shared = frozenset(route for route, count in added.items() if count > 1)
     return Written(base, finished, new.Names(base, shared, alone))
@@ -121,7 +121,7 @@ def put_together(old: Table, more: Table, path: Path) -> None:
     """Writes a table with further records behind: the file that it was read from as it is, where that can be."""
     if old.source is None or len(more) and not can_go_on(old.source, more):
         with open(path, "wb") as file:
-            write_table(joined(old.whole(), more) if len(more) else old, file)
+            write_table(joined(old.with_all_columns(), more) if len(more) else old, file)
         return
     shutil.copyfile(old.source, path)
     if not len(more):

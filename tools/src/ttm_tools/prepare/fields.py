@@ -8,7 +8,7 @@ import numpy as np
 
 from ..gtfs.feeds import Feed
 from ..gtfs.service_days import days_of, runs_by_day
-from ..gtfs.check import Fault
+from ..gtfs.check import FeedError
 from .make import PREPARED, Prepared
 from ..gtfs.fault_report import fault_rows
 
@@ -37,7 +37,7 @@ def trips_by_date(feed: Feed) -> dict[str, int]:
     return {str(days.day(place)): int(runs[place]) for place in range(int(busy[0]), int(busy[-1]) + 1)}
 
 
-def error_fields(path: str, faults: Sequence[Fault]) -> Iterator[dict[str, object]]:
+def error_fields(path: str, faults: Sequence[FeedError]) -> Iterator[dict[str, object]]:
     """Each single error of a feed, in the order in which `ttm` would report them; None for what has no value."""
     for row in fault_rows(faults):
         yield {"feed": path, **{name: None if value == "" else value for name, value in zip(OF_ERROR, row)}}

@@ -3,7 +3,7 @@
 import os
 from pathlib import Path
 
-from .executors.remote import Means
+from .executors.remote import ExecutorOptions
 from .study_file import read_study
 from .work import make_study
 
@@ -34,5 +34,5 @@ def run_study(
     """
     study = read_study(os.fspath(path))
     folder = study.path.with_suffix("") if out is None else Path(out)
-    make_study(study, folder, Means(threads))
+    make_study(study, folder, ExecutorOptions(threads))
     return folder

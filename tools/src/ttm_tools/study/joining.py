@@ -12,7 +12,7 @@ from ..core.files import output, remove
 from ..core.text import quantity
 from ..core.threads import map_in_order
 from ..matrices import Matrix, Seconds, Share, Sums, write_open_matrix
-from ..matrices.chosen import Chosen
+from ..matrices.chosen import MatrixSubset
 from ..matrices.csv_matrix import CsvMatrix
 from ..core.scaling import unscaled
 from ..matrices.parts import PartMatrix, write_whole
@@ -83,7 +83,7 @@ def join_parts(parts: Sequence[Part], with_csv: bool, shown: ShownMatrix, thread
     """
     refuse_changed(parts, threads)
     joined = Joined(parts, shown.shown_as, shown.scale)
-    matrix = Chosen(joined, shown.columns) if shown.columns else joined
+    matrix = MatrixSubset(joined, shown.columns) if shown.columns else joined
     write_open_matrix(matrix, path, threads)
     columns = quantity(len(matrix.stops), "point" if shown.columns else "stop")
     sentences = [f"{path}: {quantity(joined.begins[-1], 'origin')}, {columns}"]

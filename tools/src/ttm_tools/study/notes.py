@@ -11,7 +11,7 @@ from .. import __version__
 from ..core.errors import InputError
 from ..core.reading import read_json, regular
 from .results.tables import StudyMatrix
-from .stages import Record, as_text, logged, sum_of_tools, write_settled
+from .stages import Record, as_text, logged, sum_of_tools, write_durably
 from .ttm import facts_of
 from .windows import Machine, inputs_of, matrix_of
 
@@ -32,9 +32,9 @@ def versions(ttm: Sequence[str], program: str) -> dict[str, Any]:
     return known
 
 
-def write_notes(whole: StudyMatrix, records: dict[str, Record], machine: Machine, parts: int) -> None:
+def write_notes(results: StudyMatrix, records: dict[str, Record], machine: Machine, parts: int) -> None:
     """Writes what was done, unless that stands there already."""
-    study, inputs = whole.study, whole.inputs
+    study, inputs = results.study, results.inputs
     all_records = {**inputs.records, **records}
     facts: dict[str, Any] = {
         "form": FORM,
@@ -60,7 +60,7 @@ def write_notes(whole: StudyMatrix, records: dict[str, Record], machine: Machine
     except InputError:
         there = {}
     if there != json.loads(json.dumps(facts)):
-        write_settled(study.folder / NOTES, as_text({**facts, "times": times(study.folder)}))
+        write_durably(study.folder / NOTES, as_text({**facts, "times": times(study.folder)}))
 
 
 def times(study: Path) -> dict[str, Any]:

@@ -14,7 +14,7 @@ from ..matrices.parts import parts_of
 from .counted import ORIGINS
 from .inputs import Inputs
 from .settings import PartSettings
-from .stages import as_text, facts_in, key_of, room, settle, write_settled
+from .stages import as_text, facts_in, fsync, key_of, room, write_durably
 from .ttm import Report, report_of, with_origins
 
 PARTS = "parts"
@@ -42,7 +42,7 @@ class Costs:
 
 
 @dataclass(frozen=True)
-class Shape:
+class PartLayout:
     """How the run is cut, and how many parts may run at once on this machine."""
 
     parts: int
@@ -92,8 +92,8 @@ class Part:
     def finish(self) -> None:
         """Notes that the matrix is whole."""
         facts = {"key": self.key, "bytes": self.matrix.stat().st_size, "sum": sha256_of_file(self.matrix)}
-        write_settled(self.folder / "key", as_text(facts))
-        settle(self.folder)
+        write_durably(self.folder / "key", as_text(facts))
+        fsync(self.folder)
 
     def is_done(self) -> bool:
         """Whether the matrix is there, and is that of this part."""
@@ -155,7 +155,7 @@ def fitting(memory: int, costs: Costs, rows: int, workers: int) -> int:
     return max(1, min(workers, memory // each if memory and each else workers))
 
 
-def shape_of(settings: PartSettings, costs: Costs, origins: int, workers: int, known: int | None = None) -> Shape:
+def layout_of(settings: PartSettings, costs: Costs, origins: int, workers: int, known: int | None = None) -> PartLayout:
     """Parts of about this many minutes, of which as many run at once as memory allows: where fewer do than there are
     processors, each takes several. Parts that are known, or counted by hand, keep their number.
     """
@@ -163,7 +163,7 @@ def shape_of(settings: PartSettings, costs: Costs, origins: int, workers: int, k
     count = known or settings.count
     if count is not None:
         at_once = fitting(memory, costs, math.ceil(origins / count), workers)
-        return Shape(min(count, origins), at_once, max(1, workers // at_once))
+        return PartLayout(min(count, origins), at_once, max(1, workers // at_once))
     at_once = fitting(memory, costs, 1, workers)
     threads = max(1, workers // at_once)
     by_memory = (memory // at_once - costs.network) // max(1, costs.row) if memory else origins
@@ -173,26 +173,26 @@ def shape_of(settings: PartSettings, costs: Costs, origins: int, workers: int, k
     if parts > at_once:
         parts = math.ceil(parts / at_once) * at_once
     parts = min(parts, origins, max(MOST_PARTS, math.ceil(origins / max(1, int(min(by_memory, origins))))))
-    return Shape(parts, at_once, threads)
+    return PartLayout(parts, at_once, threads)
 
 
-def cut_of(settings: PartSettings, inputs: Inputs, key: str, workers: int) -> Shape:
+def choose_parts(settings: PartSettings, inputs: Inputs, key: str, workers: int) -> PartLayout:
     """How the origins were cut before, or are cut now."""
     origins, noted = inputs.origins(), facts_in(inputs.folder / CUT)
     facts = key_of([key, origins, asdict(settings) | {"keep": False}])
-    shape = shape_noted(inputs.folder) if noted.get("key") == facts else None
-    if shape is None or noted.get("workers") != workers:
+    layout = noted_layout(inputs.folder) if noted.get("key") == facts else None
+    if layout is None or noted.get("workers") != workers:
         with room(inputs.folder) as folder:
             costs = costs_of(inputs, origins, folder)
-        shape = shape_of(settings, costs, len(origins), workers, shape.parts if shape else None)
-        noted = {"key": facts, "workers": workers, "shape": asdict(shape), "costs": asdict(costs)}
-        write_settled(inputs.folder / CUT, as_text(noted))
-    return shape
+        layout = layout_of(settings, costs, len(origins), workers, layout.parts if layout else None)
+        noted = {"key": facts, "workers": workers, "shape": asdict(layout), "costs": asdict(costs)}
+        write_durably(inputs.folder / CUT, as_text(noted))
+    return layout
 
 
-def shape_noted(study: Path) -> Shape | None:
+def noted_layout(study: Path) -> PartLayout | None:
     try:
-        return Shape(**facts_in(study / CUT)["shape"])
+        return PartLayout(**facts_in(study / CUT)["shape"])
     except (KeyError, TypeError):
         return None
 

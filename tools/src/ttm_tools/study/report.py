@@ -49,31 +49,31 @@ PROVED = (
 )
 
 
-def report_stages(whole: StudyMatrix, records: Records) -> list[Stage]:
+def report_stages(results: StudyMatrix, records: Records) -> list[Stage]:
     """The report in both forms."""
 
     def make() -> list[str]:
-        document = report_of(whole, records)
-        Path(whole.at(MARKDOWN)).write_text(document.as_markdown(), encoding="utf-8", errors="backslashreplace")
-        Path(whole.at(HTML)).write_text(document.as_html(), encoding="utf-8", errors="backslashreplace")
+        document = report_of(results, records)
+        Path(results.at(MARKDOWN)).write_text(document.as_markdown(), encoding="utf-8", errors="backslashreplace")
+        Path(results.at(HTML)).write_text(document.as_html(), encoding="utf-8", errors="backslashreplace")
         return [f"{MARKDOWN}, {HTML}"]
 
-    about = whole.study.about
-    lines = {name: record.lines for name, record in {**whole.inputs.records, **records}.items()}
+    about = results.study.about
+    lines = {name: record.lines for name, record in {**results.inputs.records, **records}.items()}
     sums = {name: record.outputs for name, record in records.items()}
-    texts = [whole.study.title, about.question, about.note, list(whole.version), whole.unit]
-    facts = {"texts": texts, "told": lines, "sums": sums, "words": whole.inputs.run.arguments()}
-    return [Stage("report", {**whole.depends, **facts, "sources": whole.inputs.sources}, [MARKDOWN, HTML], make)]
+    texts = [results.study.title, about.question, about.note, list(results.version), results.unit]
+    facts = {"texts": texts, "told": lines, "sums": sums, "words": results.inputs.run.arguments()}
+    return [Stage("report", {**results.depends, **facts, "sources": results.inputs.sources}, [MARKDOWN, HTML], make)]
 
 
-def report_of(whole: StudyMatrix, records: Records) -> Document:
-    study, inputs = whole.study, whole.inputs
+def report_of(results: StudyMatrix, records: Records) -> Document:
+    study, inputs = results.study, results.inputs
     document = Document(study.title, folder=study.folder)
     for text in (study.about.question, study.about.note):
         if text:
             document.paragraph(text)
     document.heading("Figures")
-    write_figures(document, whole, records)
+    write_figures(document, results, records)
     document.heading("Inputs")
     sums = [list(source) for source in inputs.sources.items()]
     document.table("Files, with their SHA-256 checksums", ["File", "SHA-256"], sums)
@@ -85,7 +85,7 @@ def report_of(whole: StudyMatrix, records: Records) -> Document:
     for path in file_names_of(study):
         day = f" for {Path(path).stem.removeprefix('told_')}" if path != TOLD else ""
         document.paragraph(f"What ttm reported about days, trips and walks{day}:")
-        lines = Path(whole.at(path)).read_text(encoding="utf-8").splitlines()
+        lines = Path(results.at(path)).read_text(encoding="utf-8").splitlines()
         document.code(lines)
         warnings += [line for line in lines if line.startswith("warning") and line not in warnings]
     lines = [line for record in inputs.records.values() for line in record.lines]
@@ -94,7 +94,7 @@ def report_of(whole: StudyMatrix, records: Records) -> Document:
     document.heading("What is proved, and what isn't")
     for text in PROVED:
         document.paragraph(text)
-    document.code(list(whole.version))
+    document.code(list(results.version))
     return document
 
 
@@ -107,30 +107,30 @@ def day_shown(date: str) -> str:
     return TOLD.replace(".txt", f"_{date}.txt")
 
 
-def write_figures(document: Document, whole: StudyMatrix, records: Records) -> None:
+def write_figures(document: Document, results: StudyMatrix, records: Records) -> None:
     """Access, winners and losers, equity and maps, as far as there are any."""
-    study = whole.study
+    study = results.study
     if "access" in records:
         caption = f"Mean access of the origins, for travel times that {study.share} percent of the departures achieve"
-        caption += f"; {sentence}" if (sentence := whole.whole().greatest_stated) else ""
-        document.table(caption, ["Counted", "Within, minutes", *whole.scenarios], list(means(whole)))
-    for scenario, name in whole.others.items():
+        caption += f"; {sentence}" if (sentence := results.matrix().greatest_stated) else ""
+        document.table(caption, ["Counted", "Within, minutes", *results.scenarios], list(means(results)))
+    for scenario, name in results.others.items():
         if f"compare_{name}" in records:
-            document.heading(f"{display_text(scenario)} compared with {display_text(whole.inputs.base)}", 3)
-            write_changes_by_window(document, whole, records, scenario)
+            document.heading(f"{display_text(scenario)} compared with {display_text(results.inputs.base)}", 3)
+            write_changes_by_window(document, results, records, scenario)
             document.items(records[f"compare_{name}"].lines)
-            write_changes(document, whole, f"compare_{name}.csv")
+            write_changes(document, results, f"compare_{name}.csv")
     if "equity" in records:
         document.heading("How access is distributed among people", 3)
     for name, caption in OF_PEOPLE.items():
         if name in records:
-            header, *lines = [list(map(display_text, fields)) for _, fields in records_in(whole.at(f"{name}.csv"))]
+            header, *lines = [list(map(display_text, fields)) for _, fields in records_in(results.at(f"{name}.csv"))]
             people = sentence_on_outside(study)
             of = f"; percentages are {people}" if "percent" in header else f"; measures are {people}" * ("," in people)
             document.table(f"{caption} ({name}.csv){of}", list(map(as_phrase, header)), lines)
             for path in (output for output in records[name].outputs if output.endswith(".png")):
                 document.picture(path, f"{caption}: {display_text(Path(path).stem)}")
-    write_windows(document, whole, records)
+    write_windows(document, results, records)
     if "page" in records:
         document.link("A page for the browser:", PAGE)
     if AREAS in records:
@@ -138,18 +138,18 @@ def write_figures(document: Document, whole: StudyMatrix, records: Records) -> N
     if "maps" in records:
         document.heading("Maps", 3)
         document.paragraph("The pictures are also files in the folder maps.")
-        for picture in maps_of(whole):
+        for picture in maps_of(results):
             start = f", from {display_text(picture.origin)}" if picture.origin else ""
             end = f", the nearest {display_text(picture.nearest)}" if picture.nearest else ""
             document.picture(picture.file, f"{picture.kind}, {display_text(picture.scenario)}{start}{end}")
 
 
-def means(whole: StudyMatrix) -> Iterator[list[str]]:
+def means(results: StudyMatrix) -> Iterator[list[str]]:
     """The mean access of each scenario, by what is counted and within which limit."""
-    table = read_access(whole.at(ACCESS_TABLE))
-    places = [table.scenario(name) for name in whole.scenarios]
+    table = read_access(results.at(ACCESS_TABLE))
+    places = [table.scenario(name) for name in results.scenarios]
     for number, kind in enumerate(table.kinds):
-        if kind.percentile in ("", str(whole.study.share)):
+        if kind.percentile in ("", str(results.study.share)):
             yield [
                 display_text(kind.opportunity),
                 kind.cutoff,
@@ -175,16 +175,16 @@ def as_phrase(name: str) -> str:
     return name.replace("_", " ")
 
 
-def write_changes(document: Document, whole: StudyMatrix, path: str) -> None:
+def write_changes(document: Document, results: StudyMatrix, path: str) -> None:
     """The origins that lose most, and those that gain most: the table has losers first, and then winners."""
-    study = whole.study
+    study = results.study
     of = f"within {study.within / 60:g} minutes, percentile {study.share}"
     several = [name for name, values in (("within", study.run.limits), ("share", study.run.shares)) if len(values) > 1]
     chosen = f"; {' and '.join(several)} of [results] choose{'s' * (len(several) == 1)}" if several else ""
-    _, header = next(records_in(whole.at(path)))
+    _, header = next(records_in(results.at(path)))
     place = header.index("change")
     for what, sign in (("loses", -1), ("gains", 1)):
-        wanted = (fields for _, fields in records_in(whole.at(path)) if sign * number_of(fields[place]) > 0)
+        wanted = (fields for _, fields in records_in(results.at(path)) if sign * number_of(fields[place]) > 0)
         found = list(itertools.islice(wanted, FEW))
         if found:
             rows = [list(map(display_text, fields)) for fields in found]

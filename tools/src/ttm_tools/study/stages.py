@@ -72,7 +72,7 @@ def files_in(path: Path) -> list[Path]:
     return sorted(path for path in path.rglob("*") if path.is_file()) if path.is_dir() else [path]
 
 
-def settle(path: Path) -> None:
+def fsync(path: Path) -> None:
     """Has the disk hold a file or folder, so that no power cut loses it."""
     handle = os.open(path, os.O_RDONLY)
     try:
@@ -81,12 +81,12 @@ def settle(path: Path) -> None:
         os.close(handle)
 
 
-def write_settled(path: Path, text: str) -> None:
+def write_durably(path: Path, text: str) -> None:
     """Writes a text that is whole under its name even after a power cut."""
     with atomic_path(path) as aside:
         aside.write_text(text, encoding="utf-8")
-        settle(aside)
-    settle(path.parent)
+        fsync(aside)
+    fsync(path.parent)
 
 
 def as_text(facts: Any) -> str:
@@ -177,7 +177,7 @@ class Folder:
         files = [name for name in stage.outputs if Path(name).suffix]
 
         def note(more: Sequence[Path | str]) -> None:
-            write_settled(begun, as_text([*files, *(os.path.relpath(path, self.path) for path in more)]))
+            write_durably(begun, as_text([*files, *(os.path.relpath(path, self.path) for path in more)]))
 
         note([self.at(name) for name in self.there(stage)])
         self.at(f"{RECORDS}/{stage.name}.json").unlink(missing_ok=True)
@@ -203,10 +203,10 @@ class Folder:
         stage.refuse_changed()
         files = [file for name in stage.outputs for file in files_in(self.at(name)) if file.is_file()]
         for file in files:
-            settle(file)
+            fsync(file)
         sums = {str(file.relative_to(self.path)): sha256_of_file(file) for file in files}
         record = Record(key, sums, lines, round(time.monotonic() - begin, 3))
-        write_settled(self.path / RECORDS / f"{stage.name}.json", as_text(vars(record)))
+        write_durably(self.path / RECORDS / f"{stage.name}.json", as_text(vars(record)))
         self.at(f"{RECORDS}/{stage.name}.begun").unlink()
         log(self.path, "stage", stage.name, record.seconds)
         for line in lines:
@@ -246,7 +246,7 @@ def logged(study: Path) -> list[dict[str, Any]]:
 
 
 @contextlib.contextmanager
-def held(folder: Path) -> Iterator[None]:
+def locked_folder(folder: Path) -> Iterator[None]:
     """Holds a study's folder, so that no two commands work in it at once."""
     refuse_folder(folder)
     folder.mkdir(parents=True, exist_ok=True)

@@ -27,7 +27,7 @@ def read_study(path: str) -> Study:
     read: dict[str, Any] = {name: settings_of(TABLES[name], entry) for name, entry in entries.items()}
     study = completed(Study(Path(os.path.abspath(path)), settings_of(About, about), **read, text=text))
     for name, entry in entries.items():
-        tell_lost_files(study, TABLES[name], entry)
+        log_lost_files(study, TABLES[name], entry)
     agree(study, {name: entries.get(name, Entry(path, {}, LineNumbers(1))) for name in TABLES})
     return study
 
@@ -66,7 +66,7 @@ def settings_of(kind: type[Settings], entry: Entry) -> Settings:
     return kind(**values)
 
 
-def tell_lost_files(study: Study, kind: type[Any], entry: Entry) -> None:
+def log_lost_files(study: Study, kind: type[Any], entry: Entry) -> None:
     """Refuses the first file that a table names and that isn't there."""
     for field in fields(kind):
         if field.metadata["kind"] not in (FILE, FILES) or not entry.has(field.name):

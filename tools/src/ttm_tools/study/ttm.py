@@ -14,7 +14,7 @@ from ..core.files import aside_name, remove
 from ..engine.arguments import EngineArguments, program_at
 from ..engine.process import EngineProcess
 from ..engine.refusals import EngineError, error_line
-from .stages import settle
+from .stages import fsync
 
 FACT = re.compile(r"ttm: (?P<name>[^:]+(?:: [^:]+)?): (?P<value>[0-9]+)")
 OF_THE_MACHINE = ("bytes that the machine has free", "rows done", "time", "bytes taken at most")
@@ -96,9 +96,9 @@ class Running:
         status = self.process.wait()
         message = error_line(self.process.report(), status) if status != 0 else None
         if message is None:
-            settle(self.aside)
+            fsync(self.aside)
             os.replace(self.aside, self.out)
-            settle(self.out.parent)
+            fsync(self.out.parent)
         self.stop()
         return message
 

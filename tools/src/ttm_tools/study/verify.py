@@ -26,7 +26,7 @@ from .counted import scale_in
 from .joining import CSV, MATRIX
 from .notes import NOTES, read_notes
 from .parts import PARTS
-from .stages import Folder, LOCK, RECORDS, held, room
+from .stages import Folder, LOCK, RECORDS, locked_folder, room
 from .ttm import found_program, version_of
 from .work import sweep
 
@@ -37,7 +37,7 @@ def verify(folder: Path, seed: int | None, workers: int) -> None:
     """Refuses the first file that isn't as it was, or row that `ttm` computes in another way."""
     notes = read_notes(folder)
     program = found_program()
-    with held(folder):
+    with locked_folder(folder):
         study = Folder(folder.resolve())
         sweep(study.path, inside_parts=False)
         with as_one_line(folder / NOTES, "isn't as a study writes it"):

@@ -10,10 +10,10 @@ from typing import Callable, Sequence
 from ..engine.arguments import EngineArguments
 from .executors.conversation import KeptNetwork
 from .executors.local import Failed, refuse_failed, run_parts
-from .executors.remote import Means, run_elsewhere
+from .executors.remote import ExecutorOptions, run_elsewhere
 from .inputs import Inputs
 from .joining import CSV, MATRIX, ShownMatrix, join_parts
-from .parts import FIRST, PARTS, Part, Shape, cut_of, parts_for, remove_others, remove_windows, study_key
+from .parts import FIRST, PARTS, Part, PartLayout, choose_parts, parts_for, remove_others, remove_windows, study_key
 from .settings import DayWindow, Study
 from .sources import refuse_other_sums
 from .stages import Folder, Record, Stage
@@ -21,7 +21,7 @@ from .stages import Folder, Record, Stage
 WINDOWS = "windows"  # their folder
 FORM = 1  # of how the parts are joined: the rows are ttm's, so other tools don't change them
 SCALED_FORM = 2  # where sums are divided by a scale
-Runner = Callable[[EngineArguments, Sequence[Part], Shape], list[Failed]]
+Runner = Callable[[EngineArguments, Sequence[Part], PartLayout], list[Failed]]
 
 
 def matrix_of(question: DayWindow) -> str:
@@ -41,7 +41,7 @@ class Machine:
 
     lines: list[str]  # what the program says of itself
     sum: str  # of its bytes
-    means: Means
+    options: ExecutorOptions
 
 
 def make_windows(study: Study, inputs: Inputs, folder: Folder, machine: Machine) -> dict[str, Record]:
@@ -59,32 +59,32 @@ def make_windows(study: Study, inputs: Inputs, folder: Folder, machine: Machine)
     return records
 
 
-def run_here(run: EngineArguments, parts: Sequence[Part], shape: Shape) -> list[Failed]:
-    return run_parts(run, parts, shape.at_once, shape.threads)
+def run_here(run: EngineArguments, parts: Sequence[Part], layout: PartLayout) -> list[Failed]:
+    return run_parts(run, parts, layout.at_once, layout.threads)
 
 
 def matrix_stage(
     study: Study, inputs: Inputs, machine: Machine, runner: Runner = run_here, question: DayWindow | None = None
 ) -> Stage:
     """The matrix of a study, or that of another window, by as many parts of the origins."""
-    means = machine.means
+    options = machine.options
     task, path = (inputs_of(inputs, question), matrix_of(question)) if question else (inputs, MATRIX)
     with_csv = study.results.csv and question is None
     key = study_key(task, machine.lines)
 
     def make() -> list[str]:
-        shape = cut_of(study.parts, inputs, study_key(inputs, machine.lines), means.at_once)
+        layout = choose_parts(study.parts, inputs, study_key(inputs, machine.lines), options.at_once)
         window = question.name if question else FIRST
-        parts = parts_for(inputs.origins(), shape.parts, key, window, inputs.folder)
+        parts = parts_for(inputs.origins(), layout.parts, key, window, inputs.folder)
         (inputs.folder / PARTS).mkdir(exist_ok=True)
         remove_others(inputs.folder, FIRST, {part.folder.name for part in parts})
-        if means.is_elsewhere:
-            failed = run_elsewhere(task.run, parts, key, machine.lines, means)
+        if options.is_elsewhere:
+            failed = run_elsewhere(task.run, parts, key, machine.lines, options)
         else:
-            failed = runner(task.run, parts, shape)
+            failed = runner(task.run, parts, layout)
         refuse_failed(failed, len(parts))
         shown = ShownMatrix(inputs.shown_as, inputs.destinations, inputs.scale)
-        return join_parts(parts, with_csv, shown, means.threads, inputs.at(path))
+        return join_parts(parts, with_csv, shown, options.threads, inputs.at(path))
 
     depends = {
         "study": key,

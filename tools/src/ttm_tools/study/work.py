@@ -14,16 +14,16 @@ from ..gtfs.stops import read_stops
 from ..matrices import BASE, TODAY, open_matrix
 from ..web.page.document import leaflet_files
 from .checks import check_shown
-from .executors.remote import Means
+from .executors.remote import ExecutorOptions
 from .inputs import Inputs, make_inputs, sums_of
 from .joining import MATRIX
 from .notes import write_notes
-from .parts import FIRST, PARTS, remove_others, remove_parts, shape_noted, study_key, trial
+from .parts import FIRST, PARTS, noted_layout, remove_others, remove_parts, study_key, trial
 from .report import TOLD, day_shown
 from .results.registry import make_results
 from .results.tables import StudyMatrix, names_of_scenarios
 from .settings import Study
-from .stages import Folder, RECORDS, Record, Stage, held, log, refuse_folder, room
+from .stages import Folder, RECORDS, Record, Stage, locked_folder, log, refuse_folder, room
 from .ttm import found_program, version_of
 from .walking import with_grid
 from .windows import Machine, make_windows, matrix_stage
@@ -33,22 +33,22 @@ RUNS_IN, NO_CHANGE = "runs in scenario ", "warning: this scenario changes nothin
 ASIDE = re.compile(r"\.part\.(?:lock|[0-9]+(?:-[0-9a-f]{8})?)\.(.*)", re.DOTALL)  # as `aside_name` and locks
 
 
-def make_study(study: Study, out: Path, means: Means) -> None:
+def make_study(study: Study, out: Path, options: ExecutorOptions) -> None:
     """Makes all of a study's folder that isn't there yet."""
     refuse_folder(out)
     needs(*packages_of(study))
     program = found_program()
-    with held(out):
+    with locked_folder(out):
         folder = Folder(out.resolve(), study.path.parent)
         with folder.shown_in_faults():
-            make_in(folder, replace(study, folder=folder.path), program, means)
+            make_in(folder, replace(study, folder=folder.path), program, options)
 
 
-def make_in(folder: Folder, study: Study, program: str, means: Means) -> None:
+def make_in(folder: Folder, study: Study, program: str, options: ExecutorOptions) -> None:
     """Makes all of a study in its folder, which is held."""
     path = folder.path
     folder.at(RECORDS).mkdir(exist_ok=True)
-    machine = Machine(version_of(program), sha256_of_file(program), means)
+    machine = Machine(version_of(program), sha256_of_file(program), options)
     log(path, "command", "began", 0.0)
     sweep(path, inside_parts=False)
     inputs = make_inputs(study, folder, program)
@@ -63,10 +63,10 @@ def make_in(folder: Folder, study: Study, program: str, means: Means) -> None:
     if not study.parts.keep:
         remove_parts(path)
     sum_of_matrix, scenarios = records["matrix"].outputs[MATRIX], open_matrix(inputs.at(MATRIX)).scenarios
-    whole = StudyMatrix(study, inputs, sum_of_matrix, scenarios, sums_of(windows), machine.lines)
-    records = make_results(whole, folder, {**records, **windows})
-    shape = shape_noted(path)
-    write_notes(whole, records, machine, shape.parts if shape else 1)
+    results = StudyMatrix(study, inputs, sum_of_matrix, scenarios, sums_of(windows), machine.lines)
+    records = make_results(results, folder, {**records, **windows})
+    layout = noted_layout(path)
+    write_notes(results, records, machine, layout.parts if layout else 1)
     sweep(path, inside_parts=True)
 
 

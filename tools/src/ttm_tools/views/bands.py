@@ -14,7 +14,7 @@ from .access import decimal
 from .classes import TOKENS, from_near
 from .equity import significant
 from .tables import write_table
-from .texts import figure_with, text_alone
+from .texts import figure_with, without_mathtext
 
 BAR = 0.34  # inches of a bar with its room
 AROUND = 1.7  # inches of title and key
@@ -67,7 +67,7 @@ def parts_of(table: AccessTable, inside: Sequence[float]) -> list[float]:
     return [high - low for low, high in zip([0.0, *ends], [*ends, 100.0])]
 
 
-@text_alone
+@without_mathtext
 def figure_of(table: AccessTable, kinds: Sequence[AccessKind], people: Counts, limits: Sequence[float]) -> Any:
     """A bar for each group and scenario, of one kind."""
     if len(kinds) > 1:

@@ -6,14 +6,14 @@ import numpy as np
 
 from ..core.text import display_text
 from .journeys import ExplainOptions, Found
-from .texts import figure_with, text_alone
+from .texts import figure_with, without_mathtext
 
 COLOURS = ("#332288", "#cc6677", "#117733", "#88ccee", "#aa4499", "#ddcc77")
 MARKS = ("o", "s", "^", "D", "v", "P")
 MOST_TICKS = 9
 
 
-@text_alone
+@without_mathtext
 def figure_of(options: ExplainOptions, found: Sequence[Found]) -> Any:
     """The picture of some scenarios: a mark for each departure, a dashed line at the cell, a ring at the departure
     whose journey is reported, and crosses above for departures after which nobody gets there.

@@ -20,7 +20,7 @@ from .cells import Cells
 from .classes import TOKENS, Mark
 from .map_content import NO_ORIGIN, Picture, round_step
 from .map_lines import MapLines, MapPoints, draw_crosses, draw_lines, over_squares
-from .texts import text_alone
+from .texts import without_mathtext
 
 MOST_NAMES = 3
 EDGE_OF_MARK = 0.75 * 0.75  # points
@@ -49,7 +49,7 @@ LETTERS: dict[str, Any] = {
 }
 
 
-@text_alone
+@without_mathtext
 def draw(picture: Picture, stops: Stops, lines: Sequence[MapLines], note: str, width: int = 1350) -> Figure:
     """The picture of these stops, which are those of the matrix, as a figure of this width in pixels."""
     projection = Projection(stops.latitudes, stops.longitudes)

@@ -16,7 +16,7 @@ from ..measures.equity import Equity, TENTHS, changes_by_tenth, equity, lorenz
 from ..measures.nearness import Nearness, nearness
 from ..measures.opportunities import Counts
 from .tables import write_table
-from .texts import figure_with, text_alone
+from .texts import figure_with, without_mathtext
 
 COLOURS = ("#000000", "#0072b2", "#d55e00", "#009e73", "#cc79a7", "#e69f00", "#56b4e9")  # after Okabe and Ito
 HIGH = 0.72  # of the picture
@@ -90,7 +90,7 @@ def write_equity(out: BinaryIO, lines: Iterator[Line], form: str) -> None:
     write_table(out, names, rows, form)
 
 
-@text_alone
+@without_mathtext
 def figure_of(table: AccessTable, people: Counts, options: EquityOptions) -> Any:
     """The picture of one kind and one group."""
     if table.of_times:

@@ -15,7 +15,7 @@ from .classes import from_near
 from .isochrones import AreaGround, polygons_in
 from .map_content import Picture
 from .map_lines import MapLines, draw_lines, over_squares
-from .texts import text_alone
+from .texts import without_mathtext
 
 Band = tuple[float, Any]  # minutes, and what is reached within them, as a shape in kilometres
 
@@ -27,7 +27,7 @@ def path_of(shape: Any) -> Path | None:
     return path_along(rings) if rings else None
 
 
-@text_alone
+@without_mathtext
 def draw_bands(
     picture: Picture,
     ground: AreaGround,

@@ -10,14 +10,14 @@ from ..core.text import display_text
 from ..gtfs.projection import Projection
 from ..measures.service import Period, departures_by_piece
 from .service import period_shown
-from .texts import text_alone
+from .texts import without_mathtext
 
 CLASSES = (1.0, 2.0, 4.0, 8.0, 16.0, 32.0)  # vehicles an hour, where wider lines begin
 WIDTHS = (0.4, 0.8, 1.4, 2.2, 3.2, 4.4, 6.0)  # points
 COLOUR, INCHES, MARGIN = "#27408b", 9.0, 0.04
 
 
-@text_alone
+@without_mathtext
 def figure_of(day: Day, scenario: str, period: Period) -> Any:
     from matplotlib.collections import LineCollection
     from matplotlib.figure import Figure

@@ -8,7 +8,7 @@ Result = TypeVar("Result")
 WIDE = 10.0  # inches
 
 
-def text_alone(make: Callable[Parameters, Result]) -> Callable[Parameters, Result]:
+def without_mathtext(make: Callable[Parameters, Result]) -> Callable[Parameters, Result]:
     """Has matplotlib take the texts of a figure as they are."""
 
     @functools.wraps(make)

@@ -13,11 +13,11 @@ from ..core.arrays import Floats
 from ..core.text import display_text
 from ..gtfs.projection import Projection
 from ..gtfs.stops import Stops
-from ..measures.equity import TENTHS, mean, part
+from ..measures.equity import TENTHS, mean, people_in_slice
 from ..measures.opportunities import Counts
 from .classes import shading
 from .equity import COLOURS
-from .texts import figure_with, text_alone
+from .texts import figure_with, without_mathtext
 
 ACROSS = 4  # panels in a row
 MOST_ACROSS = 6  # maps in a row where each row is a day
@@ -56,14 +56,14 @@ class FigureLabels:
 
 def levels(numbers: Floats, people: Floats) -> tuple[float, float]:
     """The mean of all people, and that of the tenth that has the least."""
-    return mean(numbers, people), mean(numbers, part(numbers, people, 0, 1 / TENTHS))
+    return mean(numbers, people), mean(numbers, people_in_slice(numbers, people, 0, 1 / TENTHS))
 
 
 def days_of(columns: Sequence[WindowColumn]) -> list[tuple[str, list[WindowColumn]]]:
     return [(day, list(own)) for day, own in itertools.groupby(columns, lambda column: column.day)]
 
 
-@text_alone
+@without_mathtext
 def figure_by_time(
     columns: Sequence[WindowColumn], scenarios: Sequence[str], groups: Counts, labels: FigureLabels
 ) -> Any:
@@ -110,7 +110,7 @@ def draw_levels(axes: Any, columns: Sequence[WindowColumn], scenarios: Sequence[
         axes.hlines(found, spans[:, 0], spans[:, 1], colors=how["color"], linewidth=3.0, alpha=0.5 if row else 1.0)
 
 
-@text_alone
+@without_mathtext
 def figure_of_heat(columns: Sequence[WindowColumn], scenario: int, labels: FigureLabels) -> Any:
     """A row for each place, ordered by its mean, and a column for each window."""
     numbers = np.stack([column.numbers[scenario] for column in columns], axis=1)
@@ -133,7 +133,7 @@ def figure_of_heat(columns: Sequence[WindowColumn], scenario: int, labels: Figur
     return figure
 
 
-@text_alone
+@without_mathtext
 def figure_of_maps(columns: Sequence[WindowColumn], scenario: int, stops: Stops, labels: FigureLabels) -> Any:
     """A small map for each window, with one scale of colours."""
     drawn, counts = columns[:MOST_MAPS], {len(own) for _, own in days_of(columns)}

@@ -8,11 +8,11 @@ from ..core.errors import ArgumentError
 from ..core.text import display_text
 from ..engine.arguments import EngineArguments
 from ..gtfs.timetable import DAY, Runs, Timetable, read_edits, runs_of
-from ..journeys.explain import found_by, tell_difference, told_of
+from ..journeys.explain import describe_question, found_by, refuse_difference
 from ..journeys.network import Schedule
 from ..journeys.search import Leg
 from ..views.journeys import ExplainOptions, Found, names_of_routes
-from .live_network import Standing
+from .live_network import LiveNetwork
 from .memory import give_back
 from .options import ExploreOptions
 from .timetables import Timetables, run_of
@@ -38,26 +38,26 @@ class Journeys:
         self.options, self.feed = options, feed  # the timetable of the feed that plans begin from
         self.kept: tuple[int, Timetables, dict[str, str]] | None = None
 
-    def of(self, standing: Standing) -> tuple[Timetables, dict[str, str]]:
+    def of(self, live: LiveNetwork) -> tuple[Timetables, dict[str, str]]:
         """Timetables and names of routes for journeys of a network; those of the network before are dropped."""
-        if self.kept is None or self.kept[0] != standing.version:
-            self.kept, plan = None, standing.plan
+        if self.kept is None or self.kept[0] != live.version:
+            self.kept, plan = None, live.plan
             parts = [self.feed, *([] if plan.trips is None else [plan.trips])]
             timetables = Timetables(parts, self.options.footpaths, plan.walk)
-            self.kept = standing.version, timetables, names_of_routes(plan.folder)
+            self.kept = live.version, timetables, names_of_routes(plan.folder)
         return self.kept[1:]
 
-    def journey(self, standing: Standing, columns: Sequence[str], question: JourneyQuestion) -> dict[str, Any]:
+    def journey(self, live: LiveNetwork, columns: Sequence[str], question: JourneyQuestion) -> dict[str, Any]:
         """A journey and all departures, stops by their numbers among some; an error where `ttm` has another time."""
-        (timetables, routes), options, plan = self.of(standing), self.options, standing.plan
+        (timetables, routes), options, plan = self.of(live), self.options, live.plan
         begin, end = map(timetables.stops.index, question.ends)
         departures = [DAY * options.back + 60 * minute for minute in question.minutes]
         run = EngineArguments(plan.folder, options.date, question.window, question.trips, plan.walk, (question.share,))
-        asked = told_of(replace(run, back=options.back, ahead=options.ahead), options.date)
+        asked = describe_question(replace(run, back=options.back, ahead=options.ahead), options.date)
         explain_options = ExplainOptions(self.feed, begin, end, departures, options.back, question.share, asked)
-        if question.scenario >= len(standing.scenarios):
+        if question.scenario >= len(live.scenarios):
             raise ArgumentError(f"the network has no scenario {question.scenario}")
-        scenario = standing.scenarios[question.scenario]
+        scenario = live.scenarios[question.scenario]
         path = next((path for path in plan.files if path.endswith(f"/{scenario}.csv")), None)
         edits, days = read_edits(path), (options.back, options.ahead)
         parts = [(timetable, runs_of(timetable, options.date, days, edits)) for timetable in timetables.parts]
@@ -65,17 +65,17 @@ class Journeys:
         schedule = Schedule(first.events, runs, *timetables.walks(begin), departures[0], more)
         found = found_by(explain_options, scenario, question.trips, schedule)
         give_back()
-        tell_difference(found.name, found.cell, seconds_of(standing, scenario, question), *question.ends)
+        refuse_difference(found.name, found.cell, seconds_of(live, scenario, question), *question.ends)
         numbers = {stop: number for number, stop in enumerate(columns)}
         places = [numbers.get(stop, -1) for stop in timetables.stops]
         return Shown(explain_options, found, parts, routes, places).as_json()
 
 
-def seconds_of(standing: Standing, scenario: str, question: JourneyQuestion) -> int | None:
+def seconds_of(live: LiveNetwork, scenario: str, question: JourneyQuestion) -> int | None:
     """The travel time of `ttm`; None where it has none."""
     origin, destination = question.ends
-    result = standing.ask(origin, question.window, question.trips, [question.share])
-    times = result.array(standing.plan.name_of(scenario), question.share)
+    result = live.ask(origin, question.window, question.trips, [question.share])
+    times = result.array(live.plan.name_of(scenario), question.share)
     seconds = float(times[0, result.stops.index(destination)])
     return None if math.isnan(seconds) else int(seconds)
 

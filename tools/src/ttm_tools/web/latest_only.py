@@ -8,12 +8,12 @@ from typing import Iterator
 MOST_TABS = 1000  # whose latest question is remembered
 
 
-class Overtaken(Exception):
+class Superseded(Exception):
     """A later question of the same tab came while this one waited."""
 
 
-class Turnstile:
-    """Lets one thread through at a time."""
+class LatestOnly:
+    """Lets one question through at a time, and only the latest of each tab."""
 
     def __init__(self) -> None:
         self.noting, self.passing = threading.Lock(), threading.Lock()
@@ -21,12 +21,12 @@ class Turnstile:
 
     @contextlib.contextmanager
     def turn(self, tab: str, number: int) -> Iterator[None]:
-        """Waits for a turn; a question that was overtaken meanwhile has none."""
+        """Waits for a turn; raises `Superseded` if a later question of the tab came meanwhile."""
         with self.noting:
             self.latest[tab] = max(number, self.latest.pop(tab, number))
             while len(self.latest) > MOST_TABS:
                 self.latest.popitem(last=False)
         with self.passing:
             if self.latest.get(tab, number) > number:
-                raise Overtaken
+                raise Superseded
             yield

@@ -49,7 +49,7 @@ class Plan:
         return BASE if is_feed else scenario
 
 
-class Standing:
+class LiveNetwork:
     """A process that keeps the network of a plan."""
 
     def __init__(self, version: int, plan: Plan, options: ExploreOptions) -> None:

@@ -10,12 +10,12 @@ from typing import Callable
 from ..core.errors import ArgumentError
 from .changes import Values
 from .latest_only import MOST_TABS
-from .live_network import Standing
+from .live_network import LiveNetwork
 
 MOST_RUNNING = 4  # networks in memory; others begin again when they are asked for
 FIRST = 1  # the number of the network without a person's changes
 Changes = tuple[list[Values], int]  # the actions of a person, and the longest walk in seconds
-Beginner = Callable[[int, list[Values], int], Standing]
+Beginner = Callable[[int, list[Values], int], LiveNetwork]
 
 
 class Networks:
@@ -26,10 +26,10 @@ class Networks:
         self.starting, self.noting = threading.Lock(), threading.Lock()  # one start at a time; the fields below
         self.changes: dict[int, Changes] = {FIRST: ([], walk)}
         self.numbers: dict[str, int] = {key_of([], walk): FIRST}
-        self.running: OrderedDict[int, Standing] = OrderedDict()  # the one that answered last is at the end
+        self.running: OrderedDict[int, LiveNetwork] = OrderedDict()  # the one that answered last is at the end
         self.tabs: OrderedDict[str, tuple[int, int]] = OrderedDict()  # what each tab has, and what it has asked for
 
-    def start(self, number: int, tab: str = "") -> Standing:
+    def start(self, number: int, tab: str = "") -> LiveNetwork:
         """The network of a number, which begins where it isn't running."""
         if number not in self.changes:
             raise ArgumentError("the server does not know the network of this page: reload the page")
@@ -46,7 +46,7 @@ class Networks:
                     self.running[number] = found
             return found
 
-    def start_changed(self, tab: str, actions: list[Values], walk: int) -> Standing:
+    def start_changed(self, tab: str, actions: list[Values], walk: int) -> LiveNetwork:
         """The network of a tab's changes, which the tab will ask next; the same changes have the same network."""
         key = key_of(actions, walk)
         with self.starting:
@@ -61,7 +61,7 @@ class Networks:
                     self.tabs[tab] = (self.tabs.get(tab, (number, number))[0], number)
             return found
 
-    def find(self, number: int) -> Standing | None:
+    def find(self, number: int) -> LiveNetwork | None:
         """The network of a number if it is running."""
         return self.running.get(number)
 
@@ -73,7 +73,7 @@ class Networks:
             while len(self.tabs) > MOST_TABS:
                 self.tabs.popitem(last=False)
 
-    def give_up(self, tab: str, number: int) -> list[Standing]:
+    def give_up(self, tab: str, number: int) -> list[LiveNetwork]:
         """Notes that a network has answered a tab, and takes out those that no tab needs, which the caller ends."""
         with self.noting:
             self.note(tab, number)

@@ -9,37 +9,37 @@ from ..core.text import display_text
 from .networks import FIRST
 from .page import document as page, sources
 from .page.content import Content
-from .session import Exploration
+from .session import ExploreSession
 
 ASSETS = Path(__file__).resolve().parent / "assets"
 MINUTES = 30  # at which the slider stands first
 
 
-def kind_of(exploration: Exploration) -> page.PageKind:
+def kind_of(session: ExploreSession) -> page.PageKind:
     """The files of the page, with those that send requests to the server."""
-    known = {"asked": page.as_json(beginning_of(exploration))}
+    known = {"asked": page.as_json(beginning_of(session))}
     folders, styles = (ASSETS, page.ASSETS), (*page.STYLES, "explore.css")
     return page.PageKind("explore.html", folders, "explore/main.js", styles, True, known)
 
 
-def beginning_of(exploration: Exploration) -> dict[str, Any]:
+def beginning_of(session: ExploreSession) -> dict[str, Any]:
     """With what the page begins."""
-    options, plan = exploration.options, exploration.first
+    options, plan = session.options, session.first
     first, last = options.window
     known = {"version": FIRST, "first": first, "last": last, "trips": options.trips, "walk": plan.walk}
     known |= {"most_walk": options.most_walk, "actions": plan.actions, "told": plan.sentences}
     return {**known, "date": options.date.isoformat()}
 
 
-def frame_of(exploration: Exploration) -> page.Frame:
+def frame_of(session: ExploreSession) -> page.Frame:
     """What stands around the numbers."""
-    options = exploration.options
+    options = session.options
     arguments = sources.RunArguments(f"--date {options.date:%Y%m%d}")
     name = display_text(options.name or os.path.basename(os.path.abspath(options.feed)))
     return page.Frame(
         options.title or f"Explore: {name}",
         "",
-        exploration.first.scenarios,
+        session.first.scenarios,
         list(options.shares),
         [sources.meaning(share, arguments) for share in options.shares],
         [("Feed", name), ("Date", options.date.isoformat()), ("Written by", "ttm-tools explore")],
@@ -49,8 +49,8 @@ def frame_of(exploration: Exploration) -> page.Frame:
     )
 
 
-def write_document(out: BinaryIO, exploration: Exploration) -> None:
+def write_document(out: BinaryIO, session: ExploreSession) -> None:
     """Writes the page of the network that answers now."""
-    content = Content(exploration.ground, exploration.counts, 0, [], [], [], [])
-    lines = replace(exploration.feed_lines.whole, changes=exploration.first.changes)
-    page.write_page(out, content, lines, frame_of(exploration), kind_of(exploration))
+    content = Content(session.ground, session.counts, 0, [], [], [], [])
+    lines = replace(session.feed_lines.whole, changes=session.first.changes)
+    page.write_page(out, content, lines, frame_of(session), kind_of(session))

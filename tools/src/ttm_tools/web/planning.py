@@ -9,7 +9,7 @@ from typing import Sequence
 from ..core.errors import InputError
 from ..core.files import remove
 from ..matrices import TODAY
-from ..plans.apply import carried_out
+from ..plans.apply import apply_scenario
 from ..plans.base import Base
 from ..plans.limits import refuse_limits
 from ..plans.plan_file import read_plan
@@ -45,7 +45,7 @@ def written(base: Base, lines: FeedLines, text: str, room: Path, walk: int, acti
             path.write_text(text, encoding="utf-8")
         except UnicodeEncodeError:
             raise InputError("the plan", "a name in it is not UTF-8") from None
-        finished = [carried_out(base, scenario) for scenario in read_plan(str(path)).scenarios]
+        finished = [apply_scenario(base, scenario) for scenario in read_plan(str(path)).scenarios]
         refuse_limits(str(path), base, [scenario.state for scenario in finished])
         found = written_of(base, finished, alone=False)
         if found.own:

@@ -12,11 +12,11 @@ from ..core.question import MAX_RIDES, PERCENTILES
 from .changes import actions_of, walk_of
 from .guard import Guard, HEADERS
 from .journeys import JourneyQuestion
-from .latest_only import Overtaken
+from .latest_only import Superseded
 from .page_live import write_document
 from .question import question_of, setting_in, tab_of, version_of, whole, window_of
 from .saving import save
-from .session import Exploration
+from .session import ExploreSession
 
 MOST_BYTES = 1 << 20  # of what the page sends
 NUMBERS, REFUSED, OF_ITS_OWN = "application/octet-stream", 422, 500
@@ -25,14 +25,14 @@ MOST_SCENARIOS = 65534
 Answer = Response | tuple[dict[str, Any], int]
 
 
-def application(exploration: Exploration, guard: Guard) -> Flask:
+def application(session: ExploreSession, guard: Guard) -> Flask:
     server = Flask(__name__, static_folder=None, template_folder=None)
     server.before_request(lambda: refusal(guard))
     server.after_request(with_headers)
     answers = {"": page, "times": times, "journey": journey, "routes": routes, "changes": changes, "study": study}
     for name, answer in answers.items():
         methods = ["POST" if answer in (changes, study) else "GET"]
-        view = functools.partial(answered, answer, exploration)
+        view = functools.partial(answered, answer, session)
         server.add_url_rule(f"/<token>/{name}", name or "page", view, methods=methods, provide_automatic_options=False)
     return server
 
@@ -51,11 +51,11 @@ def with_headers(response: Response) -> Response:
     return response
 
 
-def answered(answer: Callable[[Exploration], Answer], exploration: Exploration, token: str) -> Answer:
+def answered(answer: Callable[[ExploreSession], Answer], session: ExploreSession, token: str) -> Answer:
     """An answer, or in one line why there is none; the guard has looked at the token."""
     try:
-        return answer(exploration)
-    except Overtaken:
+        return answer(session)
+    except Superseded:
         return Response(status=204)
     except (InputError, MissingDependencyError, ArgumentError) as fault:
         return {"fault": one_line(fault)}, REFUSED
@@ -69,45 +69,45 @@ def answered(answer: Callable[[Exploration], Answer], exploration: Exploration, 
         return {"fault": message}, OF_ITS_OWN
 
 
-def page(exploration: Exploration) -> Answer:
+def page(session: ExploreSession) -> Answer:
     out = io.BytesIO()
-    write_document(out, exploration)
+    write_document(out, session)
     return Response(out.getvalue(), mimetype="text/html")
 
 
-def times(exploration: Exploration) -> Answer:
+def times(session: ExploreSession) -> Answer:
     """Seconds as int32, for each scenario, share and column; -1 where it isn't reached."""
-    question = question_of(request.args, len(exploration.ground.columns))
-    response = Response(exploration.times(question).tobytes(), mimetype=NUMBERS)
+    question = question_of(request.args, len(session.ground.columns))
+    response = Response(session.times(question).tobytes(), mimetype=NUMBERS)
     response.headers["X-Version"] = str(question.version)
     return response
 
 
-def journey(exploration: Exploration) -> Answer:
-    args, columns = request.args, exploration.ground.columns
+def journey(session: ExploreSession) -> Answer:
+    args, columns = request.args, session.ground.columns
     origin, end = (columns[whole(args, name, 0, len(columns) - 1)] for name in ("origin", "end"))
     scenario, version, tab = whole(args, "scenario", 0, MOST_SCENARIOS), version_of(args), tab_of(args)
     window, trips, share = window_of(args), setting_in(args, MAX_RIDES), setting_in(args, PERCENTILES)
-    return exploration.journey(JourneyQuestion((origin, end), scenario, window, trips, share), version, tab), 200
+    return session.journey(JourneyQuestion((origin, end), scenario, window, trips, share), version, tab), 200
 
 
-def routes(exploration: Exploration) -> Answer:
-    return Response(exploration.routes, mimetype="application/json")
+def routes(session: ExploreSession) -> Answer:
+    return Response(session.routes, mimetype="application/json")
 
 
-def changes(exploration: Exploration) -> Answer:
+def changes(session: ExploreSession) -> Answer:
     """Begins the network of a tab's changes, or of another longest walk."""
     body = body_sent()
-    return exploration.change(tab_of(texts_of(body, "tab")), actions_of(body), walk_of(body)), 200
+    return session.change(tab_of(texts_of(body, "tab")), actions_of(body), walk_of(body)), 200
 
 
-def study(exploration: Exploration) -> Answer:
+def study(session: ExploreSession) -> Answer:
     """Saves a study of a tab's network."""
     body = body_sent()
     sent = texts_of(body, "version", "tab")
-    with exploration.network(version_of(sent), tab_of(sent)) as standing:
-        walker = functools.partial(exploration.walks_from, standing.plan)
-        return save(exploration.options, standing.plan, exploration.ground.columns, body, walker), 200
+    with session.network(version_of(sent), tab_of(sent)) as live:
+        walker = functools.partial(session.walks_from, live.plan)
+        return save(session.options, live.plan, session.ground.columns, body, walker), 200
 
 
 def body_sent() -> Any:

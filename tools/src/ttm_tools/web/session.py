@@ -17,7 +17,7 @@ from ..plans.base import Base, read_taken_base
 from ..plans.plan_file import read_plan
 from ..places.selection import points_in, with_points
 from ..places.read import read_points
-from .page.content import Ground
+from .page.content import PagePlaces
 from .page.places import in_order
 from ..streets.walks import Pace
 from ..streets.osm import Streets, read_streets
@@ -31,18 +31,18 @@ from .options import ExploreOptions
 from .point import Point, Walk, walks_from
 from .question import Question
 from .routes import Route, routes_of
-from .live_network import Plan, Seconds, Standing
+from .live_network import LiveNetwork, Plan, Seconds
 from .timetables import timetable_of
-from .latest_only import Turnstile
+from .latest_only import LatestOnly
 
 
-class Exploration:
+class ExploreSession:
     """A network that a person explores. Several threads may use it."""
 
     def __init__(self, options: ExploreOptions, room: Path) -> None:
         refuse_planned(options.feed)
         self.options, self.room = options, room
-        self.turnstile, self.reading = Turnstile(), threading.RLock()
+        self.latest_only, self.reading = LatestOnly(), threading.RLock()
         self.plan_text = Path(options.plan).read_text(encoding="utf-8") if options.plan is not None else ""
         if self.plan_text:
             self.begun(0, self.of_feed(options.walk)).close()  # reports what is wrong with the feed
@@ -81,18 +81,18 @@ class Exploration:
         thread.start()
         return thread
 
-    def begun(self, version: int, plan: Plan) -> Standing:
+    def begun(self, version: int, plan: Plan) -> LiveNetwork:
         """A network that has answered its first question, so that an error of the feed is reported."""
-        standing = Standing(version, plan, self.options)
+        live = LiveNetwork(version, plan, self.options)
         try:
             first_stop = called_at(read_stops(plan.folder))[:1]
-            standing.network.matrix((self.options.window[0],) * 2, origins=first_stop)
+            live.network.matrix((self.options.window[0],) * 2, origins=first_stop)
         except BaseException:
-            standing.close()
+            live.close()
             raise
-        return standing
+        return live
 
-    def begun_changed(self, version: int, actions: list[Values], walk: int) -> Standing:
+    def begun_changed(self, version: int, actions: list[Values], walk: int) -> LiveNetwork:
         return self.begun(version, self.planned(actions, walk))
 
     def of_feed(self, walk: int) -> Plan:
@@ -108,45 +108,45 @@ class Exploration:
             return planning.written(self.base, self.feed_lines, text, self.room, walk, actions)
 
     def times(self, question: Question) -> Seconds:
-        """Travel times from a place in a network; `Overtaken` by a later question of the same tab."""
+        """Travel times from a place in a network; `Superseded` by a later question of the same tab."""
         while True:
             self.networks.start(question.version, question.tab)
-            with self.turnstile.turn(question.tab, question.turn):
-                standing = self.networks.find(question.version)
-                if standing is not None:  # else it was given up while the question waited for its turn
-                    seconds = standing.seconds(self.asked(standing, question), self.ground.columns)
+            with self.latest_only.turn(question.tab, question.turn):
+                live = self.networks.find(question.version)
+                if live is not None:  # else it was given up while the question waited for its turn
+                    seconds = live.seconds(self.asked(live, question), self.ground.columns)
                     self.end(self.networks.give_up(question.tab, question.version))
                     return seconds
 
-    def asked(self, standing: Standing, question: Question) -> Result:
+    def asked(self, live: LiveNetwork, question: Question) -> Result:
         """The answer of a network."""
         origin = question.origin
         if isinstance(origin, Point):
             with tempfile.TemporaryDirectory(prefix="point.", dir=self.room) as folder:
-                return standing.ask_from(origin, self.walks_from(standing.plan, origin), Path(folder), question)
-        return standing.ask(self.ground.columns[origin], question.window, question.trips, self.options.shares)
+                return live.ask_from(origin, self.walks_from(live.plan, origin), Path(folder), question)
+        return live.ask(self.ground.columns[origin], question.window, question.trips, self.options.shares)
 
-    def end(self, networks: list[Standing]) -> None:
+    def end(self, networks: list[LiveNetwork]) -> None:
         """Ends networks that no tab needs, once no journey is searched in one of them."""
 
         def close() -> None:
             with self.reading:
-                for standing in networks:
-                    standing.close()
+                for live in networks:
+                    live.close()
             give_back()
 
         if networks:
             threading.Thread(target=close).start()
 
     @contextlib.contextmanager
-    def network(self, version: int, tab: str) -> Iterator[Standing]:
+    def network(self, version: int, tab: str) -> Iterator[LiveNetwork]:
         """The network of a number, which goes on as long as the block."""
         while True:
             self.networks.start(version, tab)
             with self.reading:
-                standing = self.networks.find(version)
-                if standing is not None:
-                    yield standing
+                live = self.networks.find(version)
+                if live is not None:
+                    yield live
                     return
 
     def walks_from(self, plan: Plan, point: Point) -> list[Walk]:
@@ -157,13 +157,13 @@ class Exploration:
         """Begins the network of a tab's changes; the one that the tab has answers until then."""
         if self.options.generated and walk > self.options.most_walk:
             raise ArgumentError(f"walk is {walk}; walks were computed up to {self.options.most_walk} seconds")
-        standing = self.networks.start_changed(tab, actions, walk)
+        live = self.networks.start_changed(tab, actions, walk)
         give_back()
         # what the map draws of each scenario: pieces in millionths of a degree
-        kinds, changes = ("taken", "changed", "added"), standing.plan.changes
+        kinds, changes = ("taken", "changed", "added"), live.plan.changes
         lines = [{kind: getattr(change, kind).ravel().tolist() for kind in kinds} for change in changes]
-        told = standing.plan.sentences
-        return {"version": standing.version, "scenarios": standing.scenarios, "told": told, "lines": lines}
+        told = live.plan.sentences
+        return {"version": live.version, "scenarios": live.scenarios, "told": told, "lines": lines}
 
     @cached_property
     def routes(self) -> bytes:
@@ -183,20 +183,20 @@ class Exploration:
 
     def journey(self, question: JourneyQuestion, version: int, tab: str) -> dict[str, Any]:
         """The journey from one place to another in a network, leg by leg, and all departures."""
-        with self.network(version, tab) as standing:
-            return self.journeys.journey(standing, self.ground.columns, question)
+        with self.network(version, tab) as live:
+            return self.journeys.journey(live, self.ground.columns, question)
 
     def close(self) -> None:
-        for standing in list(self.networks.running.values()):
-            standing.close()
+        for live in list(self.networks.running.values()):
+            live.close()
 
 
-def ground_of(stops: Stops) -> Ground:
+def ground_of(stops: Stops) -> PagePlaces:
     """All stops at which vehicles may call, each of which is an origin and a destination."""
     if not stops.placed.any():
         raise InputError(stops.path, "none of the stops has coordinates, so there is nothing to show")
     places = in_order(stops.of(called_at(stops)))
-    return Ground(places, places.identifiers, places.identifiers, places.identifiers)
+    return PagePlaces(places, places.identifiers, places.identifiers, places.identifiers)
 
 
 def called_at(stops: Stops) -> list[str]:

@@ -13,8 +13,8 @@ from ...engine.arguments import EngineArguments, program_at
 from ...engine.conversation import Answer
 from ...engine.pool import PLACEHOLDER_WINDOW, ProcessPool, ask_command
 from ...engine.refusals import EngineError, error_line
-from ..parts import Part, Shape
-from ..stages import settle
+from ..parts import Part, PartLayout
+from ..stages import fsync
 from ..ttm import with_origins
 from .local import Failed, Pool, failed_of, missing_of
 
@@ -44,7 +44,7 @@ class PartQuestion:
     arguments: list[str]
 
 
-class Asked:
+class PendingAnswer:
     """A question that a thread asks: the matrix of its answer gets its name at the `end`."""
 
     def __init__(self, part: Part, future: "Future[Answer]", stop: Callable[[], None]) -> None:
@@ -63,7 +63,7 @@ class Asked:
             return error_line(answer.body, answer.status)
         aside = aside_name(self.part.matrix)
         aside.write_bytes(answer.body)
-        settle(aside)
+        fsync(aside)
         os.replace(aside, self.part.matrix)
         return None
 
@@ -82,20 +82,20 @@ class KeptNetwork(Pool, contextlib.AbstractContextManager["KeptNetwork"]):
         if self.pool is not None:
             self.pool.close()
 
-    def run_parts(self, run: EngineArguments, parts: Sequence[Part], shape: Shape) -> list[Failed]:
+    def run_parts(self, run: EngineArguments, parts: Sequence[Part], layout: PartLayout) -> list[Failed]:
         """Asks for the parts of a window that aren't done, as `run_parts` runs them."""
         missing = missing_of(parts)
         if missing and self.pool is None:
             command = ask_command(program_at(self.run.program), kept_arguments(self.run))
-            self.pool = ProcessPool(command, shape.at_once, self.study)
-        self.question, self.at_once, self.threads = run, shape.at_once, shape.threads
+            self.pool = ProcessPool(command, layout.at_once, self.study)
+        self.question, self.at_once, self.threads = run, layout.at_once, layout.threads
         self.waiting = list(reversed(missing))
-        with ThreadPoolExecutor(shape.at_once) as self.executor:
+        with ThreadPoolExecutor(layout.at_once) as self.executor:
             return failed_of(self)
 
-    def begun(self, part: Part) -> Asked:
+    def begun(self, part: Part) -> PendingAnswer:
         arguments = question_of(with_origins(self.question, part.origins_name, self.threads))
-        return Asked(part, self.executor.submit(self.ask, PartQuestion(part, arguments)), self.__exit__)
+        return PendingAnswer(part, self.executor.submit(self.ask, PartQuestion(part, arguments)), self.__exit__)
 
     def ask(self, question: PartQuestion) -> Answer:
         assert self.pool is not None

@@ -75,7 +75,7 @@ def missing_of(parts: Sequence[Part]) -> list[Part]:
     return missing
 
 
-def tell_ending(count: int) -> None:
+def log_ending(count: int) -> None:
     """Says what becomes of the parts that run when somebody presses Ctrl-C."""
     if count:
         parts = quantity(count, "running part")
@@ -105,7 +105,7 @@ class Pool:
             self.running[part.number] = (part, self.begun(part))
         if self.is_ending and self.running and not self.has_said_so:
             self.has_said_so = True
-            tell_ending(len(self.running))
+            log_ending(len(self.running))
 
     def begun(self, part: Part) -> PartRun:
         return Running(with_origins(self.run, part.origins_name, self.threads), part.matrix, part.study)

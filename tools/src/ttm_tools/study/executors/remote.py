@@ -26,7 +26,7 @@ Chosen = Callable[[Sequence[Part]], list[Part]]
 
 
 @dataclass(frozen=True)
-class Means:
+class ExecutorOptions:
     """How the parts are run: results are the same whichever way."""
 
     workers: int | None = None  # processes of this machine; None for one on each processor
@@ -55,23 +55,23 @@ class Means:
 
 
 def run_elsewhere(
-    run: EngineArguments, parts: Sequence[Part], key: str, version: Sequence[str], means: Means
+    run: EngineArguments, parts: Sequence[Part], key: str, version: Sequence[str], options: ExecutorOptions
 ) -> list[Failed]:
     """Computes the parts that aren't done, and waits until other machines have done so."""
     missing = still(parts)
     if missing:
         write_task(run, parts, key, version)
-    job = job_that_goes_on(missing[0].study) if means.slurm and missing else None
+    job = job_that_goes_on(missing[0].study) if options.slurm and missing else None
     if job is not None:
         say(f"parts: job {job} of this study continues: waiting for it")
         wait(missing, functools.partial(is_over, job))
         missing = still(missing)
     for part in missing:
         remove(part.errors_file)
-    if missing and means.slurm:
-        wait(missing, functools.partial(is_over, submit(missing, means.arguments)))
+    if missing and options.slurm:
+        wait(missing, functools.partial(is_over, submit(missing, options.arguments)))
     elif missing:
-        with Hosts(missing, means.hosts or ":", means.arguments) as work, ends_gently(work.end):
+        with Hosts(missing, options.hosts or ":", options.arguments) as work, ends_gently(work.end):
             wait(missing, work.is_over, work.may_come)
         if work.is_ending:
             raise Interrupted(signal.SIGINT)

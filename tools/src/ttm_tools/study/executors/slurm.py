@@ -8,7 +8,7 @@ from typing import Sequence
 from ...core.console import one_line, say
 from ...core.errors import InputError, needs_program
 from ..parts import PARTS, Part
-from ..stages import write_settled
+from ..stages import write_durably
 from .task import SCRIPT
 
 JOB = f"{PARTS}/job"
@@ -40,7 +40,7 @@ def submit(missing: Sequence[Part], options: Sequence[str]) -> str:
     if ran.returncode != 0:
         raise InputError("sbatch", one_line(ran.stderr) or f"ended with status {ran.returncode}")
     job = ran.stdout.strip().split(";")[0]
-    write_settled(study / JOB, job + "\n")
+    write_durably(study / JOB, job + "\n")
     say(f"parts: {len(missing)} as job {job}; it continues if this command ends, and the same command waits for it")
     return job
 

@@ -15,7 +15,7 @@ from ...core.files import remove
 from ...core.stop_lists import origins_in
 from ...engine.arguments import EngineArguments, program_at
 from ..parts import FIRST, PARTS, Part, parts_for
-from ..stages import Folder, PACKAGE, TASK, as_text, facts_in, write_settled
+from ..stages import Folder, PACKAGE, TASK, as_text, facts_in, write_durably
 from ..ttm import Running, facts_of, found_program, version_of, with_origins
 
 SCRIPT = f"{PARTS}/one_part.sh"
@@ -26,14 +26,14 @@ def write_task(run: EngineArguments, parts: Sequence[Part], key: str, version: S
     study = parts[0].study
     known = {"run": facts_of(run), "parts": len(parts), "window": parts[0].window, "key": key}
     known["version"] = list(version)
-    write_settled(study / TASK, as_text(known))
+    write_durably(study / TASK, as_text(known))
     names = {"PYTHONPATH": str(PACKAGE.parent), "TTM_PROGRAM": os.path.abspath(program_at(run.program))}
     own = " ".join(f"{name}={shlex.quote(value)}" for name, value in names.items())
     command = f"{shlex.quote(sys.executable)} -P -m ttm_tools study --part"  # -P: import nothing from the folder
     text = "#!/bin/sh\n# Computes a part of the study: one_part.sh NUMBER\n"
     text += f"cd {shlex.quote(str(study.resolve()))} || exit 1\n"
     text += f'number=${{1:-$SLURM_ARRAY_TASK_ID}}\nexec env {own} {command} "$number" .\n'
-    write_settled(study / SCRIPT, text)
+    write_durably(study / SCRIPT, text)
     os.chmod(study / SCRIPT, 0o755)
 
 
@@ -58,7 +58,7 @@ def one_part(folder: Path, number: int) -> None:
         threads = int(os.environ.get("SLURM_CPUS_PER_TASK", "1"))
         message = computed(with_origins(run, part.origins_name, threads), part, known)
         if message is not None:
-            write_settled(part.errors_file, message + "\n")
+            write_durably(part.errors_file, message + "\n")
             raise InputError(part.folder, message)
 
 

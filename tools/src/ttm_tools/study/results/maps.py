@@ -40,48 +40,54 @@ class StudyMap:
         return self.kind == "difference"
 
 
-def maps_of(whole: StudyMatrix) -> list[StudyMap]:
-    settings = whole.study.results
-    drawn = with_others(whole, "access", "access")
-    for origin, stop in names_of_maps(whole, settings.map_origins).items():
-        drawn += with_others(whole, "times", f"times_{stop}", origin=origin)
-    counted = columns_of(whole.at(COUNTED)) if "counted" in whole.inputs.records else [STOPS]
-    for what, column in names_of_maps(whole, counted if settings.nearest else []).items():
-        drawn += with_others(whole, "nearest", f"nearest_{column}", nearest=what)
-    for origin, stop in names_of_maps(whole, settings.isochrones).items():
-        drawn += with_others(whole, "isochrones", f"isochrones_{stop}", "isochrones", origin=origin)
+def maps_of(results: StudyMatrix) -> list[StudyMap]:
+    settings = results.study.results
+    drawn = with_others(results, "access", "access")
+    for origin, stop in names_of_maps(results, settings.map_origins).items():
+        drawn += with_others(results, "times", f"times_{stop}", origin=origin)
+    counted = columns_of(results.at(COUNTED)) if "counted" in results.inputs.records else [STOPS]
+    for what, column in names_of_maps(results, counted if settings.nearest else []).items():
+        drawn += with_others(results, "nearest", f"nearest_{column}", nearest=what)
+    for origin, stop in names_of_maps(results, settings.isochrones).items():
+        drawn += with_others(results, "isochrones", f"isochrones_{stop}", "isochrones", origin=origin)
     return drawn
 
 
-def names_of_maps(whole: StudyMatrix, named: Sequence[str]) -> dict[str, str]:
+def names_of_maps(results: StudyMatrix, named: Sequence[str]) -> dict[str, str]:
     """What the maps of each of some places, or of things that are counted, are called."""
-    return file_names(list(named), ["", *(f"_{name}" for name in whole.others.values())])
+    return file_names(list(named), ["", *(f"_{name}" for name in results.others.values())])
 
 
-def with_others(whole: StudyMatrix, kind: str, file: str, other: str = "difference", **more: str) -> list[StudyMap]:
+def with_others(results: StudyMatrix, kind: str, file: str, other: str = "difference", **more: str) -> list[StudyMap]:
     """A map of the base, and one of each other scenario."""
-    others = whole.others.items()
+    others = results.others.items()
     drawn = [StudyMap(f"{MAPS}/{file}_{name}.png", other, scenario, **more) for scenario, name in others]
-    return [StudyMap(f"{MAPS}/{file}.png", kind, whole.inputs.base, **more), *drawn]
+    return [StudyMap(f"{MAPS}/{file}.png", kind, results.inputs.base, **more), *drawn]
 
 
-def maps_stages(whole: StudyMatrix, known: Records) -> list[Stage]:
-    if not whole.study.results.maps:
+def maps_stages(results: StudyMatrix, records: Records) -> list[Stage]:
+    if not results.study.results.maps:
         return []
-    drawn = maps_of(whole)
+    drawn = maps_of(results)
 
     def make() -> list[str]:
-        with atomic_folder(whole.at(MAPS)) as folder:
-            walked = functools.cache(lambda: ground_for(whole))
+        with atomic_folder(results.at(MAPS)) as folder:
+            walked = functools.cache(lambda: ground_for(results))
             for picture in drawn:
                 is_area = picture.kind == "isochrones"
-                figure = areas_drawn(whole, picture, *walked()) if is_area else classes_drawn(whole, picture)
+                figure = areas_drawn(results, picture, *walked()) if is_area else classes_drawn(results, picture)
                 write_picture(str(folder / Path(picture.file).name), figure)
         return [f"{MAPS}: {quantity(len(drawn), 'picture')}"]
 
-    study, inputs, settings = whole.study, whole.inputs, whole.study.results
-    options = [study.about.note, whole.unit, list(settings.map_origins), whole.scenarios, list(settings.nearest[:1])]
-    facts: dict[str, Any] = {**whole.depends, "words": options, "run": inputs.sums}
+    study, inputs, settings = results.study, results.inputs, results.study.results
+    options = [
+        study.about.note,
+        results.unit,
+        list(settings.map_origins),
+        results.scenarios,
+        list(settings.nearest[:1]),
+    ]
+    facts: dict[str, Any] = {**results.depends, "words": options, "run": inputs.sums}
     facts["counted"] = inputs.outputs_of("counted") if settings.nearest else {}
     if settings.isochrones:
         facts["isochrones"] = [settings.isochrones, settings.isochrone_bands, study.pace]
@@ -89,71 +95,71 @@ def maps_stages(whole: StudyMatrix, known: Records) -> list[Stage]:
     return [Sources(study.at, streets).stage("maps", facts, [MAPS], make)]
 
 
-def options_of(whole: StudyMatrix, drawn: StudyMap) -> PictureOptions:
+def options_of(results: StudyMatrix, drawn: StudyMap) -> PictureOptions:
     """What of the matrix is drawn."""
-    study, inputs = whole.study, whole.inputs
+    study, inputs = results.study, results.inputs
     what = "points" if "points" in inputs.records else "stops"
     breaks = study.results.isochrone_bands if drawn.kind == "isochrones" else None
-    return PictureOptions(drawn.scenario, inputs.base, study.share, study.within, breaks, whole.unit, what)
+    return PictureOptions(drawn.scenario, inputs.base, study.share, study.within, breaks, results.unit, what)
 
 
-def sheet_of(whole: StudyMatrix, drawn: StudyMap) -> Sheet:
+def sheet_of(results: StudyMatrix, drawn: StudyMap) -> Sheet:
     """What stands around a map, with the lines that a scenario takes out or brings."""
-    inputs = whole.inputs
-    edits = [whole.at(inputs.edits[name]) for name in (inputs.base, drawn.scenario) if name in inputs.edits]
-    planned = planned_of(whole.at(inputs.feed), edits, inputs.base, drawn.scenario, drawn.is_difference)
+    inputs = results.inputs
+    edits = [results.at(inputs.edits[name]) for name in (inputs.base, drawn.scenario) if name in inputs.edits]
+    planned = planned_of(results.at(inputs.feed), edits, inputs.base, drawn.scenario, drawn.is_difference)
     own = edits if drawn.is_difference else []
-    return Sheet(None, whole.study.about.note, edits=own, planned=planned)
+    return Sheet(None, results.study.about.note, edits=own, planned=planned)
 
 
-def areas_drawn(whole: StudyMatrix, drawn: StudyMap, ground: AreaGround, walking: Walking) -> Any:
+def areas_drawn(results: StudyMatrix, drawn: StudyMap, ground: AreaGround, walking: Walking) -> Any:
     """The areas that are reached from a place."""
-    matrix, stops = whole.open()
-    areas = Areas(drawn.origin or "", options_of(whole, drawn), ground, walking)
-    return figure_of_isochrones(matrix, stops, whole.at(whole.inputs.feed), sheet_of(whole, drawn), areas)
+    matrix, stops = results.open()
+    areas = Areas(drawn.origin or "", options_of(results, drawn), ground, walking)
+    return figure_of_isochrones(matrix, stops, results.at(results.inputs.feed), sheet_of(results, drawn), areas)
 
 
-def classes_drawn(whole: StudyMatrix, drawn: StudyMap) -> Any:
+def classes_drawn(results: StudyMatrix, drawn: StudyMap) -> Any:
     """A map of classes of stops or points."""
-    matrix, stops = whole.open()
+    matrix, stops = results.open()
     sought = None
     if drawn.nearest is not None:
-        numbers = whole.counts(matrix).named(drawn.nearest)
-        sought = Nearest(drawn.nearest, numbers, whole.study.results.nearest[0])
-    picture = picture_of(drawn.kind, matrix, stops, drawn.origin, options_of(whole, drawn), sought)
-    base = whole.inputs.base if drawn.is_difference else None
-    return figure_of(picture, matrix, stops, whole.at(whole.inputs.feed), sheet_of(whole, drawn), base)
+        numbers = results.counts(matrix).named(drawn.nearest)
+        sought = Nearest(drawn.nearest, numbers, results.study.results.nearest[0])
+    picture = picture_of(drawn.kind, matrix, stops, drawn.origin, options_of(results, drawn), sought)
+    base = results.inputs.base if drawn.is_difference else None
+    return figure_of(picture, matrix, stops, results.at(results.inputs.feed), sheet_of(results, drawn), base)
 
 
-def ground_for(whole: StudyMatrix) -> tuple[AreaGround, Walking]:
+def ground_for(results: StudyMatrix) -> tuple[AreaGround, Walking]:
     """Where the places of the matrix lie, and how one walks on from them."""
-    study, (matrix, stops) = whole.study, whole.open()
+    study, (matrix, stops) = results.study, results.open()
     there = stops.of(matrix.stops)
     walking = Walking(study.walks.speed, study.walks.detour, study.walk_limit)
     streets = study.at(study.walks.streets) if study.walks.streets else None
-    points = points_in(whole.at(whole.inputs.feed))
+    points = points_in(results.at(results.inputs.feed))
     return isochrones.ground_on_foot(there, points, walking, streets, study.walks.near), walking
 
 
-def areas_stages(whole: StudyMatrix, known: Records) -> list[Stage]:
+def areas_stages(results: StudyMatrix, records: Records) -> list[Stage]:
     """A file for each origin, with all scenarios and bands."""
-    study, inputs, settings = whole.study, whole.inputs, whole.study.results
+    study, inputs, settings = results.study, results.inputs, results.study.results
     names = file_names(list(settings.isochrones), ("",))
     if not names:
         return []
 
     def make() -> list[str]:
-        matrix, _ = whole.open()
-        ground, walking = ground_for(whole)
-        Path(whole.at(AREAS)).mkdir()
+        matrix, _ = results.open()
+        ground, walking = ground_for(results)
+        Path(results.at(AREAS)).mkdir()
         for origin, name in names.items():
             shares = [matrix.share(study.share)]
             bands = isochrones.Bands(origin, matrix.compared, shares, settings.isochrone_bands, walking)
-            found = isochrones.isochrones_of(matrix, ground, bands, whole.counts(matrix))
-            with output(whole.at(f"{AREAS}/{name}.geojson")) as file:
+            found = isochrones.isochrones_of(matrix, ground, bands, results.counts(matrix))
+            with output(results.at(f"{AREAS}/{name}.geojson")) as file:
                 isochrones.write_geojson(file, found, origin)
         return [f"{AREAS}: {quantity(len(names), 'file')}"]
 
     options = [list(settings.isochrones), list(settings.isochrone_bands), study.pace]
-    facts = {**whole.depends, "words": options, "counted": inputs.outputs_of("counted")}
+    facts = {**results.depends, "words": options, "counted": inputs.outputs_of("counted")}
     return [Sources(study.at, [study.walks.streets]).stage(AREAS, facts, [AREAS], make)]

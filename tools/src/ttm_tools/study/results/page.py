@@ -20,27 +20,27 @@ COUNTS = (("counted", COUNTED), ("people", PEOPLE))  # stages and the files that
 SEED = 1  # of the draw of origins where there is no room for all
 
 
-def page_stages(whole: StudyMatrix, known: Records) -> list[Stage]:
-    study, inputs = whole.study, whole.inputs
+def page_stages(results: StudyMatrix, records: Records) -> list[Stage]:
+    study, inputs = results.study, results.inputs
     if not study.results.page:
         return []
 
     def make() -> list[str]:
-        page = page_of(whole.whole(), settings_of(whole))
-        with output(whole.at(PAGE)) as file:
+        page = page_of(results.matrix(), settings_of(results))
+        with output(results.at(PAGE)) as file:
             page.write(file)
         ground = page.content.ground
         sentence = (
             f"{quantity(len(ground.places.identifiers), 'place')}, travel times from {len(ground.rows):,} of them"
         )
-        lost = [*limits_of_page(study.cutoffs)[1], *people_of_page(whole)[1]]
+        lost = [*limits_of_page(study.cutoffs)[1], *people_of_page(results)[1]]
         return [f"{PAGE}: {sentence}", *page.frame.sentences, *(f"{PAGE}: {line}" for line in lost)]
 
-    texts: list[Any] = [study.title, study.about.note, whole.unit, study.within, list(study.cutoffs)]
+    texts: list[Any] = [study.title, study.about.note, results.unit, study.within, list(study.cutoffs)]
     texts += [list(study.results.nearest), study.pace]
     counts = [inputs.outputs_of("counted"), inputs.outputs_of("people")]
     facts = {"texts": texts, "counts": counts, "run": inputs.sums, "words": inputs.run.arguments()}
-    return [Sources(study.at, [study.walks.streets]).stage("page", {**whole.depends, **facts}, [PAGE], make)]
+    return [Sources(study.at, [study.walks.streets]).stage("page", {**results.depends, **facts}, [PAGE], make)]
 
 
 def limits_of_page(cutoffs: Sequence[float]) -> tuple[list[float], list[str]]:
@@ -52,9 +52,9 @@ def limits_of_page(cutoffs: Sequence[float]) -> tuple[list[float], list[str]]:
     return kept or [OTHERWISE], [what] if lost else []
 
 
-def people_of_page(whole: StudyMatrix) -> tuple[list[str], list[str]]:
+def people_of_page(results: StudyMatrix) -> tuple[list[str], list[str]]:
     """Returns the file of people for the page, none if their columns are among what is counted; and why."""
-    counted, people = ([whole.at(path)] if name in whole.inputs.records else [] for name, path in COUNTS)
+    counted, people = ([results.at(path)] if name in results.inputs.records else [] for name, path in COUNTS)
     both = [name for name in columns_of(people[0]) if name in columns_of(counted[0])] if counted and people else []
     if not both:
         return people, []
@@ -62,20 +62,20 @@ def people_of_page(whole: StudyMatrix) -> tuple[list[str], list[str]]:
     return [], [f"without people by origin, since {names} of people is counted as what is reached, too"]
 
 
-def settings_of(whole: StudyMatrix) -> PageSettings:
-    study, inputs = whole.study, whole.inputs
-    counted = [whole.at(COUNTED)] if "counted" in inputs.records else []
-    people, cutoffs = people_of_page(whole)[0], limits_of_page(study.cutoffs)[0]
+def settings_of(results: StudyMatrix) -> PageSettings:
+    study, inputs = results.study, results.inputs
+    counted = [results.at(COUNTED)] if "counted" in inputs.records else []
+    people, cutoffs = people_of_page(results)[0], limits_of_page(study.cutoffs)[0]
     return PageSettings(
-        feed=whole.at(inputs.feed),
-        points=whole.at(f"{inputs.feed}/{POINTS}") if "points" in inputs.records else None,
-        edits=list(map(whole.at, inputs.edits.values())),
+        feed=results.at(inputs.feed),
+        points=results.at(f"{inputs.feed}/{POINTS}") if "points" in inputs.records else None,
+        edits=list(map(results.at, inputs.edits.values())),
         opportunities=counted,
         people=people,
         base=inputs.base,
         cutoffs=cutoffs,
         seed=SEED,
-        unit=whole.unit,
+        unit=results.unit,
         title=study.title,
         note=" ".join(text for text in (study.about.question, study.about.note) if text) or None,
         arguments=" ".join(inputs.run.arguments()),

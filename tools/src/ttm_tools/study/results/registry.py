@@ -66,13 +66,13 @@ RESULTS = (
 )
 
 
-def make_results(whole: "StudyMatrix", folder: "Folder", records: "Records") -> "Records":
+def make_results(results: "StudyMatrix", folder: "Folder", records: "Records") -> "Records":
     """Makes all results behind the matrices, whose records are given; those of all are returned."""
-    known = dict(records)
+    made = dict(records)
     for result in RESULTS:
-        for stage in result.stages()(whole, known):
-            known[stage.name] = folder.do(stage)
-    return known
+        for stage in result.stages()(results, made):
+            made[stage.name] = folder.do(stage)
+    return made
 
 
 def markdown_table() -> str:

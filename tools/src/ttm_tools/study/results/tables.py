@@ -69,7 +69,7 @@ class StudyMatrix:
         known = {"matrix": self.sum, "base": self.inputs.base, "stops": self.inputs.stops_sum}
         return {**known, "share": self.study.share, "within": self.study.within, "most": self.study.results.max_minutes}
 
-    def whole(self, name: str = MATRIX) -> Matrix:
+    def matrix(self, name: str = MATRIX) -> Matrix:
         """The matrix, or that of another window, up to the greatest travel time that the study names."""
         return capped(open_matrix(self.at(name)), self.study.results.max_minutes)
 
@@ -91,7 +91,7 @@ class StudyMatrix:
 
     def open(self, name: str = MATRIX) -> tuple[Matrix, Stops]:
         """The matrix, or that of another window, with names and places of what it shows."""
-        matrix, stops = select_points(self.whole(name), self.at(self.inputs.feed), None)
+        matrix, stops = select_points(self.matrix(name), self.at(self.inputs.feed), None)
         assert stops is not None  # a feed was named
         return matrix, stops
 
@@ -127,120 +127,120 @@ def measurements_of(study: Study) -> list[Measurement]:
     return kinds + ([Measurement("nearest", NEAREST, limits, [list(limits)], of_nearest)] if limits else [])
 
 
-def access_stages(whole: StudyMatrix, known: Records) -> list[Stage]:
-    return [table_stage(whole, of) for of in measurements_of(whole.study) if of.heads == ACCESS]
+def access_stages(results: StudyMatrix, records: Records) -> list[Stage]:
+    return [table_stage(results, of) for of in measurements_of(results.study) if of.heads == ACCESS]
 
 
-def nearest_stages(whole: StudyMatrix, known: Records) -> list[Stage]:
-    return [table_stage(whole, of) for of in measurements_of(whole.study) if of.heads == NEAREST]
+def nearest_stages(results: StudyMatrix, records: Records) -> list[Stage]:
+    return [table_stage(results, of) for of in measurements_of(results.study) if of.heads == NEAREST]
 
 
-def table_stage(whole: StudyMatrix, of: Measurement) -> Stage:
+def table_stage(results: StudyMatrix, of: Measurement) -> Stage:
     """The table of what is measured: all scenarios, shares, opportunities and limits."""
     path = f"{of.kind}.csv"
 
     def make() -> list[str]:
-        matrix, _ = whole.open()
-        counts = whole.counts(matrix)
+        matrix, _ = results.open()
+        counts = results.counts(matrix)
         found = of.of(matrix, counts)
-        with output(whole.at(path)) as file:
+        with output(results.at(path)) as file:
             write_access(file, found, counts.names, of.limits, Form(of.heads))
         return [f"{path}: {', '.join(map(display_text, counts.names))}"]
 
-    options = [*of.options, whole.study.results.max_minutes]
-    facts = {"matrix": whole.sum, "words": options, "counted": whole.inputs.outputs_of("counted")}
+    options = [*of.options, results.study.results.max_minutes]
+    facts = {"matrix": results.sum, "words": options, "counted": results.inputs.outputs_of("counted")}
     return Stage(of.kind, facts, [path], make)
 
 
-def people_stages(whole: StudyMatrix, known: Records) -> list[Stage]:
+def people_stages(results: StudyMatrix, records: Records) -> list[Stage]:
     """How access is spread over people, and how many are within bands."""
-    return stages_of_people(whole, known.get("access"), "", whole.study.results.bands)
+    return stages_of_people(results, records.get("access"), "", results.study.results.bands)
 
 
-def nearest_people_stages(whole: StudyMatrix, known: Records) -> list[Stage]:
+def nearest_people_stages(results: StudyMatrix, records: Records) -> list[Stage]:
     """The same of the time to the nearest."""
-    return stages_of_people(whole, known.get("nearest"), "_nearest", whole.study.results.nearest_bands)
+    return stages_of_people(results, records.get("nearest"), "_nearest", results.study.results.nearest_bands)
 
 
-def compare_stages(whole: StudyMatrix, known: Records) -> list[Stage]:
-    others = whole.others.items() if whole.study.results.compare else ()
-    return [compare_stage(whole, scenario, name) for scenario, name in others]
+def compare_stages(results: StudyMatrix, records: Records) -> list[Stage]:
+    others = results.others.items() if results.study.results.compare else ()
+    return [compare_stage(results, scenario, name) for scenario, name in others]
 
 
-def stages_of_people(whole: StudyMatrix, table: Record | None, end: str, limits: Sequence[float]) -> list[Stage]:
+def stages_of_people(results: StudyMatrix, table: Record | None, end: str, limits: Sequence[float]) -> list[Stage]:
     """The stages that count people by a table of access, or of the nearest; what they are called ends alike."""
-    if table is None or "people" not in whole.inputs.records:
+    if table is None or "people" not in results.inputs.records:
         return []
     (path,) = table.outputs
-    own, grid = (whole.inputs.outputs_of(stage) for stage in ("people", "grid"))
+    own, grid = (results.inputs.outputs_of(stage) for stage in ("people", "grid"))
     depends = {"access": table.outputs, "people": own, "grid": grid}
-    stages = [equity_stage(whole, path, end, depends)]
-    return [*stages, bands_stage(whole, path, f"bands{end}", limits, depends)] if limits else stages
+    stages = [equity_stage(results, path, end, depends)]
+    return [*stages, bands_stage(results, path, f"bands{end}", limits, depends)] if limits else stages
 
 
-def read_people(whole: StudyMatrix, path: str) -> tuple[AccessTable, Counts]:
+def read_people(results: StudyMatrix, path: str) -> tuple[AccessTable, Counts]:
     """A table by origin, and who lives there; also those who live outside all cells, if the study counts them."""
-    table = read_access(whole.at(path))
-    people = read_counts([whole.at(PEOPLE)], table.origins, f"origin of {path}")
-    return with_outside(whole.study, table, people)
+    table = read_access(results.at(path))
+    people = read_counts([results.at(PEOPLE)], table.origins, f"origin of {path}")
+    return with_outside(results.study, table, people)
 
 
-def equity_stage(whole: StudyMatrix, path: str, end: str, depends: dict[str, Any]) -> Stage:
+def equity_stage(results: StudyMatrix, path: str, end: str, depends: dict[str, Any]) -> Stage:
     """How access, or the time to the nearest, is spread over people."""
     csv, page = f"equity{end}.csv", f"equity{end}.md"
 
     def make() -> list[str]:
-        table, people = read_people(whole, path)
-        options = equity.EquityOptions(whole.inputs.base, LOSE, table.kinds)
+        table, people = read_people(results, path)
+        options = equity.EquityOptions(results.inputs.base, LOSE, table.kinds)
         for name, form in ((csv, tables.CSV), (page, tables.MARKDOWN)):
-            with output(whole.at(name)) as file:
+            with output(results.at(name)) as file:
                 equity.write_equity(file, equity.measured(table, people, options), form)
         return [f"{csv}: {', '.join(map(display_text, people.names))}"]
 
-    return Stage(f"equity{end}", {**depends, "base": whole.inputs.base}, [csv, page], make)
+    return Stage(f"equity{end}", {**depends, "base": results.inputs.base}, [csv, page], make)
 
 
-def bands_stage(whole: StudyMatrix, path: str, name: str, limits: Sequence[float], depends: dict[str, Any]) -> Stage:
+def bands_stage(results: StudyMatrix, path: str, name: str, limits: Sequence[float], depends: dict[str, Any]) -> Stage:
     """How many people are within bands of access, or of the time to the nearest; of each thing a picture, too."""
-    csv, pictures = f"{name}.csv", [name] if whole.study.results.maps else []
+    csv, pictures = f"{name}.csv", [name] if results.study.results.maps else []
 
     def make() -> list[str]:
-        table, people = read_people(whole, path)
-        with output(whole.at(csv)) as file:
+        table, people = read_people(results, path)
+        with output(results.at(csv)) as file:
             bands.write_bands(file, table, bands.bands_of(table, table.kinds, people, limits), tables.CSV)
         for folder in pictures:
-            draw_bands(whole, folder, table, people, limits)
+            draw_bands(results, folder, table, people, limits)
         return [f"{csv}: {', '.join(map(display_text, people.names))}"]
 
-    facts = {**depends, "bands": list(limits), "words": [whole.study.share, whole.study.within]}
+    facts = {**depends, "bands": list(limits), "words": [results.study.share, results.study.within]}
     return Stage(name, facts, [csv, *pictures], make)
 
 
-def draw_bands(whole: StudyMatrix, folder: str, table: AccessTable, people: Counts, limits: Sequence[float]) -> None:
+def draw_bands(results: StudyMatrix, folder: str, table: AccessTable, people: Counts, limits: Sequence[float]) -> None:
     """Draws the bars of each thing that is counted."""
     names = list(dict.fromkeys(kind.opportunity for kind in table.kinds))
-    with atomic_folder(whole.at(folder)) as aside:
+    with atomic_folder(results.at(folder)) as aside:
         for name, file in file_names(names).items():
-            figure = bands.figure_of(table, [whole.kind_drawn(table.kinds, name, table.of_times)], people, limits)
+            figure = bands.figure_of(table, [results.kind_drawn(table.kinds, name, table.of_times)], people, limits)
             write_picture(str(aside / f"{file}.png"), figure)
 
 
-def compare_stage(whole: StudyMatrix, scenario: str, name: str) -> Stage:
+def compare_stage(results: StudyMatrix, scenario: str, name: str) -> Stage:
     """Winners and losers of a scenario, compared with the base."""
-    study, settings = whole.study, whole.study.results
+    study, settings = results.study, results.study.results
     by_origin, by_pair = f"compare_{name}.csv", f"compare_{name}{PAIRS}.csv"
 
     def make() -> list[str]:
-        matrix, stops = whole.open()
-        pair = pair_of(matrix, whole.inputs.base, scenario, study.share)
+        matrix, stops = results.open()
+        pair = pair_of(matrix, results.inputs.base, scenario, study.share)
         place = matrix.limit(study.within)[0]
         comparison = compare(pair, settings.differs, with_pairs=settings.pairs)
-        with output(whole.at(by_origin)) as file:
+        with output(results.at(by_origin)) as file:
             write_origins(file, pair, place, comparison, stops)
         if settings.pairs:
-            with output(whole.at(by_pair)) as file:
+            with output(results.at(by_pair)) as file:
                 write_pairs(file, pair, comparison.changes, stops)
         return summary(pair, comparison, settings.differs, place)
 
-    depends = {**whole.depends, "scenario": scenario, "words": [settings.differs, settings.pairs]}
+    depends = {**results.depends, "scenario": scenario, "words": [settings.differs, settings.pairs]}
     return Stage(f"compare_{name}", depends, [by_origin, *([by_pair] if settings.pairs else [])], make)

@@ -43,50 +43,50 @@ CHANGES = f"{WINDOWS}/compare.csv"
 CHANGE_COLUMNS = ["date", "window", "lose", "cut_off", "gain", "newly_reached", "group", "mean_change"]
 
 
-def window_stages(whole: StudyMatrix, known: Records) -> list[Stage]:
+def window_stages(results: StudyMatrix, records: Records) -> list[Stage]:
     """Tables and pictures, where several windows or days are named."""
-    return [tables_stage(whole, of) for of in measurements_of(whole.study)] if whole.study.questions else []
+    return [tables_stage(results, of) for of in measurements_of(results.study)] if results.study.questions else []
 
 
-def path_of(whole: StudyMatrix, question: DayWindow) -> str:
-    return MATRIX if question == whole.study.questions[0] else matrix_of(question)
+def path_of(results: StudyMatrix, question: DayWindow) -> str:
+    return MATRIX if question == results.study.questions[0] else matrix_of(question)
 
 
-def tables_stage(whole: StudyMatrix, of: Measurement) -> Stage:
+def tables_stage(results: StudyMatrix, of: Measurement) -> Stage:
     """The table by origin, and that by people; of access the pictures, too."""
-    study = whole.study
+    study = results.study
     by_origin = f"{WINDOWS}/{of.kind}.csv"
     by_people = EQUITY if of.heads == ACCESS else f"{WINDOWS}/equity_{of.kind}.csv"
     pictures = [PICTURES] if study.results.maps and of.heads == ACCESS else []
-    compared = [CHANGES] if study.results.compare and of.heads == ACCESS and whole.others else []
+    compared = [CHANGES] if study.results.compare and of.heads == ACCESS and results.others else []
 
     def make() -> list[str]:
         tables = dict[DayWindow, AccessTable]()
         header = [*HEADS, "scenario", "id", "opportunity", "percentile", *of.heads]
-        with output(whole.at(by_origin)) as file:
-            write_rows(file, header, lines_of(whole, of, tables))
-        with output(whole.at(by_people)) as file:
-            write_spread(file, tables, whole)
+        with output(results.at(by_origin)) as file:
+            write_rows(file, header, lines_of(results, of, tables))
+        with output(results.at(by_people)) as file:
+            write_spread(file, tables, results)
         for path in compared:
-            with output(whole.at(path)) as file:
-                wide, people = with_people(whole, tables)
-                write_changes(file, list(changes_of(wide, whole.inputs.base, people)), people.names)
+            with output(results.at(path)) as file:
+                wide, people = with_people(results, tables)
+                write_changes(file, list(changes_of(wide, results.inputs.base, people)), people.names)
         for _ in pictures:
-            draw_all(whole, tables)
+            draw_all(results, tables)
         return [f"{', '.join([by_origin, by_people, *compared, *pictures])}: {quantity(len(tables), 'window')}"]
 
     options = [*of.options, study.results.unit, [question.label for question in study.questions]]
-    sums = [whole.inputs.outputs_of(stage) for stage in ("counted", "people", "grid")]
-    facts: dict[str, Any] = {**whole.depends, "words": options, "windows": whole.windows, "sums": sums}
+    sums = [results.inputs.outputs_of(stage) for stage in ("counted", "people", "grid")]
+    facts: dict[str, Any] = {**results.depends, "words": options, "windows": results.windows, "sums": sums}
     return Stage(f"windows_{of.kind}", facts, [by_origin, by_people, *compared, *pictures], make)
 
 
-def lines_of(whole: StudyMatrix, of: Measurement, tables: dict[DayWindow, AccessTable]) -> Iterator[list[object]]:
+def lines_of(results: StudyMatrix, of: Measurement, tables: dict[DayWindow, AccessTable]) -> Iterator[list[object]]:
     """The lines of the table by origin, window by window; each window's numbers are kept for the table by people."""
-    for question in whole.study.questions:
-        path = path_of(whole, question)
-        matrix, _ = whole.open(path)
-        counts = whole.counts(matrix)
+    for question in results.study.questions:
+        path = path_of(results, question)
+        matrix, _ = results.open(path)
+        counts = results.counts(matrix)
         found = of.of(matrix, counts)
         tables[question] = table_of(path, found, counts, of)
         texts = [decimal(limit) for limit in of.limits]
@@ -104,63 +104,63 @@ def table_of(path: str, found: Sequence[Measured], counts: Counts, of: Measureme
     return AccessTable(path, [of.scenario for of in found], kinds, found[0].origins, numbers, of.heads == NEAREST)
 
 
-def people_of(whole: StudyMatrix, origins: Sequence[str]) -> Counts:
+def people_of(results: StudyMatrix, origins: Sequence[str]) -> Counts:
     """Who lives at the origins; where no people are named, one at each."""
-    if "people" in whole.inputs.records:
-        return read_counts([whole.at(PEOPLE)], origins, "origin of the study")
+    if "people" in results.inputs.records:
+        return read_counts([results.at(PEOPLE)], origins, "origin of the study")
     return Counts([EACH], np.ones((len(origins), 1)))
 
 
 def with_people(
-    whole: StudyMatrix, tables: dict[DayWindow, AccessTable]
+    results: StudyMatrix, tables: dict[DayWindow, AccessTable]
 ) -> tuple[dict[DayWindow, AccessTable], Counts]:
     """Adds the people outside all cells to the tables, if the study counts them; and returns all its people."""
-    people = people_of(whole, next(iter(tables.values())).origins)
-    found = {question: with_outside(whole.study, table, people) for question, table in tables.items()}
+    people = people_of(results, next(iter(tables.values())).origins)
+    found = {question: with_outside(results.study, table, people) for question, table in tables.items()}
     return {question: table for question, (table, _) in found.items()}, next(iter(found.values()))[1]
 
 
-def write_spread(out: BinaryIO, tables: dict[DayWindow, AccessTable], whole: StudyMatrix) -> None:
+def write_spread(out: BinaryIO, tables: dict[DayWindow, AccessTable], results: StudyMatrix) -> None:
     """How what is measured is spread over people, window by window."""
     lines, header = list[list[object]](), list[str]()
-    wide, people = with_people(whole, tables)
+    wide, people = with_people(results, tables)
     for question, table in wide.items():
-        options = equity.EquityOptions(whole.inputs.base, LOSE, table.kinds)
+        options = equity.EquityOptions(results.inputs.base, LOSE, table.kinds)
         header, *rows = equity.rows_of(equity.measured(table, people, options))
         lines += [[*question.head, *row] for row in rows]
     write_rows(out, [*HEADS, *header], lines)
 
 
-def kinds_drawn(whole: StudyMatrix) -> list[AccessKind]:
+def kinds_drawn(results: StudyMatrix) -> list[AccessKind]:
     """What is drawn of each thing that is counted."""
-    cutoffs = [decimal(cutoff) for cutoff in whole.study.cutoffs]
-    share = next(iter(whole.whole().shares))
-    percentile = "" if share is None else str(whole.study.share)
+    cutoffs = [decimal(cutoff) for cutoff in results.study.cutoffs]
+    share = next(iter(results.matrix().shares))
+    percentile = "" if share is None else str(results.study.share)
     return [
-        whole.kind_drawn([AccessKind(name, percentile, cutoff) for cutoff in cutoffs], name)
-        for name in pictures_of(whole)
+        results.kind_drawn([AccessKind(name, percentile, cutoff) for cutoff in cutoffs], name)
+        for name in pictures_of(results)
     ]
 
 
-def pictures_of(whole: StudyMatrix) -> dict[str, list[str]]:
+def pictures_of(results: StudyMatrix) -> dict[str, list[str]]:
     """The pictures of each thing that is counted: by time, the heat map, and the maps."""
-    names = columns_of(whole.at(COUNTED)) if "counted" in whole.inputs.records else [STOPS]
+    names = columns_of(results.at(COUNTED)) if "counted" in results.inputs.records else [STOPS]
     called = file_names(names, [f"_{kind}" for kind in KINDS])
     return {name: [f"{PICTURES}/{file}_{kind}.png" for kind in KINDS] for name, file in called.items()}
 
 
-def draw_all(whole: StudyMatrix, tables: dict[DayWindow, AccessTable]) -> None:
+def draw_all(results: StudyMatrix, tables: dict[DayWindow, AccessTable]) -> None:
     """Draws the pictures of each thing that is counted."""
     first = next(iter(tables.values()))
-    wide, people = with_people(whole, tables)
-    places, base = POINTS if whole.study.points.all else STOPS, first.scenario(whole.inputs.base)
-    _, stops = whole.open()
-    with atomic_folder(whole.at(PICTURES)) as folder:
-        for name, paths in pictures_of(whole).items():
-            kind = whole.kind_drawn(first.kinds, name)
+    wide, people = with_people(results, tables)
+    places, base = POINTS if results.study.points.all else STOPS, first.scenario(results.inputs.base)
+    _, stops = results.open()
+    with atomic_folder(results.at(PICTURES)) as folder:
+        for name, paths in pictures_of(results).items():
+            kind = results.kind_drawn(first.kinds, name)
             number = first.kinds.index(kind)
             columns, of_people = (columns_drawn(own, number) for own in (tables, wide))
-            scenario = whole.inputs.base if len(first.scenarios) > 1 else ""
+            scenario = results.inputs.base if len(first.scenarios) > 1 else ""
             labels = FigureLabels(kind.label, display_text(name), places, display_text(scenario))
             figures = [
                 figure_by_time(of_people, first.scenarios, people, labels),
@@ -176,37 +176,37 @@ def columns_drawn(tables: dict[DayWindow, AccessTable], kind: int) -> list[Windo
     return [WindowColumn(*question.head, table.numbers[:, kind]) for question, table in tables.items()]
 
 
-def write_changes_by_window(document: Document, whole: StudyMatrix, records: Records, scenario: str) -> None:
+def write_changes_by_window(document: Document, results: StudyMatrix, records: Records, scenario: str) -> None:
     """Who loses and who gains access in each window, before what the report says of the first window alone."""
-    questions = whole.study.questions
+    questions = results.study.questions
     if not questions:
         return
     if "windows_access" in records and CHANGES in records["windows_access"].outputs:
-        for kind in kinds_drawn(whole):
+        for kind in kinds_drawn(results):
             caption = f"{kind.label}: how many origins lose and gain, and the mean change, in each window ({CHANGES})"
             wanted = [scenario, *fields_of(kind)]
-            lines = list(lines_reported(whole.at(CHANGES), wanted, CHANGE_COLUMNS))
+            lines = list(lines_reported(results.at(CHANGES), wanted, CHANGE_COLUMNS))
             document.table(caption, [name.replace("_", " ") for name in CHANGE_COLUMNS], lines)
     document.paragraph(f"In the first window, {questions[0].label}:")
 
 
-def write_windows(document: Document, whole: StudyMatrix, records: Records) -> None:
+def write_windows(document: Document, results: StudyMatrix, records: Records) -> None:
     """The windows with their matrices, access in each of them, and pictures."""
-    questions = whole.study.questions
+    questions = results.study.questions
     if not questions:
         return
     document.heading("By time of day", 3)
-    rows = [[*question.head, display_text(path_of(whole, question))] for question in questions]
+    rows = [[*question.head, display_text(path_of(results, question))] for question in questions]
     document.table("Windows, each with its matrix", ["Day", "Window", "From", "To", "Matrix"], rows)
     document.paragraph(f"Comparisons, maps and the page are those of the first: {questions[0].label}.")
     if "windows_access" not in records:
         return
-    for kind in kinds_drawn(whole):
+    for kind in kinds_drawn(results):
         caption = f"{kind.label}: mean of the people, and of the tenth that has the least ({EQUITY} has all)"
-        lines = list(lines_reported(whole.at(EQUITY), fields_of(kind), COLUMNS))
+        lines = list(lines_reported(results.at(EQUITY), fields_of(kind), COLUMNS))
         document.table(caption, [name.replace("_", " ") for name in COLUMNS], lines)
     if PICTURES in {path.rpartition("/")[0] for path in records["windows_access"].outputs}:
-        for name, paths in pictures_of(whole).items():
+        for name, paths in pictures_of(results).items():
             for path, what in zip(paths, KINDS.values()):
                 document.picture(path, f"{display_text(name)}: {what}")
 

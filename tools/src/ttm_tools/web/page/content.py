@@ -36,7 +36,7 @@ class PageOptions:
 
 
 @dataclass(frozen=True)
-class Ground:
+class PagePlaces:
     """The places of a page, and what of the matrix stands for them."""
 
     places: Stops
@@ -60,7 +60,7 @@ class PageMeasure:
 
 @dataclass(frozen=True)
 class Content:
-    ground: Ground
+    ground: PagePlaces
     counts: Counts  # by place
     people: int  # the number of last columns of counts that are people
     hidden: list[str]  # what is counted, and lies in part at stops that aren't shown
@@ -80,7 +80,7 @@ def origins_of(matrix: Matrix, options: PageOptions) -> list[str]:
     return first
 
 
-def ground_of(matrix: Matrix, stops: Stops, options: PageOptions) -> Ground:
+def ground_of(matrix: Matrix, stops: Stops, options: PageOptions) -> PagePlaces:
     """The places in their order, and the rows that there is room for."""
     origins = origins_of(matrix, options)
     places, among = in_order(stops.of(list(dict.fromkeys([*matrix.stops, *origins])))), set(origins)
@@ -94,7 +94,7 @@ def ground_of(matrix: Matrix, stops: Stops, options: PageOptions) -> Ground:
     if options.origins is None and len(rows) > room:
         drawn = np.random.default_rng(options.settings.seed).choice(len(rows), room, replace=False)
         rows = [rows[place] for place in np.sort(drawn).tolist()]
-    return Ground(places, columns, starts, rows)
+    return PagePlaces(places, columns, starts, rows)
 
 
 def counts_of(known: Sequence[str], options: PageOptions) -> tuple[Counts, int]:
@@ -143,7 +143,7 @@ class Reading:
     """How a matrix is read for a page."""
 
     whole: Matrix
-    ground: Ground
+    ground: PagePlaces
     numbers: Floats  # a row for each column of the whole matrix, a column for each thing that is counted
     sought: Floats  # the same, a column for each thing of which the nearest are looked for
     options: PageOptions

@@ -13,7 +13,7 @@ from ...matrices import Matrix, Share
 from ...places.selection import points_in, select_points
 from ...streets.walks import Pace
 from . import sources
-from .content import Content, Ground, MOST_CELLS, PageOptions, content_of, origins_of
+from .content import Content, MOST_CELLS, PageOptions, PagePlaces, content_of, origins_of
 from .document import Frame, write_page
 from .lines import Lines, page_lines, scenario_files
 from .settings import PageSettings
@@ -61,7 +61,7 @@ def page_of(matrix: Matrix, settings: PageSettings) -> Page:
     return Page(content, lines, with_streets(frame, content.ground, settings))
 
 
-def with_streets(frame: Frame, ground: Ground, settings: PageSettings) -> Frame:
+def with_streets(frame: Frame, ground: PagePlaces, settings: PageSettings) -> Frame:
     """The same with the streets of the settings; if they are more than a page takes, this is reported."""
     if settings.streets is None:
         return frame
