@@ -20,7 +20,7 @@ def checksums(folder: Path) -> dict[str, str]:
     return {name: digest for digest, name in (line.split("  ") for line in lines)}
 
 
-@pytest.mark.parametrize("folder", LISTED, ids=lambda folder: folder.name)
+@pytest.mark.parametrize("folder", LISTED, ids=["leaflet", "inter"])
 def test_each_file_has_its_checksum_and_the_folder_a_licence(folder: Path) -> None:
     names, words = LISTED[folder]
     assert {path.name for path in folder.iterdir()} == names | {"SHA256SUMS", "LICENSE.txt"}
