@@ -6,8 +6,8 @@
 # usage: packaging/build.sh [--out FOLDER] [PROGRAM]
 #   FOLDER   where they are written; packaging/out by default
 #   PROGRAM  a proved build: crates/ttm/out/ttm by default, which `rt run` proves and builds if it does not exist
-# Needs the packages that debian/control lists as Build-Depends, dpkg-dev, libjs-leaflet, and git (or SOURCE_DATE_EPOCH
-# in the environment if there is no clone).
+# Needs the packages that debian/control lists as Build-Depends, dpkg-dev, and git (or SOURCE_DATE_EPOCH in the
+# environment if there is no clone).
 set -eu
 umask 022
 here=$(cd "$(dirname "$0")/.." && pwd)
@@ -75,10 +75,7 @@ tar -C "$room/tar" --sort=name --mtime="@$SOURCE_DATE_EPOCH" --owner=0 --group=0
     --transform "s,^usr,ttm-$version," -cf "$tarred" usr
 gzip -9n "$tarred"
 
-# The wheel, which has the documentation, and Leaflet with its licence, too.
-mkdir "$data/leaflet"
-cp /usr/share/javascript/leaflet/leaflet.min.js /usr/share/javascript/leaflet/leaflet.css "$data/leaflet"
-cp tools/src/ttm_tools/web/page/assets/leaflet_licence.txt "$data/leaflet/LICENSE"
+# The wheel, which has the documentation, too.
 cp engine/PROVED "$data"
 cp -r _build/html "$data/html"
 rm -rf tools/build tools/.pybuild tools/src/*.egg-info

@@ -271,10 +271,10 @@ def test_wheel_is_installed_by_pip(of: Packages) -> None:
     assert (data / "PROVED").read_text() == of.share("doc/ttm/PROVED")
     assert of.output(venv / "bin/ttm-tools", "docs", "--path") == f"{data}/html/docs/README.html\n"
     page = of.output(venv / "bin/ttm-tools", "page", "--help", COLUMNS="1000")
-    assert f"default {data}/leaflet" in page
-    for name in ("leaflet.min.js", "leaflet.css"):
-        assert (data / "leaflet" / name).read_bytes() == Path("/usr/share/javascript/leaflet", name).read_bytes()
-    assert "Redistribution and use in source and binary forms" in (data / "leaflet/LICENSE").read_text()
+    leaflet = data.parent / "web/assets/leaflet"
+    assert f"default {leaflet}" in page
+    of.output("sh", "-c", f"cd {leaflet} && sha256sum --check --strict SHA256SUMS")
+    assert "Redistribution and use in source and binary forms" in (leaflet / "LICENSE.txt").read_text()
     found = "import ttm_tools.engine.arguments as it; print(it.program_at(None))"
     assert of.output(venv / "bin/python", "-c", found) == f"{venv}/bin/ttm\n"
 

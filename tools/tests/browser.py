@@ -8,15 +8,14 @@ import pytest
 
 WAIT = 120  # seconds for a page to show what it was asked for, on a machine with other work
 STARTS = 5  # of the driver: the port that it was given may be another's by the time that it asks for it
-LEAFLET = Path("/usr/share/javascript/leaflet/leaflet.min.js")
 
 
 def lacking() -> str | None:
-    """What a page and a browser need and this machine hasn't."""
+    """The program that this machine lacks for a browser."""
     for name in ("chromium", "chromedriver"):
         if shutil.which(name) is None:
             return f"without {name}"
-    return None if LEAFLET.is_file() else "without libjs-leaflet"
+    return None
 
 
 def started() -> Any:

@@ -10,7 +10,7 @@ from typing import Iterator
 import numpy as np
 import pytest
 
-from browser import LEAFLET, Browser
+from browser import Browser
 from helpers import TOWN, Table, Town, read, town_matrix
 
 pytest.importorskip("jinja2")
@@ -384,8 +384,6 @@ def test_the_town_as_the_program_computes_it(town: Town, browser: Browser, progr
 
 def test_bad_input_is_told_in_one_line(town: Town) -> None:
     town.matrix(town_matrix(True))
-    if not LEAFLET.is_file():
-        pytest.skip("without libjs-leaflet")
 
     def refused(message: str, *arguments: str) -> None:
         town.refused(message, "page", "--feed", town.feed, "--out", town.path("page.html"), *arguments, town.file)
@@ -409,8 +407,6 @@ def test_bad_input_is_told_in_one_line(town: Town) -> None:
 
 
 def test_the_same_words_give_the_same_bytes_and_a_fault_leaves_nothing(town: Town) -> None:
-    if not LEAFLET.is_file():
-        pytest.skip("without libjs-leaflet")
     town.matrix(town_matrix(False))
     first, second = (page(town, *jobs(town), name=name).read_bytes() for name in ("one.html", "two.html"))
     assert first == second

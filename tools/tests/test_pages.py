@@ -10,7 +10,6 @@ from typing import Any
 
 import pytest
 
-from browser import LEAFLET
 from helpers import Room
 
 ROOT = Path(__file__).resolve().parents[2]
@@ -53,8 +52,6 @@ def make_town(room: Room, program: str) -> None:
 def needs_maps_and_page() -> None:
     for package in ("matplotlib", "pandas", "jinja2"):
         pytest.importorskip(package)
-    if not LEAFLET.is_file():
-        pytest.skip("without libjs-leaflet")
 
 
 def environment_of(room: Room) -> dict[str, str]:
@@ -118,8 +115,6 @@ def test_travel_times_from_door_to_door_are_as_the_page_says(room: Room, program
 def test_a_study_runs_in_one_command_as_the_page_says(room: Room, program: str) -> None:
     for package in ("matplotlib", "pandas", "h5py", "jinja2"):
         pytest.importorskip(package)
-    if not LEAFLET.is_file():
-        pytest.skip("without libjs-leaflet")
     make_town(room, program)
     for name in ("howto/plans", "howto/study"):
         pages.write_files(text_of(name), room.folder)

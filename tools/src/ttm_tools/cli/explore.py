@@ -27,8 +27,8 @@ has copies of them.
 
 `ttm` keeps the network in memory and answers the page. The page sends requests to nobody else, and only this machine
 can send requests to it: the address has a token that changes with each start. Ctrl-C ends it. Only --out is written to.
-Needs flask, jinja2, pandas and Leaflet (in the wheel, or Debian's libjs-leaflet). Memory: that of a run of ttm, 100 MB,
-and 35 bytes for each stop time, journeys and changes included. While a changed network starts, `ttm` takes its memory
+Needs flask, jinja2 and pandas, with Debian's package also libjs-leaflet. Memory: that of a run of ttm, 100 MB, and 35
+bytes for each stop time, journeys and changes included. While a changed network starts, `ttm` takes its memory
 twice."""
 
 

@@ -24,9 +24,9 @@ from all. If the feed has points, only these are shown: as squares if their file
 --edits draws what a scenario's file removes from the base, and adds to it if the base has a file, too; for a feed of
 ttm-tools scenarios, its own files are the default.
 
-Needs jinja2, pandas, with --streets scipy and osmium, and Leaflet (in the wheel, or Debian's libjs-leaflet), which is
-written into the page with its licence. The same arguments and files give the same bytes. Memory: some 200 MB, a byte
-for each cell of the page, and 110 bytes for each stop time of the feed."""
+Needs jinja2, pandas, and with --streets scipy and osmium. Leaflet comes with the tools, or with libjs-leaflet if they
+are Debian's; the page contains it with its licence. The same arguments and files give the same bytes. Memory: some 200
+MB, a byte for each cell of the page, and 110 bytes for each stop time of the feed."""
 
 OPTION_NAMES = {"scenarios": "scenario", "arguments": "words"}  # of fields, where they differ
 

@@ -31,7 +31,7 @@ from .streets import ASIDE, PageStreets
 
 ASSETS = Path(__file__).resolve().parent / "assets"
 STYLES = ("page.css",)
-LICENCES = (ASSETS / "leaflet_licence.txt", FONT / "LICENSE.txt")
+LICENCES = (MODULES / "leaflet" / "LICENSE.txt", FONT / "LICENSE.txt")
 
 
 @dataclass(frozen=True)
