@@ -1,0 +1,12 @@
+pub mod Itineraries
+pub mod MirroredParts
+pub mod JourneysAsItineraries
+pub mod ItinerariesReversed
+pub mod MirroredTwice
+pub mod JourneysReversed
+pub mod ReversedFootpaths
+pub mod ReversedPairs
+pub mod MirroredFeet
+pub mod MirroredNetworks
+pub mod FootpathsInTurn
+pub mod NothingRefused
