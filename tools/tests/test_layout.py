@@ -11,10 +11,11 @@ from typing import Iterator
 
 SOURCES = Path(__file__).resolve().parents[1] / "src"
 ROOT = "ttm_tools"
-LAYERS = ("core", "gtfs", "streets", "prepare", "plans", "engine", "matrices", "measures", "places", "journeys")
+LAYERS = ("core", "gtfs", "ground", "streets", "prepare", "plans", "engine", "matrices", "measures", "places", "journeys")
 MAY_IMPORT = {  # besides itself
     "core": (),
     "gtfs": ("core",),
+    "ground": ("core", "gtfs"),
     "streets": ("core", "gtfs"),
     "prepare": ("core", "gtfs"),
     "plans": ("core", "gtfs"),

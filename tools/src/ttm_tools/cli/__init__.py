@@ -25,7 +25,7 @@ from .streams import fault_of_output, fill_closed, give_up_output
 
 COMMANDS = (
     "run prepare scenarios walks points split join compare access equity bands service explain map page long omx gis "
-    "isochrones study explore docs"
+    "isochrones ground study explore docs"
 ).split()
 NO_MEMORY, OF_ITS_OWN = 3, 70
 OUTPUTS = ("out", "picture", "page", "faults")  # options that name a file or folder to write

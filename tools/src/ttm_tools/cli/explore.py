@@ -7,6 +7,7 @@ from ..core.folders import scratch
 from ..core.limits import MOST_PORT
 from ..core.shipped import LEAFLET
 from ..core.ranges import Range
+from .backgrounds import add_ground, add_tiles, check_tiles
 from .options import Parser, decimals
 
 if TYPE_CHECKING:
@@ -25,11 +26,11 @@ With --grid the places are cells as well as stops, and walks begin in the middle
 With --streets walks go along streets. Such walks take at most --walk; they are computed at the start, and a saved study
 has copies of them.
 
-`ttm` keeps the network in memory and answers the page. The page sends requests to nobody else, and only this machine
-can send requests to it: the address has a token that changes with each start. Ctrl-C ends it. Only --out is written to.
-Needs flask, jinja2 and pandas, with Debian's package also libjs-leaflet. Memory: that of a run of ttm, 100 MB, and 35
-bytes for each stop time, journeys and changes included. While a changed network starts, `ttm` takes its memory
-twice."""
+`ttm` keeps the network in memory and answers the page. The page sends requests to nobody else; with --tiles it asks the
+host of the tiles, too. Only this machine can send requests to it: the address has a token that changes with each start.
+Ctrl-C ends it. Only --out is written to. Needs flask, jinja2 and pandas, with Debian's package also libjs-leaflet.
+Memory: that of a run of ttm, 100 MB, and 35 bytes for each stop time, journeys and changes included. While a changed
+network starts, `ttm` takes its memory twice."""
 
 
 def describe(parser: Parser) -> None:
@@ -48,6 +49,8 @@ def describe(parser: Parser) -> None:
     parser.add_text("--plan", "FILE", "a plan whose scenarios are compared with today", without="there is none")
     meaning = "a file with what each stop has, whose columns are counted"
     parser.add_several("--opportunities", "FILE", meaning, without="stops")
+    add_ground(parser)
+    add_tiles(parser)
     parser.add_text("--title", "TEXT", "the title of the page", without="the feed's name")
     parser.add_text("--out", "FOLDER", "where studies are saved", default="explored")
     parser.add_number("--port", "the port of the page; 0 takes a free one", Range("", 0, MOST_PORT), default=0)
@@ -80,6 +83,7 @@ def options_of(args: argparse.Namespace) -> "ExploreOptions":
 
 
 def run(args: argparse.Namespace) -> None:
+    check_tiles(args)
     needs("numpy", "pandas", "jinja2", "flask")
     options = options_of(args)
     from ..web.server import application

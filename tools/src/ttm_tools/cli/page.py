@@ -5,6 +5,7 @@ from ..core.files import output
 from ..core.limits import MOST_NUMBER
 from ..core.shipped import LEAFLET
 from ..core.ranges import Range
+from .backgrounds import add_ground, add_tiles, check_tiles
 from .options import Parser, decimals, opened, scenarios_of
 from .unused import refuse_near_alone
 
@@ -56,9 +57,8 @@ def describe(parser: Parser) -> None:
     parser.add_text("--note", "TEXT", "what else a reader needs to know", without="nothing")
     what = "the arguments of the run of ttm, between quotes, with its date and departures"
     parser.add_text("--words", "TEXT", what, without="the page names neither")
-    what = "the address of a background map, such as https://tiles.example/{z}/{x}/{y}.png"
-    parser.add_text("--tiles", "URL", what, without="none, and the page needs no network")
-    parser.add_text("--attribution", "TEXT", "whom the page names for that map; --tiles needs it", without="nobody")
+    add_ground(parser)
+    add_tiles(parser)
     parser.add_text("--leaflet", "FOLDER", "the folder of Leaflet", default=LEAFLET)
     parser.add_out("the file of the page", "", "page.html")
     parser.add_matrix()
@@ -66,13 +66,10 @@ def describe(parser: Parser) -> None:
 
 def run(args: argparse.Namespace) -> None:
     refuse_near_alone(args)
-    if (args.tiles is None) != (args.attribution is None):
-        raise ArgumentError("--tiles and --attribution go together")
+    check_tiles(args)
     args.nearest = args.nearest or []
     if args.nearest and not args.opportunities:
         raise ArgumentError("--nearest needs --opportunities")
-    if args.tiles is not None and not args.tiles.startswith(("https://", "http://")):
-        raise ArgumentError("--tiles begins with https:// or http://")
     needs("numpy", "pandas", "jinja2", *(["osmium", "scipy"] if args.streets else []))
     from ..web.page.document import leaflet_files
     from ..web.page.make import page_of, tell

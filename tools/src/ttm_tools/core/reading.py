@@ -94,6 +94,13 @@ def read_text(path: str | Path, most: int, what: str) -> str:
         return Path(path).read_text(encoding="utf-8-sig")
 
 
+def read_bytes(path: str | Path, most: int, what: str) -> bytes:
+    """Read a file of at most `most` bytes; `what` names its kind in errors."""
+    sized(path, most, what)
+    with as_one_line(path, f"is not {what}"):
+        return Path(path).read_bytes()
+
+
 def read_toml(path: str | Path) -> tuple[str, dict[str, Any]]:
     """Read a TOML file; returns its text and its contents."""
     text = read_text(path, MOST_TOML, "a TOML file")

@@ -28,6 +28,9 @@ class ExploreOptions:
     grid: float | None = None  # metres, the side of the cells that are made
     back: int = int(DAYS_BEFORE.default)
     ahead: int = int(DAYS_AFTER.default)
+    ground: str | None = None  # a file of `ttm-tools ground`
+    tiles: str | None = None  # the address of a background map
+    attribution: str | None = None  # whom the page names for it
     title: str | None = None
     program: str | None = None
     leaflet: str = LEAFLET

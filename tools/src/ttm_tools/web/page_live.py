@@ -45,7 +45,10 @@ def frame_of(session: ExploreSession) -> page.Frame:
         [("Feed", name), ("Date", options.date.isoformat()), ("Written by", "ttm-tools explore")],
         [],
         MINUTES,
+        tiles=options.tiles,
+        attribution=options.attribution or "",
         leaflet=options.leaflet,
+        ground=exploration.background,
     )
 
 

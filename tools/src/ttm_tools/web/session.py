@@ -18,6 +18,7 @@ from ..plans.plan_file import read_plan
 from ..places.selection import points_in, with_points
 from ..places.read import read_points
 from .page.content import PagePlaces
+from .page.ground import page_ground
 from .page.places import in_order
 from ..streets.walks import Pace
 from ..streets.osm import Streets, read_streets
@@ -50,6 +51,7 @@ class ExploreSession:
         self.first = self.networks.start(FIRST).plan  # what a new page shows
         stops, points = read_stops(self.first.folder), points_in(options.feed)
         self.ground = ground_of(stops if points is None else with_points(stops, read_points(points)))
+        self.background = page_ground(options.ground, self.ground.places)
         self.counts: Counts = read_counts(options.opportunities, self.ground.places.identifiers, "stop of the feed")
 
     @cached_property

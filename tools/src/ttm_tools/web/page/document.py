@@ -24,6 +24,7 @@ from ...views.classes import TABLE
 from ..bundling import MODULES, bundled
 from ..styling import FONT, font_style, token_style
 from .content import Content
+from .ground import PageGround
 from .lines import Lines
 from .parts import Element, blocks_of, part, rows_in_block
 from .places import degrees_of, rings_of
@@ -52,6 +53,7 @@ class Frame:
     attribution: str = ""
     leaflet: str = LEAFLET
     streets: PageStreets | None = None  # along which one walks on
+    ground: PageGround | None = None  # what is drawn below all else
 
 
 def leaflet_files(folder: str) -> tuple[str, str]:
@@ -112,6 +114,7 @@ def head_of(content: Content, lines: Lines, frame: Frame) -> dict[str, Any]:
         "measures": [asdict(measure) for measure in content.measures],
         "meanings": frame.meanings,
         "lines": {"source": lines.source},
+        "ground": {"attribution": frame.ground.attribution} if frame.ground else None,
         "tiles": {"url": frame.tiles, "attribution": frame.attribution} if frame.tiles else None,
     }
 
@@ -141,6 +144,12 @@ class PageKind:
         return [path.read_text(encoding="utf-8") for path in paths]
 
 
+def host_of(tiles: str) -> str:
+    """Returns the only host that tiles come from, as a content policy names it; `{s}` stands for any name below it."""
+    parts = urlsplit(tiles)
+    return f"{parts.scheme}://{parts.netloc.replace('{s}', '*')}"
+
+
 def policy_of(scripts: Sequence[str], styles: Sequence[str], tiles: str | None, connects: bool = False) -> str:
     """What a browser may run and fetch: these scripts and styles, by their checksums, tiles if there are any, and
     what the page's own server answers where it has one.
@@ -150,7 +159,7 @@ def policy_of(scripts: Sequence[str], styles: Sequence[str], tiles: str | None, 
         found = [base64.b64encode(hashlib.sha256(text.encode()).digest()).decode("ascii") for text in texts]
         return " ".join(f"'sha256-{digest}'" for digest in found)
 
-    images = "data:" if tiles is None else f"data: {urlsplit(tiles).scheme}:"
+    images = "data:" if tiles is None else f"data: {host_of(tiles)}"
     rest = ("connect-src 'self'; " if connects else "") + "base-uri 'none'; form-action 'none'"
     return (
         f"default-src 'none'; script-src {sums(scripts)}; style-src {sums(styles)}; font-src data:; img-src {images}; "
@@ -175,7 +184,7 @@ def write_page(out: BinaryIO, content: Content, lines: Lines, frame: Frame, kind
         "licences": [path.read_text(encoding="utf-8") for path in LICENCES],
         "head": as_json(head_of(content, lines, frame)),
         "classes": as_json(TABLE),
-        "parts": itertools.chain(parts_of(content, lines), frame.streets.parts() if frame.streets else ()),
+        "parts": itertools.chain(parts_of(content, lines), *(it.parts() for it in (frame.streets, frame.ground) if it)),
         "people": content.people,
         **kind.known,
     }

@@ -15,6 +15,7 @@ from ...streets.walks import Pace
 from . import sources
 from .content import Content, MOST_CELLS, PageOptions, PagePlaces, content_of, origins_of
 from .document import Frame, write_page
+from .ground import page_ground
 from .lines import Lines, page_lines, scenario_files
 from .settings import PageSettings
 from .streets import MOST_NODES, page_streets
@@ -86,6 +87,7 @@ def frame_of(matrix: Matrix, content: Content, options: PageOptions, settings: P
         "People": settings.people,
         "Scenario": settings.edits,
         "Streets": [settings.streets] if settings.streets else [],
+        "Ground": [settings.ground] if settings.ground else [],
     }
     return Frame(
         settings.title or f"Travel times and access: {name}",
@@ -101,6 +103,7 @@ def frame_of(matrix: Matrix, content: Content, options: PageOptions, settings: P
         settings.tiles,
         settings.attribution or "",
         settings.leaflet,
+        ground=page_ground(settings.ground, content.ground.places),
     )
 
 

@@ -27,6 +27,7 @@ class PageSettings:
     title: str | None
     note: str | None
     arguments: str | None
+    ground: str | None = None  # a file of `ttm-tools ground`
     tiles: str | None = None
     attribution: str | None = None
     leaflet: str = LEAFLET

@@ -38,7 +38,7 @@ const routes = {
       this.all = all;
       if (running !== null) {
         numbers.running = Int32Array.from(running);
-        map.ground.draw();
+        map.lower.draw();
       }
       fill("route", made("option", "choose one", { value: -1 }), ...optionsOf(all.map((route) => route.name)));
     }).catch(tellFault);

@@ -20,10 +20,9 @@ export const sliders = {
   begin(map) {
     this.page = map;
     const areas = new ReachedAreas(map, () => (point.isChosen() ? point.place : -1));
-    map.under.push((pen, view) => {
-      if (this.areas && current.now !== null) {
-        areas.paint(pen, view, current.now, live.walk);
-      }
+    map.areasUnder.push({
+      isOn: () => this.areas && current.now !== null,
+      paint: (pen, view) => areas.paint(pen, view, current.now, live.walk),
     });
     map.map.on("moveend", () => this.tellPicture());
     element("walk").max = asked.most_walk;

@@ -5,7 +5,9 @@ import { CHANGED_LINES } from "../core/constants.js";
 import { table } from "../core/table.js";
 import { Areas } from "./areas.js";
 import { Drawing } from "./drawing.js";
+import { GroundLayer } from "./ground.js";
 import { LEAST_SQUARE, colourOfCell, paintCell, paintSmall, paintStar, paintWithin, strokeAs } from "./marks.js";
+import { paintNames } from "./names.js";
 import { onWorld } from "./projection.js";
 import { stamps } from "./stamps.js";
 import { head, isPlaced, numbers } from "../page/data.js";
@@ -25,7 +27,9 @@ export class PageMap {
     this.many = 2000; // marks in the picture, from which on they are stamped
     this.hasSquares = this.areas.any || numbers.widths.some((width) => width > 0);
     this.lines = {}; // on the world, and of which numbers
+    this.ground = head.ground === null ? null : new GroundLayer(numbers.ground);
     this.under = []; // what additions paint below the places, and
+    this.areasUnder = []; // areas that additions paint below all of these: each says whether it paints any
     this.over = []; // above them
     this.nowhere = (/** @type {any} */ _event) => {}; // where a click is near no place
     this.shown = { classes: null, marks: [table.marks.unknown], place: -1, scenario: 0 };
@@ -39,7 +43,7 @@ export class PageMap {
       this.addTiles();
     }
     this.fit();
-    this.ground = new Drawing("lines", (pen, view) => this.paintLines(pen, view, "running")).addTo(this.map);
+    this.lower = new Drawing("lines", (pen, view) => this.paintLower(pen, view)).addTo(this.map);
     this.drawing = new Drawing("places", (pen, view) => this.paint(pen, view)).addTo(this.map);
     this.map.on("click", (event) => {
       const place = this.placeAt(event.containerPoint);
@@ -188,15 +192,39 @@ export class PageMap {
     return (sides[place] * 256) / (2 * Math.PI * L.CRS.EPSG3857.R * Math.cos(latitude));
   }
 
+  /** What does not change when a place is chosen. */
+  paintLower(pen, view) {
+    if (this.ground !== null) {
+      this.ground.paintUnder(pen, view);
+      this.paintUpperGround(pen, view);
+    }
+    this.paintLines(pen, view, "running");
+  }
+
+  /** The part of the ground that lies above areas, with its names. */
+  paintUpperGround(pen, view) {
+    this.ground.paintOver(pen, view);
+    const spots = Array.from(this.points, (at, place) => at * view.scale - (place % 2 ? view.y : view.x));
+    paintNames(pen, view, this.ground.names, this.hasSquares ? [] : spots);
+  }
+
   paint(pen, view) {
-    if (this.map.options.finest > 1) {
-      this.paintLines(pen, view, "running"); // on paper browsers may leave out a canvas that lies below another one
+    const areas = this.areasUnder.filter(({ isOn }) => isOn()), hasAreas = areas.length > 0 || this.hasSquares;
+    if (this.ground !== null && hasAreas) {
+      this.paintWithAreas(pen, view, areas);
+    } else {
+      if (this.map.options.finest > 1) {
+        this.paintLower(pen, view); // on paper browsers may leave out a canvas that lies below another one
+      }
+      areas.forEach((area) => area.paint(pen, view));
     }
     this.under.forEach((paint) => paint(pen, view));
     if (!this.hasSquares) {
       this.paintChanges(pen, view);
     }
-    this.paintPlaces(pen, view);
+    if (this.ground === null || !this.hasSquares) {
+      this.paintPlaces(pen, view);
+    }
     if (this.hasSquares) {
       this.paintChanges(pen, view);
     }
@@ -204,6 +232,22 @@ export class PageMap {
     if (this.shown.place >= 0 && isPlaced(this.shown.place)) {
       paintStar(pen, ...this.at(this.shown.place, view));
     }
+  }
+
+  /** The ground with areas and cells on it, which streets show through and which end at water and parks. */
+  paintWithAreas(pen, view, areas) {
+    pen.fillStyle = table.tokens.land;
+    pen.fillRect(0, 0, view.width, view.height);
+    this.ground.paintUnder(pen, view);
+    pen.globalCompositeOperation = "multiply";
+    areas.forEach((area) => area.paint(pen, view));
+    if (this.hasSquares) {
+      this.paintPlaces(pen, view);
+    }
+    pen.globalCompositeOperation = "source-over";
+    this.ground.paintEdges(pen, view);
+    this.paintUpperGround(pen, view);
+    this.paintLines(pen, view, "running");
   }
 
   paintChanges(pen, view) {

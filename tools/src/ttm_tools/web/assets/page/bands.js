@@ -15,10 +15,9 @@ export const bands = {
     const areas = head.streets === null ? new ReachedAreas(map) : new ReachedStreets(map);
     this.areas = areas;
     const isCell = (place) => numbers.widths[place] > 0 || map.areas.has(place);
-    map.under.push((pen, view) => {
-      if (this.on && state.view === "times" && current.now !== null) {
-        areas.paint(pen, view, current.now, head.walk);
-      }
+    map.areasUnder.push({
+      isOn: () => this.on && state.view === "times" && current.now !== null,
+      paint: (pen, view) => areas.paint(pen, view, current.now, head.walk),
     });
     element("areas-field").hidden = Array.from(numbers.columns).every(isCell); // their colours are the areas
     element("areas").addEventListener("change", () => {

@@ -35,6 +35,9 @@ export async function readNumbers() {
       kinds[`access-${scenario}-${share}`] = Float64Array;
     }
   }
+  if (head.ground !== null) {
+    numbers.ground = await inflated("ground");
+  }
   await Promise.all(Object.entries(kinds).map(async ([name, Kind]) => {
     numbers[name] = new Kind(await inflated(name));
   }));

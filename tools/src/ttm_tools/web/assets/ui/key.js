@@ -52,5 +52,6 @@ export function showLinesKey(scenario) {
   const changes = CHANGED_LINES.filter((name) => scenario > 0 && numbers[`${name}-${scenario}`].length);
   const lines = ["running", ...changes].map((name) =>
     made("li", [lineSwatch(table.lines[name]), made("span", table.lines[name].label)]));
-  fill("lines-key", ...lines, made("li", head.lines.source, { class: "source" }));
+  const sources = [head.lines.source, ...(head.ground === null ? [] : [head.ground.attribution])];
+  fill("lines-key", ...lines, made("li", sources.join(" "), { class: "source" }));
 }
