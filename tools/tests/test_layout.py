@@ -11,7 +11,19 @@ from typing import Iterator
 
 SOURCES = Path(__file__).resolve().parents[1] / "src"
 ROOT = "ttm_tools"
-LAYERS = ("core", "gtfs", "ground", "streets", "prepare", "plans", "engine", "matrices", "measures", "places", "journeys")
+LAYERS = (
+    "core",
+    "gtfs",
+    "ground",
+    "streets",
+    "prepare",
+    "plans",
+    "engine",
+    "matrices",
+    "measures",
+    "places",
+    "journeys",
+)
 MAY_IMPORT = {  # besides itself
     "core": (),
     "gtfs": ("core",),

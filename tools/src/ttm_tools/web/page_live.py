@@ -48,7 +48,7 @@ def frame_of(session: ExploreSession) -> page.Frame:
         tiles=options.tiles,
         attribution=options.attribution or "",
         leaflet=options.leaflet,
-        ground=exploration.background,
+        ground=session.background,
     )
 
 
