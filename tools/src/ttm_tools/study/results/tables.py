@@ -113,14 +113,14 @@ class Measurement:
 
     def of(self, matrix: Matrix, counts: Counts) -> list[Measured]:
         """The numbers of all scenarios."""
-        measure = functools.partial(self.measure, matrix, numbers=counts.numbers)
+        measure = functools.partial(matrix.measure, function=functools.partial(self.measure, numbers=counts.numbers))
         return [measured(matrix, scenario, matrix.shares, measure) for scenario in matrix.scenarios]
 
 
 def measurements_of(study: Study) -> list[Measurement]:
     settings, cutoffs, limits = study.results, study.cutoffs, study.results.nearest
     decay = Decay(settings.decay, settings.decay_value)
-    of_access = functools.partial(access, decay=decay, cutoffs=cutoffs)
+    of_access = functools.partial(access, weighting=decay, cutoffs=cutoffs)
     of_nearest = functools.partial(nearest, counts=limits)
     options = [decay.kind, decay.value, list(cutoffs)]
     kinds = [Measurement("access", ACCESS, cutoffs, options, of_access)] if settings.access else []
@@ -234,7 +234,7 @@ def compare_stage(results: StudyMatrix, scenario: str, name: str) -> Stage:
         matrix, stops = results.open()
         pair = pair_of(matrix, results.inputs.base, scenario, study.share)
         place = matrix.limit(study.within)[0]
-        comparison = compare(pair, settings.differs, with_pairs=settings.pairs)
+        comparison = compare(pair.blocks(), settings.differs, with_pairs=settings.pairs)
         with output(results.at(by_origin)) as file:
             write_origins(file, pair, place, comparison, stops)
         if settings.pairs:
