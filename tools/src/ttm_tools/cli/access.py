@@ -64,7 +64,7 @@ def describe(parser: Parser) -> None:
 def run(args: argparse.Namespace) -> None:
     refuse_together(args)
     needs("numpy")
-    from ..measures.opportunities import read_counts
+    from ..api.count_files import read_counts
     from ..places.selection import select_points
     from ..views.access import ACCESS, Form, NEAREST, measured, write_access
 

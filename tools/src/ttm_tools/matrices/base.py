@@ -3,7 +3,7 @@
 from abc import ABC, abstractmethod
 from dataclasses import dataclass
 from functools import cached_property
-from typing import Callable, Collection, Iterator, Sequence
+from typing import Callable, Iterator, Sequence
 
 import numpy as np
 
@@ -11,13 +11,12 @@ from ..core.arrays import Floats, Places, Seconds, Sums
 from ..core.errors import InputError
 from ..core.progress import track
 from ..core.scenarios import BASE, TODAY, base_of
-from ..core.text import display_text, first_few, quantity
+from ..core.text import display_text, first_few, quantity, sentences_on_lacking
 from ..core.toml_values import near, nearest_name
 from .layout import MatrixLayout
 
 CELLS_AT_ONCE = 2_000_000
 Share = int | None  # percent; None where the matrix names none
-LEFT_OUT = ", and are left out"
 
 
 @dataclass(frozen=True)
@@ -262,20 +261,3 @@ def lacking(one: tuple[str, Sequence[str]], other: tuple[str, Sequence[str]]) ->
     (name, origins), (another, others) = one, other
     kept = {*origins} & {*others}
     return "; ".join(sentences_on_lacking((display_text(name), origins), (display_text(another), others), kept)) or None
-
-
-def sentences_on_lacking(
-    one: tuple[str, Sequence[str]],
-    other: tuple[str, Sequence[str]],
-    kept: Collection[str],
-    what: str = "origins",
-    more: str = "",
-) -> list[str]:
-    """Which names of one aren't among those that are kept of both, and which of the other."""
-    sentences = []
-    for (name, names), (another, _) in ((one, other), (other, one)):
-        lost = [display_text(item) for item in names if item not in kept]
-        if lost:
-            count = f"{len(lost):,} of {len(names):,} {what} of {name}"
-            sentences.append(f"{count} aren't in {another}{more}: {first_few(lost)}")
-    return sentences

@@ -9,8 +9,8 @@ import numpy as np
 
 from ..core.arrays import Places, Seconds, Sums
 from ..core.errors import InputError
-from ..core.text import display_text
-from .base import LEFT_OUT, Matrix, Share, sentences_on_lacking
+from ..core.text import LEFT_OUT, display_text, sentences_on_lacking
+from .base import Matrix, Share
 from .origin import describe_origin
 
 

@@ -6,6 +6,8 @@ from typing import Any, Callable, Sequence
 
 import numpy as np
 
+from ...api.access_files import read_access
+from ...api.count_files import columns_of, read_counts
 from ...core.arrays import Floats
 from ...core.filenames import file_names
 from ...core.files import atomic_folder, output
@@ -13,9 +15,9 @@ from ...core.text import display_text
 from ...gtfs.stops import Stops
 from ...matrices import Matrix, capped, open_matrix, pair_of
 from ...measures.access import Decay, access, nearest
-from ...measures.access_table import AccessKind, AccessTable, read_access
+from ...measures.access_table import AccessKind, AccessTable
 from ...measures.comparison import compare
-from ...measures.opportunities import Counts, columns_of, read_counts
+from ...measures.opportunities import Counts
 from ...places.selection import select_points
 from ...views import bands, equity, tables
 from ...views.access import ACCESS, Form, Measured, NEAREST, decimal, measured, write_access

@@ -7,13 +7,14 @@ from typing import Any, Sequence
 import numpy as np
 import numpy.typing as npt
 
+from ...api.count_files import read_counts
 from ...core.arrays import Floats
 from ...core.errors import InputError
 from ...core.text import display_text
 from ...gtfs.stops import Stops
 from ...matrices import Matrix, Share, lacking
 from ...measures.access import Decay, STEP, nearest
-from ...measures.opportunities import Counts, read_counts
+from ...measures.opportunities import Counts
 from .parts import Bytes, minutes_of
 from .places import in_order
 from .settings import PageSettings
