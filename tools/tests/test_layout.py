@@ -55,11 +55,6 @@ EXCEPTIONS = {
     "compat.r5py": ("gtfs", "journeys", "places", "prepare", "streets"),
     "journeys.explain": ("matrices", "plans", "views"),
     "journeys.option_checks": ("matrices", "views"),
-    "measures.access": ("matrices",),
-    "measures.access_table": ("matrices",),
-    "measures.comparison": ("matrices",),
-    "measures.competition": ("matrices",),
-    "measures.service": ("gtfs",),
     "places.selection": ("matrices",),
     "views.lines": ("web",),
     "views.maps": ("web",),
@@ -142,6 +137,12 @@ def test_no_module_imports_a_package_that_it_may_not() -> None:
 def test_each_exception_is_still_needed() -> None:
     needed = {(excepted(name, other), other) for name, other in forbidden()}
     assert {(name, other) for name, others in EXCEPTIONS.items() for other in others} - needed == set()
+
+
+def test_measures_open_no_file() -> None:
+    readers = {"core.files", "core.reading", "core.tables", "core.zips"}
+    measures = {name: others for name, others in imports().items() if package_of(name) == "measures"}
+    assert measures and [name for name, others in measures.items() if others & readers] == []
 
 
 def test_no_modules_import_each_other() -> None:

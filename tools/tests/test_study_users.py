@@ -11,7 +11,7 @@ from helpers import read
 from test_study import NO_MAPS, STUDY, Place, bare, place  # noqa: F401
 from ttm_tools.matrices import open_matrix
 from ttm_tools.measures.access_table import AccessKind, AccessTable
-from ttm_tools.measures.opportunities import read_counts
+from ttm_tools.api.count_files import read_counts
 from ttm_tools.study.checks import check_counts
 from ttm_tools.study.counted import COUNTED, ORIGINS, PEOPLE, counts_stage, people_stage
 from ttm_tools.study.outside import sentence_on_outside, with_outside

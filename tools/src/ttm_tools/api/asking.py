@@ -13,13 +13,13 @@ from ..core.limits import MOST_WORKERS
 from ..core.logs import logger
 from ..core.notes import Note
 from ..core.question import Question, travel_seconds, walk_seconds, walking_speed, window_of
+from ..core.scenarios import BASE, TODAY
 from ..core.settings import Progress, settings
 from ..core.tables import rows, write_rows
 from ..core.text import display_text, first_few, quantity
 from ..core.threads import processors
 from ..engine.network import EngineNetwork, NetworkFiles
 from ..matrices import open_matrix
-from ..matrices.base import BASE, TODAY
 from ..streets.walks import Pace
 from .engines import NetworkState
 from .executors import in_parts

@@ -10,9 +10,9 @@ import pandas
 from ..core.arrays import Floats
 from ..core.errors import InputError
 from ..core.question import not_allowed
+from ..core.scenarios import BASE, TODAY
 from ..core.text import quantity
 from ..core.toml_values import near
-from ..matrices.base import BASE, TODAY
 from ..measures.bands import with_at_least
 from ..measures.comparison import least_change, sides_of
 from ..measures.equity import equity as equity_of

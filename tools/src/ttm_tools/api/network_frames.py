@@ -13,9 +13,9 @@ from shapely.geometry import Polygon
 from ..core.errors import ArgumentError, InputError
 from ..core.notes import Note, warn_of
 from ..core.question import Date, checked_date, not_allowed
+from ..core.scenarios import TODAY
 from ..core.text import quantity
 from ..core.times import day_of
-from ..plans.scenario_files import TODAY
 from ..streets.osm import Streets
 from ..streets.ways import on_streets
 from .engines import NetworkState

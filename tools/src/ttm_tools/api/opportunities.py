@@ -1,23 +1,21 @@
 """Access to opportunities, as frames."""
 
-from collections.abc import Callable, Sequence
+from collections.abc import Callable, Iterator, Sequence
 from typing import Any
 
 import geopandas
 import numpy as np
-import numpy.typing as npt
 import pandas
 
-from ..core.arrays import Floats
+from ..core.arrays import Floats, Seconds
 from ..core.errors import InputError
 from ..core.question import not_allowed
 from ..core.toml_values import near
+from ..measures.access import access, completing
+from ..measures.competition import Market, competition
 from ..measures.registry import COMPETITIONS
 from .chosen import MatrixPart
 from .decay import Decay, weighting_of
-
-LEAST = 1e-100  # a lesser weight counts as none, since a supply divided by it is no number
-SLACK = 1e-6  # by which a sum of decimals may miss a count, at most a trillionth of it
 
 
 def numbers_in(argument: str, frame: geopandas.GeoDataFrame, names: str | Sequence[str]) -> tuple[list[str], Floats]:
@@ -60,6 +58,11 @@ def in_frames(part: MatrixPart, one: Callable[[str, int], geopandas.GeoDataFrame
     return geopandas.GeoDataFrame(pandas.concat(frames, ignore_index=True), crs=part.origins.crs)
 
 
+def seconds_by_block(part: MatrixPart, scenario: str, percentile: int) -> Iterator[Seconds]:
+    """Yield the travel times of all origins, some rows at a time."""
+    return (part.seconds(scenario, percentile, rows) for rows in part.blocks())
+
+
 def access_frame(
     part: MatrixPart, opportunities: str | Sequence[str], minutes: Sequence[float], decay: Decay
 ) -> geopandas.GeoDataFrame:
@@ -68,11 +71,8 @@ def access_frame(
     cutoffs, weighting = checked_minutes(minutes), weighting_of(decay)
 
     def sums(scenario: str, percentile: int) -> geopandas.GeoDataFrame:
-        pieces = []
-        for rows in part.blocks():
-            seconds = part.seconds(scenario, percentile, rows)
-            pieces.append(np.stack([weighting.weights(seconds, cutoff) @ numbers for cutoff in cutoffs], axis=2))
-        found = np.concatenate(pieces)  # origins, columns, cutoffs
+        blocks = seconds_by_block(part, scenario, percentile)
+        found = np.concatenate([access(seconds, numbers, weighting, cutoffs) for seconds in blocks])
         frames = [
             by_origin(
                 part,
@@ -100,37 +100,14 @@ def nearest_frame(part: MatrixPart, opportunity: str | None, count: float) -> ge
     ends = part.destinations["id"]
 
     def times(scenario: str, percentile: int) -> geopandas.GeoDataFrame:
-        pieces = []
-        for rows in part.blocks():
-            seconds = part.seconds(scenario, percentile, rows)
-            pieces.append(completing(seconds, numbers, count))
-        place, found = (np.concatenate(column) for column in zip(*pieces))
+        blocks = seconds_by_block(part, scenario, percentile)
+        pieces = [completing(seconds, numbers[:, None], [count]) for seconds in blocks]
+        place, found = (np.concatenate(column)[:, 0, 0] for column in zip(*pieces))
         to_id = pandas.Series(ends.to_numpy()[np.maximum(place, 0)]).where(place >= 0)
         about = {"scenario": scenario, "percentile": percentile}
         return by_origin(part, about, {"to_id": to_id.to_numpy(), "seconds": found})
 
     return in_frames(part, times)
-
-
-def completing(seconds: npt.NDArray[np.float32], numbers: Floats, count: float) -> tuple[npt.NDArray[np.intp], Floats]:
-    """Return the column at which a count is complete in each row, -1 if it never is, and the seconds to it.
-
-    Of columns with the same travel time the first one comes first.
-    """
-    used = np.flatnonzero(numbers > 0)
-    there = seconds[:, used]
-    order = np.argsort(there, axis=1, kind="stable")  # those that are not reached stand last
-    ordered = np.take_along_axis(there, order, axis=1).astype(np.float64)
-    sums = np.cumsum(numbers[used][order], axis=1)
-    place = (sums < count - min(SLACK, 1e-12 * count)).sum(axis=1)
-    is_complete = place < len(used)
-    at = np.where(is_complete, place, 0)[:, None]
-    if not len(used):
-        return np.full(len(seconds), -1), np.full(len(seconds), np.nan)
-    found = np.take_along_axis(ordered, at, axis=1)[:, 0]
-    column = used[np.take_along_axis(order, at, axis=1)[:, 0]]
-    is_reached = is_complete & ~np.isnan(found)
-    return np.where(is_reached, column, -1), np.where(is_reached, found, np.nan)
 
 
 def competition_frame(
@@ -144,32 +121,14 @@ def competition_frame(
     people = numbers_in("origins", part.origins, demand)[1][:, 0]
     cutoffs, weighting = checked_minutes(minutes), weighting_of(decay)
 
+    market = Market(method, supplied[:, None], people, weighting)
+
     def shares(scenario: str, percentile: int) -> geopandas.GeoDataFrame:
-        seconds = part.seconds(scenario, percentile)
+        found = competition(lambda: seconds_by_block(part, scenario, percentile), market, cutoffs)[:, 0]
         frames = []
-        for cutoff in cutoffs:
-            weights = weighting.weights(seconds, cutoff)
-            weights[weights < LEAST] = 0
-            found = competing(weights, supplied, people, method)
-            about = {"opportunity": [supply] * len(found), "minutes": [cutoff] * len(found), "access": found}
+        for place, cutoff in enumerate(cutoffs):
+            about = {"opportunity": [supply] * len(found), "minutes": [cutoff] * len(found), "access": found[:, place]}
             frames.append(by_origin(part, {"scenario": scenario, "percentile": percentile}, about))
         return pandas.concat(frames, ignore_index=True)
 
     return in_frames(part, shares)
-
-
-def competing(weights: Floats, supply: Floats, people: Floats, method: str) -> Floats:
-    """Return what each origin has of a supply: formulas in docs/reference/measures.md."""
-    weights = np.where(supply > 0, weights, 0.0)
-    if method == "balanced":
-        demand = divided(people, weights.sum(axis=1)) @ weights
-        sums = (people > 0).astype(np.float64) @ weights
-        balanced: Floats = weights @ divided(divided(supply, demand), sums)
-        return balanced
-    found: Floats = weights @ divided(supply, people @ weights)
-    return found * people if method == "availability" else found
-
-
-def divided(numbers: Floats, by: Floats) -> Floats:
-    """Return numbers divided by others, 0 where these are 0."""
-    return np.divide(numbers, by, out=np.zeros(len(numbers)), where=by > 0)

@@ -19,10 +19,9 @@ from ..measures.service import (
     ServiceRuns,
     departures_by_stop,
     headway_stops,
-    running_on,
     service_of,
-    straight_lengths,
 )
+from .service_runs import running_on, straight_lengths
 
 if TYPE_CHECKING:
     import pandas

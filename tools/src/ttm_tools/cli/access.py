@@ -1,4 +1,5 @@
 import argparse
+import functools
 from dataclasses import replace
 from typing import TYPE_CHECKING, Callable
 
@@ -11,6 +12,7 @@ from .unused import refuse_unused
 if TYPE_CHECKING:
     from ..core.arrays import Floats
     from ..matrices import Matrix, Share
+    from ..measures.access import Decay
     from ..measures.opportunities import Counts
 
 SUMMARY = "opportunities within limits, weighted by travel time, and the time to the nearest"
@@ -62,7 +64,7 @@ def describe(parser: Parser) -> None:
 def run(args: argparse.Namespace) -> None:
     refuse_together(args)
     needs("numpy")
-    from ..measures.opportunities import read_counts
+    from ..api.count_files import read_counts
     from ..places.selection import select_points
     from ..views.access import ACCESS, Form, NEAREST, measured, write_access
 
@@ -105,18 +107,33 @@ def refuse_together(args: argparse.Namespace) -> None:
 def measure_of(args: argparse.Namespace, matrix: "Matrix", counts: "Counts") -> "Callable[[str, Share], Floats]":
     """What is measured of a scenario and a share."""
     from ..measures.access import Decay, Interval, access, nearest
+
+    if args.nearest:
+        times = functools.partial(nearest, numbers=counts.numbers, counts=args.nearest)
+        return functools.partial(matrix.measure, function=times)
+    decay = Decay(args.decay, args.decay_value)
+    if args.competition:
+        return shares_of(args, matrix, counts, decay)
+    weighting, cutoffs = (Interval(*map(int, args.interval)), [0.0]) if args.interval else (decay, args.cutoffs)
+    sums = functools.partial(access, numbers=counts.numbers, weighting=weighting, cutoffs=cutoffs)
+    return functools.partial(matrix.measure, function=sums)
+
+
+def shares_of(
+    args: argparse.Namespace, matrix: "Matrix", counts: "Counts", decay: "Decay"
+) -> "Callable[[str, Share], Floats]":
+    """What people have of what they compete for, in a scenario and a share."""
+    import numpy as np
+
     from ..measures.competition import Market, competition
 
-    decay = Decay(args.decay, args.decay_value)
-    if args.nearest:
-        return lambda scenario, share: nearest(matrix, scenario, share, counts.numbers, args.nearest)
-    if args.competition:
-        known = matrix.stops_and_origins()
-        _, people = column_of(args.demand, known, args.demand_column, "choose one with --demand-column")
-        demand = dict(zip(known, people.tolist()))
-        market = Market(args.competition, counts.numbers, demand, decay, args.cutoffs)
-        return lambda scenario, share: competition(matrix, scenario, share, market)
-    if args.interval:
-        interval = Interval(*map(int, args.interval))
-        return lambda scenario, share: access(matrix, scenario, share, counts.numbers, interval, [0])
-    return lambda scenario, share: access(matrix, scenario, share, counts.numbers, decay, args.cutoffs)
+    known = matrix.stops_and_origins()
+    _, people = column_of(args.demand, known, args.demand_column, "choose one with --demand-column")
+    demand = dict(zip(known, people.tolist()))
+
+    def shares(scenario: str, share: "Share") -> "Floats":
+        own = np.array([demand[name] for name in matrix.origins(scenario, share)])
+        market = Market(args.competition, counts.numbers, own, decay)
+        return competition(lambda: (block.seconds for block in matrix.tracked(scenario, share)), market, args.cutoffs)
+
+    return shares

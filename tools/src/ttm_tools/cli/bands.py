@@ -2,8 +2,8 @@ import argparse
 
 from ..core.errors import ArgumentError, needs
 from ..core.files import output
-from ..views.picture_files import write_picture
 from ..core.ranges import Range
+from ..views.picture_files import write_picture
 from .options import Parser, decimals
 
 SUMMARY = "the number of people in bands of access, or of the time to the nearest opportunities"
@@ -36,8 +36,8 @@ def run(args: argparse.Namespace) -> None:
     if args.bands is None:
         raise ArgumentError("--bands is needed, such as 1000,10000")
     needs("numpy", *(["matplotlib"] if args.picture else []))
-    from ..measures.access_table import read_access
-    from ..measures.opportunities import read_counts
+    from ..api.access_files import read_access
+    from ..api.count_files import read_counts
     from ..views.bands import bands_of, figure_of, write_bands
     from ..views.equity import chosen_kinds
 

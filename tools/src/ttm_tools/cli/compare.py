@@ -70,7 +70,7 @@ def run(args: argparse.Namespace) -> None:
     if pair.lacking and not args.partial:
         raise InputError(args.matrix, f"{pair.lacking} (--partial compares the others)")
     choice = OriginChoice(args.sort, args.top, args.listed, args.least)
-    comparison = compare(pair, args.limit, with_pairs=by_pair)
+    comparison = compare(pair.blocks(), args.limit, with_pairs=by_pair)
     with output(args.out) as file:
         if place is None:
             write_pairs(file, pair, comparison.changes, stops, choice)

@@ -4,10 +4,10 @@ from typing import TYPE_CHECKING, Sequence
 from ..core.console import say
 from ..core.errors import ArgumentError, InputError, needs
 from ..core.files import output
+from ..core.ranges import Range
 from ..core.text import first_few, quantity
 from ..measures.registry import FAIRNESS
 from ..views.picture_files import write_picture
-from ..core.ranges import Range
 from .options import Parser, column_of, decimals, is_file_of_base
 from .unused import refuse_unused
 
@@ -69,8 +69,9 @@ def run(args: argparse.Namespace) -> None:
         raise ArgumentError("--picture does not go with --measure")
     needs("numpy", *(["matplotlib"] if args.picture else []))
     from ..matrices.beside import labels_of
-    from ..measures.access_table import beside, read_access, sentences_on_lost
-    from ..measures.opportunities import read_counts
+    from ..api.access_files import read_access
+    from ..measures.access_table import beside, sentences_on_lost
+    from ..api.count_files import read_counts
     from ..views.equity import EquityOptions, chosen_kinds, figure_of, measured, write_equity
 
     table = read_access(args.access)
@@ -97,7 +98,7 @@ def further(args: argparse.Namespace, table: "AccessTable", people: "Counts", ki
     """Writes one of the further measures."""
     from ..core.tables import rows
     from ..core.text import display_text
-    from ..measures.opportunities import identifier_of
+    from ..api.count_files import identifier_of
     from ..views.fairness import FairnessOptions, lines_of, write_fairness
 
     rank = None

@@ -35,7 +35,7 @@ def run(args: argparse.Namespace) -> None:
     if bool(args.opportunities) != bool(args.nearest):
         raise ArgumentError("--opportunities and --nearest go together")
     needs("numpy", *(["geopandas"] if kind == "gpkg" else []))
-    from ..measures.opportunities import read_counts
+    from ..api.count_files import read_counts
     from ..places.selection import select_points
     from ..views.gis import features_of, with_nearest, write_geojson, write_geopackage
 

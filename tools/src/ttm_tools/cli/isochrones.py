@@ -50,7 +50,7 @@ def run(args: argparse.Namespace) -> None:
     kind = "geojson" if args.out == STANDARD_OUTPUT else gis_kind(args.out)
     streets = ["osmium", "scipy"] if args.streets else []
     needs("numpy", "shapely", *(["geopandas"] if kind == "gpkg" else []), *streets)
-    from ..measures.opportunities import read_counts
+    from ..api.count_files import read_counts
     from ..places.selection import select_points
     from ..views import isochrones as areas
 

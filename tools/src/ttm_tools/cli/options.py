@@ -258,7 +258,7 @@ def column_of(
     path: str, stops: Sequence[str], column: str | None, hint: str, kind: str = "stop of the matrix"
 ) -> "tuple[str, Floats]":
     """The numbers of a file for some stops, by the column that is named, or the only one."""
-    from ..measures.opportunities import read_counts
+    from ..api.count_files import read_counts
 
     counts = read_counts([path], stops, kind, [column] if column else [])
     if len(counts.names) > 1:

@@ -101,7 +101,8 @@ def day_of(args: argparse.Namespace) -> "Day":
 
     from ..gtfs.stops import read_stops
     from ..matrices import BASE, TODAY
-    from ..measures.service import periods_of, running_on, straight_lengths
+    from ..api.service_runs import running_on, straight_lengths
+    from ..measures.service import periods_of
     from ..gtfs.timetable import read_edits, read_timetable
     from ..plans.make import files_in_order
     from ..api.service import Day

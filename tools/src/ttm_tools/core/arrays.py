@@ -1,5 +1,7 @@
 """Names for the types of numpy arrays."""
 
+from typing import Any
+
 import numpy as np
 import numpy.typing as npt
 
@@ -7,3 +9,6 @@ Whole = npt.NDArray[np.int64]
 Narrow = npt.NDArray[np.int32]  # for millions of integers
 Floats = npt.NDArray[np.float64]
 Mask = npt.NDArray[np.bool_]
+Places = npt.NDArray[np.intp]  # indices
+Seconds = npt.NDArray[np.float32]  # travel times, NaN where there is none
+Sums = npt.NDArray[Any]  # int64; float64 if the counts have decimals

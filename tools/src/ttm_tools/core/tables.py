@@ -88,6 +88,21 @@ def number_of(text: str) -> float:
     return number if math.isfinite(number) else math.nan
 
 
+def from_zero(path: str | Path, record: int, column: str, text: str) -> float:
+    """Return the number in a field.
+
+    Raises
+    ------
+    InputError
+        It is no number, or below 0.
+    """
+    number = number_of(text.strip())
+    if not number >= 0:
+        allowed = "a number from 0 on"
+        raise InputError(path, "is invalid", record=record, column=column, value=text, allowed=allowed)
+    return number
+
+
 def names_of(path: str | Path) -> list[str]:
     """Return the names of a file's columns, without repetitions and surrounding spaces."""
     _, header = next(records(path), (1, list[str]()))

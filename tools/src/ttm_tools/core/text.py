@@ -7,10 +7,11 @@ would control a terminal, or become markup in Markdown and HTML.
 import html
 import math
 import unicodedata
-from typing import Sequence
+from typing import Collection, Sequence
 
 UNPRINTABLE = {"Cc", "Cf", "Zl", "Zp"}  # Unicode categories: control, format, line and paragraph separators
 MARKUP = "\\`*_[]|~"
+LEFT_OUT = ", and are left out"
 KEEP_E = ("ouses", "auses", "fuses", "muses", "cuses")  # houses, causes, excuses; else campuses, viruses
 
 
@@ -98,3 +99,20 @@ def first_few(names: Sequence[str], most: int = 4) -> str:
     """Return the first names of a list, and how many more there are."""
     more = len(names) - most
     return ", ".join(names[:most]) + (f" and {more:,} more" if more > 0 else "")
+
+
+def sentences_on_lacking(
+    one: tuple[str, Sequence[str]],
+    other: tuple[str, Sequence[str]],
+    kept: Collection[str],
+    what: str = "origins",
+    more: str = "",
+) -> list[str]:
+    """Which names of one aren't among those that are kept of both, and which of the other."""
+    sentences = []
+    for (name, names), (another, _) in ((one, other), (other, one)):
+        lost = [display_text(item) for item in names if item not in kept]
+        if lost:
+            count = f"{len(lost):,} of {len(names):,} {what} of {name}"
+            sentences.append(f"{count} aren't in {another}{more}: {first_few(lost)}")
+    return sentences

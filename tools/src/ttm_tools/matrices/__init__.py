@@ -4,13 +4,14 @@ makes the latter.
 The room is called `matrices`, since `ttm_tools.matrix` is the function that runs `ttm`.
 """
 
+from ..core.arrays import Seconds, Sums
 from ..core.reading import as_one_line, regular
-from .base import BASE, Matrix, Pair, Share, Sums, TODAY, has_all, lacking, pair_of
+from ..core.scenarios import BASE, TODAY
+from .base import Matrix, Pair, Share, has_all, lacking, pair_of
 from .beside import JoinedMatrix
 from .capped import capped
 from .csv_matrix import CsvMatrix
 from .layout import layout_of
-from .lines import Seconds
 from .omx import OpenMatrix, is_open_matrix, write_open_matrix
 
 __all__ = [

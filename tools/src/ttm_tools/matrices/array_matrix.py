@@ -4,9 +4,9 @@ from collections.abc import Mapping, Sequence
 
 import numpy as np
 
-from .base import Matrix, Share, Sums
+from ..core.arrays import Seconds, Sums
+from .base import Matrix, Share
 from .layout import MatrixLayout
-from .lines import Seconds
 
 
 LIMIT = 1_800  # seconds: the default of `ttm`, which counts each stop as 1 unless told otherwise

@@ -3,23 +3,20 @@
 from abc import ABC, abstractmethod
 from dataclasses import dataclass
 from functools import cached_property
-from typing import Any, Collection, Iterator, Sequence
+from typing import Callable, Iterator, Sequence
 
 import numpy as np
-import numpy.typing as npt
 
+from ..core.arrays import Floats, Places, Seconds, Sums
 from ..core.errors import InputError
-from ..core.text import display_text, first_few, quantity
+from ..core.progress import track
+from ..core.scenarios import BASE, TODAY, base_of
+from ..core.text import display_text, first_few, quantity, sentences_on_lacking
 from ..core.toml_values import near, nearest_name
 from .layout import MatrixLayout
-from .lines import Seconds
 
-Sums = npt.NDArray[Any]  # int64; float64 if the counts have decimals
-Places = npt.NDArray[np.intp]
 CELLS_AT_ONCE = 2_000_000
 Share = int | None  # percent; None where the matrix names none
-LEFT_OUT = ", and are left out"
-BASE, TODAY = "base", "today"  # what `ttm` calls the feed as it is, and a plan what it begins from
 
 
 @dataclass(frozen=True)
@@ -77,7 +74,7 @@ class Matrix(ABC):
     @property
     def base(self) -> str:
         """The scenario that others are compared with where none is named: of those of a plan, today."""
-        return self.named_base or (TODAY if TODAY in self.scenarios else BASE)
+        return self.named_base or base_of(self.scenarios)
 
     @property
     def compared(self) -> list[str]:
@@ -103,6 +100,29 @@ class Matrix(ABC):
         for begin in range(0, len(names), step):
             end = min(begin + step, len(names))
             yield Block(names[begin:end], self.rows(scenario, share, begin, end))
+
+    def tracked(self, scenario: str, share: Share) -> Iterator[Block]:
+        """Yields the same blocks, and shows their progress."""
+        count = -(-len(self.origins(scenario, share)) // self.rows_at_once())
+        return track(self.blocks(scenario, share), count, f"{scenario} {share or ''}", "blocks")
+
+    def measure(self, scenario: str, share: Share, function: Callable[[Seconds], Floats]) -> Floats:
+        """Applies a function of the travel times of some origins to all of them, block by block.
+
+        Parameters
+        ----------
+        function
+            Returns an array with an entry for each row that it gets.
+        """
+        found: Floats | None = None
+        begin = 0
+        for block in self.tracked(scenario, share):
+            piece = function(block.seconds)
+            if found is None:
+                found = np.zeros((len(self.origins(scenario, share)), *piece.shape[1:]))
+            found[begin : begin + len(piece)] = piece
+            begin += len(piece)
+        return function(np.zeros((0, len(self.stops)), np.float32)) if found is None else found
 
     def seconds(self, scenario: str, share: Share, origin: str) -> Seconds:
         """The travel times of one origin, which the scenario has."""
@@ -196,13 +216,11 @@ class Pair:
         first, second = (self.matrix.access(name, self.share)[:, place] for name in (self.base, self.other))
         return first[self.before], second[self.after]
 
-    def count_of_blocks(self) -> int:
-        return -(-len(self.origins) // self.matrix.rows_at_once())
-
     def blocks(self) -> Iterator[tuple[int, Seconds, Seconds]]:
         """The travel times of the origins before and after, some at a time, with the place of the first of them."""
         step = self.matrix.rows_at_once()
-        for begin in range(0, len(self.origins), step):
+        begins = range(0, len(self.origins), step)
+        for begin in track(begins, len(begins), "comparing", "blocks"):
             before, after = (places[begin : begin + step] for places in (self.before, self.after))
             first = self.matrix.rows_at(self.base, self.share, before)
             yield begin, first, self.matrix.rows_at(self.other, self.share, after)
@@ -243,20 +261,3 @@ def lacking(one: tuple[str, Sequence[str]], other: tuple[str, Sequence[str]]) ->
     (name, origins), (another, others) = one, other
     kept = {*origins} & {*others}
     return "; ".join(sentences_on_lacking((display_text(name), origins), (display_text(another), others), kept)) or None
-
-
-def sentences_on_lacking(
-    one: tuple[str, Sequence[str]],
-    other: tuple[str, Sequence[str]],
-    kept: Collection[str],
-    what: str = "origins",
-    more: str = "",
-) -> list[str]:
-    """Which names of one aren't among those that are kept of both, and which of the other."""
-    sentences = []
-    for (name, names), (another, _) in ((one, other), (other, one)):
-        lost = [display_text(item) for item in names if item not in kept]
-        if lost:
-            count = f"{len(lost):,} of {len(names):,} {what} of {name}"
-            sentences.append(f"{count} aren't in {another}{more}: {first_few(lost)}")
-    return sentences

@@ -7,10 +7,10 @@ from pathlib import Path
 
 import numpy as np
 
+from ..core.arrays import Places, Seconds, Sums
 from ..core.errors import InputError
-from ..core.text import display_text
-from .base import LEFT_OUT, Matrix, Places, Share, Sums, sentences_on_lacking
-from .lines import Seconds
+from ..core.text import LEFT_OUT, display_text, sentences_on_lacking
+from .base import Matrix, Share
 from .origin import describe_origin
 
 

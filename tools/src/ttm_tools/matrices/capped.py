@@ -4,9 +4,9 @@ from dataclasses import replace
 
 import numpy as np
 
+from ..core.arrays import Places, Seconds, Sums
 from ..core.errors import InputError
-from .base import Matrix, Places, Share, Sums
-from .lines import Seconds
+from .base import Matrix, Share
 
 
 class LimitedMatrix(Matrix):

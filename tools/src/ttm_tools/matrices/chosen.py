@@ -5,8 +5,8 @@ from dataclasses import replace
 
 import numpy as np
 
-from .base import Matrix, Places, Share, Sums
-from .lines import Seconds
+from ..core.arrays import Places, Seconds, Sums
+from .base import Matrix, Share
 
 
 class MatrixSubset(Matrix):

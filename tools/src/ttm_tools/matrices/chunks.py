@@ -7,9 +7,9 @@ from typing import Any
 
 import numpy as np
 
+from ..core.arrays import Seconds
 from ..core.errors import InputError
 from ..core.threads import map_in_order, processors
-from .lines import Seconds
 
 LEVEL = 1  # of the compression: higher ones take up to twice as long for some percent less
 BYTES = 4  # of a cell

@@ -9,15 +9,15 @@ from typing import BinaryIO
 import numpy as np
 
 from ..core import progress
+from ..core.arrays import Seconds, Sums
 from ..core.errors import InputError
 from ..core.limits import MOST_SECONDS
 from ..core.reading import as_one_line, regular
 from ..core.tables import refuse_alike
 from ..core.text import display_text, quantity
-from .base import Matrix, Share, Sums
+from .base import Matrix, Share
 from .layout import MatrixLayout, layout_of
 from .lines import (
-    Seconds,
     content,
     count_of_fields,
     fields_of,

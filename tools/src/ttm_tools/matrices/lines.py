@@ -6,11 +6,11 @@ from typing import BinaryIO, Iterator
 import numpy as np
 import numpy.typing as npt
 
+from ..core.arrays import Seconds
 from ..core.errors import InputError
 from ..core.limits import MOST_SECONDS, MOST_STOPS
 from ..core.reading import csv_records
 
-Seconds = npt.NDArray[np.float32]  # NaN where a stop isn't reached; whole seconds up to MOST_SECONDS are exact
 Bytes = npt.NDArray[np.uint8]
 COMMA, ZERO, QUOTE = ord(","), ord("0"), b'"'
 MOST_DIGITS = 9

@@ -15,14 +15,14 @@ import numpy as np
 import numpy.typing as npt
 
 from ..core import progress
+from ..core.arrays import Seconds, Sums
 from ..core.errors import InputError, needs
 from ..core.files import atomic_path
 from ..core.reading import as_one_line, regular
 from ..core.threads import map_in_order, processors
-from .base import Matrix, Share, Sums, lacking
+from .base import Matrix, Share, lacking
 from .chunks import LEVEL, packed, rows_of
 from .layout import MatrixLayout
-from .lines import Seconds
 from .omx_checks import SHARES, checked_cells, limits_of, refuse_shapes, refuse_twice
 
 SIGNATURE = b"\x89HDF\r\n\x1a\n"

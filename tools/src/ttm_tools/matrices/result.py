@@ -5,9 +5,11 @@ from typing import Any, Mapping
 
 import numpy as np
 
+from ..core.arrays import Seconds, Sums
 from ..core.errors import ArgumentError
 from ..core.scaling import unscaled
-from . import BASE, TODAY, Matrix, Seconds, Sums
+from ..core.scenarios import base_of
+from .base import Matrix
 
 
 @dataclass(frozen=True)
@@ -65,7 +67,7 @@ class Result:
     @property
     def base(self) -> str:
         """The scenario that others are compared with: today for the scenarios of a plan."""
-        return TODAY if TODAY in self.scenarios else BASE
+        return base_of(self.scenarios)
 
     def key(self, named: str | None, share: int | None) -> tuple[str, int]:
         """Return a scenario and a percentile of the matrix; the percentile may be None if there is only one."""

@@ -1,22 +1,18 @@
 """What is reached from each origin: opportunities, each weighted by its travel time, and the time to the nearest ones.
 
 The weights are those of R5 and r5r, with a `cutoff` and a `decay_value` in minutes. docs/reference/measures.md has the
-formulas.
-Each is a product of matrices, block of rows by block of rows: weights of cells times numbers by stop. Sums are
-`float64`, exact for whole numbers.
+formulas. Each function takes travel times of some origins, of shape (origins, destinations), and returns `float64`, in
+which sums of whole numbers are exact. `Matrix.measure` applies one to all rows of a matrix.
 """
 
 import math
 from dataclasses import dataclass
-from typing import Callable, Sequence
+from typing import Sequence
 
 import numpy as np
-import numpy.typing as npt
 
-from ..core import progress
-from ..core.arrays import Floats
+from ..core.arrays import Floats, Places, Seconds
 from ..core.errors import ArgumentError
-from ..matrices import Matrix, Seconds, Share
 from .registry import DECAYS
 
 STEP = "step"
@@ -87,55 +83,84 @@ def logistic(seconds: Seconds, limit: float, width: float) -> Floats:
     return weights
 
 
-def access(
-    matrix: Matrix, scenario: str, share: Share, numbers: Floats, decay: Weighting, cutoffs: Sequence[float]
-) -> Floats:
-    """The weighted sums of the numbers by stop, from each origin: by origin, column of numbers, and cutoff."""
-    used = np.flatnonzero(numbers.any(axis=1))
-    chosen = numbers[used]
+def access(seconds: Seconds, numbers: Floats, weighting: Weighting, cutoffs: Sequence[float]) -> Floats:
+    """Returns sums of numbers, weighted by travel time.
 
-    def sums(seconds: Seconds) -> Floats:
-        there = seconds[:, used]
-        return np.stack([decay.weights(there, cutoff) @ chosen for cutoff in cutoffs], axis=2)
+    Parameters
+    ----------
+    numbers
+        Opportunities of shape (destinations, columns).
+    cutoffs
+        Minutes.
 
-    return by_blocks(matrix, scenario, share, (numbers.shape[1], len(cutoffs)), sums)
-
-
-def nearest(matrix: Matrix, scenario: str, share: Share, numbers: Floats, counts: Sequence[float]) -> Floats:
-    """The least seconds within which each number of opportunities is reached, NaN where it isn't: by origin, column of
-    numbers, and count. A stop with three of them counts as three.
+    Returns
+    -------
+    array of shape (origins, columns, cutoffs)
     """
-
     used = np.flatnonzero(numbers.any(axis=1))
-    chosen = numbers[used]
-
-    def times(seconds: Seconds) -> Floats:
-        return times_to(seconds[:, used], chosen, counts)
-
-    return by_blocks(matrix, scenario, share, (numbers.shape[1], len(counts)), times)
+    there, chosen = seconds[:, used], numbers[used]
+    return np.stack([weighting.weights(there, cutoff) @ chosen for cutoff in cutoffs], axis=2)
 
 
-def times_to(seconds: Seconds, numbers: Floats, counts: Sequence[float]) -> Floats:
-    """The same of some rows: each is sorted once, and its numbers summed up in that order."""
-    order = np.argsort(seconds, axis=1)  # those without a time stand last
-    none = np.full((len(seconds), 1), np.nan)
-    ordered = np.concatenate([np.take_along_axis(seconds, order, axis=1).astype(np.float64), none], axis=1)
-    times = []
+def nearest(seconds: Seconds, numbers: Floats, counts: Sequence[float]) -> Floats:
+    """Returns the least seconds within which each count of opportunities is reached, NaN where it never is.
+
+    A destination with three opportunities counts as three.
+
+    Parameters
+    ----------
+    numbers
+        Opportunities of shape (destinations, columns).
+
+    Returns
+    -------
+    array of shape (origins, columns, counts)
+    """
+    used = np.flatnonzero(numbers.any(axis=1))
+    there = seconds[:, used]
+    order = np.argsort(there, axis=1)  # those that are not reached come last
+    return seconds_at(there, order, ranks_of(order, numbers[used], counts))
+
+
+def completing(seconds: Seconds, numbers: Floats, counts: Sequence[float]) -> tuple[Places, Floats]:
+    """Returns the destination that completes each count, -1 where none does, and the seconds to it: see `nearest`.
+
+    Of destinations with the same travel time the first comes first.
+    """
+    used = np.flatnonzero(numbers.any(axis=1))
+    there = seconds[:, used]
+    order = np.argsort(there, axis=1, kind="stable")
+    ranks = ranks_of(order, numbers[used], counts)
+    found = seconds_at(there, order, ranks)
+    columns = np.append(used[order], np.full((len(order), 1), -1), axis=1)
+    ends = np.take_along_axis(columns[:, None], ranks, axis=2)
+    return np.where(np.isnan(found), -1, ends), found
+
+
+def ranks_of(order: Places, numbers: Floats, counts: Sequence[float]) -> Places:
+    """Returns where in the order of each row each count is complete, past its end if it never is.
+
+    Parameters
+    ----------
+    order
+        Destinations by travel time, for each origin.
+    numbers
+        Opportunities of shape (destinations, columns).
+
+    Returns
+    -------
+    array of shape (origins, columns, counts)
+    """
+    limits = [count - min(SLACK, 1e-12 * count) for count in counts]
+    ranks = []
     for column in numbers.T:
         sums = np.cumsum(column[order], axis=1)
-        limits = [count - min(SLACK, 1e-12 * count) for count in counts]
-        places: list[npt.NDArray[np.intp]] = [(sums < limit).sum(axis=1) for limit in limits]
-        times.append(np.take_along_axis(ordered, np.stack(places, axis=1), axis=1))
-    return np.stack(times, axis=1)
+        ranks.append(np.stack([(sums < limit).sum(axis=1) for limit in limits], axis=1))
+    return np.stack(ranks, axis=1)
 
 
-def by_blocks(
-    matrix: Matrix, scenario: str, share: Share, shape: tuple[int, int], measure: Callable[[Seconds], Floats]
-) -> Floats:
-    """What is measured of each block of rows, one after the other."""
-    numbers = np.zeros((len(matrix.origins(scenario, share)), *shape))
-    count, begin = -(-len(numbers) // matrix.rows_at_once()), 0
-    for block in progress.track(matrix.blocks(scenario, share), count, f"{scenario} {share or ''}", "blocks"):
-        numbers[begin : begin + len(block.origins)] = measure(block.seconds)
-        begin += len(block.origins)
-    return numbers
+def seconds_at(seconds: Seconds, order: Places, ranks: Places) -> Floats:
+    """Returns the travel times at some ranks, NaN past the end."""
+    never = np.full((len(order), 1), np.nan)
+    ordered = np.append(np.take_along_axis(seconds, order, axis=1).astype(np.float64), never, axis=1)
+    return np.take_along_axis(ordered[:, None], ranks, axis=2)

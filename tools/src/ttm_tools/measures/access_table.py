@@ -1,23 +1,15 @@
-"""A table of access in the long form, as `ttm-tools access` or r5r writes it: columns of numbers by origin again; or of
-the time to the nearest, as `ttm-tools access --nearest` writes it.
-"""
+"""Access by scenario, kind and origin, or the time to the nearest: what equity and bands are measured of."""
 
-import math
 from dataclasses import dataclass
 from typing import Iterator, Sequence
 
 import numpy as np
 
 from ..core.arrays import Floats
-from ..core.columns import ACCESS, NEAREST, names_of
 from ..core.errors import InputError
-from ..core.tables import number_of, records, rows
-from ..core.text import display_text, first_few, quantity
-from ..matrices import BASE, TODAY
-from ..matrices.base import LEFT_OUT, sentences_on_lacking
+from ..core.scenarios import base_of
+from ..core.text import LEFT_OUT, display_text, sentences_on_lacking
 from .opportunities import Counts
-
-COLUMNS, OF_TIMES = names_of(ACCESS), names_of(NEAREST)
 
 
 @dataclass(frozen=True)
@@ -57,7 +49,7 @@ class AccessTable:
     @property
     def base(self) -> str:
         """The scenario that others are compared with where none is named."""
-        return self.named_base or (TODAY if TODAY in self.scenarios else BASE)
+        return self.named_base or base_of(self.scenarios)
 
     def label_of(self, kind: AccessKind) -> str:
         return kind.label_of_nearest if self.of_times else kind.label
@@ -70,29 +62,6 @@ class AccessTable:
                 self.path, f"no scenario {display_text(name)}; it has {there}: choose the base with --base"
             )
         return self.scenarios.index(name)
-
-
-def read_access(path: str) -> AccessTable:
-    """A table in which each scenario and kind has each origin once; without a column scenario all is `base`."""
-    scenarios, kinds, origins = dict[str, int](), dict[AccessKind, int](), dict[str, int]()
-    found: dict[tuple[int, int, int], float] = {}
-    of_times = is_of_times(path)
-    for number, scenario, kind, origin, value in lines_of(path, OF_TIMES if of_times else COLUMNS):
-        places = (scenarios.setdefault(scenario, len(scenarios)), kinds.setdefault(kind, len(kinds)))
-        key = (*places, origins.setdefault(origin, len(origins)))
-        if key in found:
-            raise InputError(
-                path, f"{display_text(origin)} occurs twice for {kind.label}, {display_text(scenario)}", record=number
-            )
-        found[key] = value
-    numbers = np.full((len(scenarios), len(kinds), len(origins)), np.nan)
-    if not found:
-        raise InputError(path, "no lines")
-    numbers[tuple(np.array(list(found)).T)] = list(found.values())
-    table = AccessTable(path, list(scenarios), list(kinds), list(origins), numbers, of_times)
-    warn_of_gaps(table)
-    table.numbers[np.isinf(table.numbers)] = np.nan
-    return table
 
 
 def beside(own: AccessTable, other: AccessTable, labels: tuple[str, str], scenario: str | None) -> AccessTable:
@@ -136,29 +105,3 @@ def by_group(
             if not weights.any():
                 raise InputError(table.path, f"nobody of the group {display_text(group)} lives at its origins")
             yield kind, group, numbers, weights
-
-
-def is_of_times(path: str) -> bool:
-    """Whether a table says times to the nearest."""
-    _, header = next(records(path), (1, list[str]()))
-    return {*OF_TIMES[3:]} <= {*header} and not {*COLUMNS[3:]} <= {*header}
-
-
-def lines_of(path: str, named: Sequence[str]) -> Iterator[tuple[int, str, AccessKind, str, float]]:
-    """Each line: its record, scenario, kind, origin and access, or time: infinite where fewer are reached."""
-    for number, (origin, opportunity, percentile, cutoff, text, scenario) in rows(path, named, ["scenario"]):
-        value = math.inf if named is OF_TIMES and not text.strip() else number_of(text.strip())
-        if not value >= 0:
-            allowed = "a number from 0 on"
-            raise InputError(path, "is invalid", record=number, column=named[-1], value=text, allowed=allowed)
-        yield number, scenario or "base", AccessKind(opportunity, percentile, cutoff), origin, value
-
-
-def warn_of_gaps(table: AccessTable) -> None:
-    """Refuses the first scenario and kind that lacks origins."""
-    gaps = np.isnan(table.numbers)
-    for scenario, kind in np.argwhere(gaps.any(axis=2))[:1].tolist():
-        lost = [display_text(table.origins[place]) for place in np.flatnonzero(gaps[scenario, kind]).tolist()]
-        what = f"{table.label_of(table.kinds[kind])}, {display_text(table.scenarios[scenario])}"
-        of = f"{len(lost):,} of {quantity(len(table.origins), 'origin')}"
-        raise InputError(table.path, f"{what} lacks {of}: {first_few(lost)}")

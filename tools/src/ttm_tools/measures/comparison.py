@@ -6,18 +6,16 @@ limit is. An origin loses or gains by its access, as `Sides` says.
 """
 
 from dataclasses import dataclass
-from typing import Any
+from typing import Any, Iterable
 
 import numpy as np
 import numpy.typing as npt
 
-from ..core import progress
-from ..matrices import Pair, Seconds, Sums
+from ..core.arrays import Places, Seconds, Sums
 
 KINDS = ["cut off", "slower", "new", "faster"]  # in the order of a table
 CUT_OFF, SLOWER, NEW, FASTER = range(4)
 LOSS, GAIN, RELATIVE = "loss", "gain", "relative"  # ways to sort other than losers first and then winners, by size
-Order = npt.NDArray[np.intp]
 LEAST_OF_DECIMALS = 5e-7  # tables have six decimals
 RANKS = {LOSS: [0, 1, 3, 2], GAIN: [3, 2, 0, 1]}  # of KINDS
 
@@ -91,14 +89,23 @@ def kinds_of(before: Seconds, after: Seconds, limit: float) -> npt.NDArray[np.in
     return kinds
 
 
-def compare(pair: Pair, limit: float, with_pairs: bool) -> Comparison:
-    """Compares all origins that both scenarios have, some at a time; a pair that differs takes 17 bytes where it is
-    kept, and as many again while all are put in order.
+def compare(blocks: Iterable[tuple[int, Seconds, Seconds]], limit: float, with_pairs: bool) -> Comparison:
+    """Compares travel times before and after, some origins at a time.
+
+    Parameters
+    ----------
+    blocks
+        The index of the first origin, and the travel times of some origins in the base and in the scenario, as
+        `Pair.blocks` yields them.
+    limit
+        Seconds: a smaller change counts for none.
+    with_pairs
+        Whether the pairs that differ are returned, at 17 bytes for each, and as many again while they are sorted.
     """
     counts = [np.zeros((0, len(KINDS)), np.int64)]
     none = np.zeros((0, 0), np.float32)
     found = [[column] for column in columns_of(0, none, none, np.zeros((0, 0), np.int8))]
-    for begin, before, after in progress.track(pair.blocks(), pair.count_of_blocks(), "comparing", "blocks"):
+    for begin, before, after in blocks:
         kinds = kinds_of(before, after, limit)
         counts.append(np.stack([np.count_nonzero(kinds == kind, axis=1) for kind in range(len(KINDS))], axis=1))
         for column, piece in zip(found, columns_of(begin, before, after, kinds) if with_pairs else ()):
@@ -120,7 +127,7 @@ def columns_of(begin: int, before: Seconds, after: Seconds, kinds: npt.NDArray[n
     return [*ends, kinds[row, column], before[row, column], after[row, column]]
 
 
-def order_of(changes: Changes, sort: str | None = None) -> Order:
+def order_of(changes: Changes, sort: str | None = None) -> Places:
     """Losers first: those cut off, then the slower, the greatest change first; then new connections, then the faster,
     the greatest change first. Sorted by gain new connections and the faster come first, and those cut off last; by loss
     the faster come before new connections; by both, the least change comes last of what is first, and first of what is
@@ -136,11 +143,11 @@ def order_of(changes: Changes, sort: str | None = None) -> Order:
         keys = [-part, changes.kind]
     else:
         keys = [-change if sort == LOSS else change, np.array(RANKS[sort])[changes.kind]]
-    order: Order = np.lexsort(keys)
+    order: Places = np.lexsort(keys)
     return order
 
 
-def sorted_origins(first: Sums, second: Sums, sort: str) -> Order:
+def sorted_origins(first: Sums, second: Sums, sort: str) -> Places:
     """Origins by their change of access: the greatest loss or gain first, or by its part of the access before, losers
     first and then winners.
     """
@@ -148,7 +155,7 @@ def sorted_origins(first: Sums, second: Sums, sort: str) -> Order:
     if sort != RELATIVE:
         return np.argsort(change if sort == LOSS else -change, kind="stable")
     part = np.abs(change) / np.where(first > 0, first, np.where(change == 0, 1, 1e-300))
-    order: Order = np.lexsort([-part, rank_of(change)])
+    order: Places = np.lexsort([-part, rank_of(change)])
     return order
 
 
@@ -157,9 +164,9 @@ def rank_of(change: npt.NDArray[Any]) -> npt.NDArray[Any]:
     return np.select([change < 0, change > 0], [0, 1], 2)
 
 
-def order_of_origins(change: Sums, counts: npt.NDArray[np.int64]) -> Order:
+def order_of_origins(change: Sums, counts: npt.NDArray[np.int64]) -> Places:
     """Losers of access first, then its winners, each by the size of the change; then who has the same access, those cut
     off from most first.
     """
-    order: Order = np.lexsort([-counts[:, SLOWER], -counts[:, CUT_OFF], -np.abs(change), rank_of(change)])
+    order: Places = np.lexsort([-counts[:, SLOWER], -counts[:, CUT_OFF], -np.abs(change), rank_of(change)])
     return order

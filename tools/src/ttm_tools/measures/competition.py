@@ -1,67 +1,85 @@
 """Access where people compete for what is there: floating catchments, balanced ones, and spatial availability.
 
-Each destination with a supply is shared out among the people who reach it, by the weights of travel times; each origin
-adds up its shares. Sums go over origins with a demand and destinations with a supply. docs/reference/measures.md has
+The people who reach a destination share its supply, by the weights of their travel times; the access of an origin is
+the sum of its shares. Sums go over origins with people and destinations with a supply. docs/reference/measures.md has
 formulas.
 """
 
 from dataclasses import dataclass
-from typing import Sequence
+from typing import Callable, Iterable, Sequence
 
 import numpy as np
 
-from ..core.arrays import Floats
-from ..matrices import Matrix, Seconds, Share
-from ..matrices.base import Places
-from .access import Weighting, by_blocks
+from ..core.arrays import Floats, Places, Seconds
+from .access import Weighting
 from .registry import COMPETITIONS
 
-
-LEAST = 1e-100  # a lesser weight counts as none, since a supply divided by it is no number
+LEAST = 1e-100  # a smaller weight counts as none, since a supply divided by it overflows
+Blocks = Callable[[], Iterable[Seconds]]  # yields the travel times of all origins in order, some rows at a time
 
 
 @dataclass(frozen=True)
 class Market:
-    """Who competes for what, and how."""
+    """Who competes for what, and how.
 
-    method: str  # of COMPETITIONS
-    supply: Floats  # a row for each stop of the matrix, a column for each thing
-    demand: dict[str, float]  # people by origin
-    weighting: Weighting
-    cutoffs: Sequence[float]  # minutes
-
-
-def competition(matrix: Matrix, scenario: str, share: Share, market: Market) -> Floats:
-    """What each origin has: by origin, column of the supply, and cutoff. Availability is what all people there have,
-    the others what each of them has.
+    Attributes
+    ----------
+    method
+        A key of `COMPETITIONS`.
+    supply
+        Opportunities of shape (destinations, columns).
+    people
+        The number of people at each origin.
+    weighting
+        How weights fall with travel time.
     """
-    people = np.array([market.demand.get(name, 0.0) for name in matrix.origins(scenario, share)])
+
+    method: str
+    supply: Floats
+    people: Floats
+    weighting: Weighting
+
+
+def competition(blocks: Blocks, market: Market, cutoffs: Sequence[float]) -> Floats:
+    """Returns what each origin has of each supply within each cutoff.
+
+    Availability is what all people of an origin have together; the other methods say what each of them has.
+
+    Parameters
+    ----------
+    blocks
+        Called twice for each column of the supply and each cutoff.
+    cutoffs
+        Minutes.
+
+    Returns
+    -------
+    array of shape (origins, columns, cutoffs)
+    """
     compute = COMPETITIONS[market.method].compute()
-    found = np.zeros((len(people), market.supply.shape[1], len(market.cutoffs)))
+    found = np.zeros((len(market.people), market.supply.shape[1], len(cutoffs)))
     for column, amounts in enumerate(market.supply.T):
-        for place, cutoff in enumerate(market.cutoffs):
-            found[:, column, place] = compute(Supply(matrix, scenario, share, market, cutoff, people, amounts))
+        for place, cutoff in enumerate(cutoffs):
+            found[:, column, place] = compute(Supply(blocks, market.people, amounts, market.weighting, cutoff))
     return found
 
 
 @dataclass(frozen=True)
 class Supply:
-    """A column of the supply that people compete for within a cutoff."""
+    """One column of a supply, and the people who compete for it within a cutoff."""
 
-    matrix: Matrix
-    scenario: str
-    share: Share
-    market: Market
-    cutoff: float
+    blocks: Blocks
     people: Floats  # by origin
-    amounts: Floats  # by stop
+    amounts: Floats  # by destination
+    weighting: Weighting
+    cutoff: float  # minutes
 
     @property
     def used(self) -> Places:
         return np.flatnonzero(self.amounts)
 
     def weights(self, seconds: Seconds) -> Floats:
-        found = self.market.weighting.weights(seconds[:, self.used], self.cutoff)
+        found = self.weighting.weights(seconds[:, self.used], self.cutoff)
         found[found < LEAST] = 0
         return found
 
@@ -71,12 +89,7 @@ class Supply:
 
     def shared_out(self, rates: Floats) -> Floats:
         """What each origin has of all destinations."""
-
-        def access(seconds: Seconds) -> Floats:
-            access_by_origin: Floats = (self.weights(seconds) @ rates)[:, None, None]
-            return access_by_origin
-
-        return by_blocks(self.matrix, self.scenario, self.share, (1, 1), access)[:, 0, 0]
+        return np.concatenate([np.zeros(0), *[self.weights(seconds) @ rates for seconds in self.blocks()]])
 
 
 def floating(supply: Supply) -> Floats:
@@ -94,21 +107,20 @@ def availability(supply: Supply) -> Floats:
 
 
 def divided(numbers: Floats, by: Floats) -> Floats:
-    """Numbers by others, 0 where these are."""
+    """Returns the quotients, 0 where the divisor is 0."""
     return np.divide(numbers, by, out=np.zeros(len(numbers)), where=by > 0)
 
 
 def totals(supply: Supply, *, balanced: bool) -> tuple[Floats, Floats]:
-    """For each destination the people who compete for it, and the sum of its weights over the origins with people.
-    Where it is balanced the people of an origin are shared out among its destinations, so that each of them counts
-    once.
+    """Returns for each destination the people who compete for it, and its weights summed over origins with people.
+
+    If `balanced`, the people of an origin are divided among its destinations, so that each of them counts once.
     """
-    demand, sums, begin = np.zeros(0), np.zeros(0), 0
-    for block in supply.matrix.blocks(supply.scenario, supply.share):
-        found = supply.weights(block.seconds)
+    demand, sums, begin = np.zeros(len(supply.used)), np.zeros(len(supply.used)), 0
+    for seconds in supply.blocks():
+        found = supply.weights(seconds)
         there = supply.people[begin : begin + len(found)]
         begin += len(found)
         whole = found.sum(axis=1) if balanced else np.ones(len(found))
-        more = divided(there, whole) @ found, (there > 0) @ found
-        demand, sums = (more[0], more[1]) if not len(demand) else (demand + more[0], sums + more[1])
+        demand, sums = demand + divided(there, whole) @ found, sums + (there > 0) @ found
     return demand, sums

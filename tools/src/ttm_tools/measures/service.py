@@ -6,7 +6,6 @@ such stops the first on the way. A run that calls there several times counts wit
 runs under way at once, without any time to turn.
 """
 
-import datetime
 import functools
 from dataclasses import dataclass
 from typing import Any, Sequence
@@ -14,8 +13,6 @@ from typing import Any, Sequence
 import numpy as np
 
 from ..core.arrays import Floats, Mask, Whole
-from ..gtfs.projection import metres_between
-from ..gtfs.timetable import Edits, Timetable, runs_of
 from .columns import column, row_of
 
 HOUR, NONE = 3600.0, float("nan")
@@ -66,27 +63,6 @@ class ServiceRuns:
         _, places = np.unique(np.stack([calls.run, calls.stop], axis=1), axis=0, return_index=True)
         found: Whole = np.sort(places)
         return found
-
-
-def running_on(timetable: Timetable, date: datetime.date, edits: Edits, lengths: Floats) -> ServiceRuns:
-    """The runs of the service day itself; lengths are the kilometres of each trip."""
-    runs, events = runs_of(timetable, date, (0, 0), edits), timetable.events
-    begins = events.begins[runs.trip]
-    counts = events.begins[runs.trip + 1] - begins
-    run = np.repeat(np.arange(len(counts)), counts)
-    position = np.arange(len(run)) - np.repeat(np.cumsum(counts) - counts, counts)
-    event = begins[run] + position
-    kept = position < counts[run] - 1
-    depart = events.depart[event] + runs.shift[run]
-    calls = ServiceCalls(
-        run[kept],
-        events.stop[event[kept]],
-        depart[kept],
-        position[kept],
-        events.stop[np.minimum(event[kept] + 1, len(events.stop) - 1)],
-    )
-    start, end = events.depart[begins] + runs.shift, events.arrive[begins + counts - 1] + runs.shift
-    return ServiceRuns(runs.trip, start, end, lengths[runs.trip], calls)
 
 
 def headway_stops(running: ServiceRuns, group: Whole, groups: int, stops: int) -> Whole:
@@ -215,23 +191,6 @@ def departures_by_piece(running: ServiceRuns, period: Period) -> tuple[Whole, Wh
     pairs = np.sort(np.stack([running.calls.stop[inside], running.calls.next_stop[inside]], axis=1), axis=1)
     found: Any = np.unique(pairs, axis=0, return_counts=True)
     return found[0][:, 0], found[0][:, 1], found[1]
-
-
-def straight_lengths(timetable: Timetable, longitudes: Floats, latitudes: Floats) -> Floats:
-    """Return the kilometres of each trip, straight from stop to stop on the ellipsoid. A stop without a place is passed
-    over.
-    """
-    events, count = timetable.events, len(longitudes)
-    placed = ~np.isnan(longitudes[events.stop])
-    trip = np.repeat(np.arange(len(timetable.trips)), np.diff(events.begins))[placed]
-    stop = events.stop[placed].astype(np.int64)
-    follows = np.flatnonzero(np.diff(trip) == 0)
-    pairs, which = np.unique(stop[follows] * count + stop[follows + 1], return_inverse=True)
-    one, other = pairs // count, pairs % count
-    metres = metres_between(longitudes[one], latitudes[one], longitudes[other], latitudes[other])
-    kilometres = np.zeros(len(timetable.trips))
-    np.add.at(kilometres, trip[follows + 1], metres[which] / 1000)
-    return kilometres
 
 
 def periods_of(times: Sequence[int]) -> list[Period]:

@@ -8,6 +8,7 @@ from ..core.errors import InputError
 from ..core.files import atomic_folder, require_empty
 from ..core.progress import reported
 from ..core.reading import as_one_line
+from ..core.scenarios import TODAY
 from ..core.text import as_text
 from ..core.toml_values import near, nearest_name
 from .apply import ScenarioResult, apply_scenario
@@ -15,7 +16,7 @@ from .base import read_base
 from .limits import refuse_limits, sentences_on_days
 from .plan_file import PlanFile, read_plan
 from .report import sentences, unused, write_lists
-from .scenario_files import TODAY, write_scenarios
+from .scenario_files import write_scenarios
 from .writing import Written, write_all, written_of
 
 FOLDER, WORDS, REPORT = "scenarios", "scenarios.words", "scenarios.md"

@@ -4,10 +4,11 @@ import re
 from dataclasses import dataclass, field
 
 from ..core.errors import LimitError
+from ..core.scenarios import BASE, TODAY
 from ..core.toml_file import Entry, read_entry
 
 NAME = re.compile(r"[^\s.@#/\\\"',](?:[^@#/\\\"',\x00-\x1f\x7f]*[^\s@#/\\\"',\x00-\x1f\x7f])?")
-TAKEN = ("base", "today")  # names that scenarios of a plan can't have
+TAKEN = (BASE, TODAY)  # names that scenarios of a plan can't have
 MOST_SCENARIOS = 14  # in addition to these two: `ttm` takes sixteen
 
 

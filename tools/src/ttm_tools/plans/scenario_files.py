@@ -6,16 +6,15 @@ from typing import Iterator
 import numpy as np
 
 from ..core.errors import InputError
+from ..core.scenarios import TODAY
 from ..core.tables import write_rows
 from .apply import ScenarioResult
 from .new_records import own_routes
-from .plan_file import TAKEN
 from .state import State
 from .writing import Written
 
 HEADER = ["action", "id", "seconds"]
 MOST_RECORDS = 100_000
-TODAY = TAKEN[1]
 Record = tuple[str, str, str]
 
 

@@ -4,6 +4,7 @@ import datetime
 from pathlib import Path
 from typing import Collection, Sequence
 
+from ..api.count_files import called, columns_of, numbers_of
 from ..core.errors import InputError
 from ..core.stop_lists import origins_in
 from ..core.tables import rows
@@ -12,7 +13,6 @@ from ..gtfs import likely
 from ..gtfs.check import check
 from ..gtfs.feeds import read_feed
 from ..gtfs.stops import origins_of_feed
-from ..measures.opportunities import called, columns_of, numbers_of
 from ..places.read import read_points
 from ..prepare.losses import Hints, refuse_day
 from .counted import refuse_unknown, unknown_in

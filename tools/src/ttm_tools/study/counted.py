@@ -8,13 +8,14 @@ from typing import Collection, Sequence
 
 import numpy as np
 
+from ..api.count_files import OWN_NAME, called, columns_of, identifier_of, read_counts
 from ..core.errors import InputError
 from ..core.files import sha256_of_file
 from ..core.scaling import scale_of, times
 from ..core.stop_lists import origins_in
 from ..core.tables import RoundingCounter, names_of, rows as table_rows, write_rows
 from ..core.text import counted, display_text, first_few, quantity, short_number
-from ..measures.opportunities import Counts, OWN_NAME, called, columns_of, identifier_of, read_counts
+from ..measures.opportunities import Counts
 from ..places.read import read_points
 from .settings import Study
 from .sources import Sources

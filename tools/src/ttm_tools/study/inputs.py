@@ -9,12 +9,12 @@ from pathlib import Path
 from ..core.errors import InputError
 from ..core.files import atomic_folder, copy_file
 from ..core.reading import inside
+from ..core.scenarios import BASE, TODAY, base_of
 from ..core.stop_lists import origins_in, write_stops
 from ..core.text import quantity
 from ..engine.arguments import EngineArguments
 from ..gtfs.feeds import refuse_planned
 from ..gtfs.stops import origins_of_feed
-from ..matrices import BASE, TODAY
 from ..places import folder as points
 from ..plans import make as plans
 from ..prepare.clip import Clip
@@ -189,7 +189,7 @@ def make_inputs(study: Study, folder: Folder, program: str) -> Inputs:
     maker.do(origins_stage(maker))
     maker.files["origins"] = ORIGINS
     maker.counts()
-    base = TODAY if any(name_of(path) == TODAY for path in scenarios) else BASE
+    base = base_of(list(map(name_of, scenarios)))
     shown_as = shown_names([*map(maker.at, scenarios)], study.results.csv) if base == TODAY else {}
     own = [path for path in scenarios if shown_as.get(name_of(path)) != BASE]
     run = replace(run_of(study, maker.feed, maker.files, own), program=program)

@@ -6,9 +6,9 @@ import itertools
 from pathlib import Path
 from typing import Iterator, Sequence
 
+from ..api.access_files import read_access
 from ..core.tables import number_of, records as records_in
 from ..core.text import display_text
-from ..measures.access_table import read_access
 from ..places.features import NOT_SUMMED
 from ..places.folder import UNREACHED
 from ..places.grid import OUTSIDE

@@ -5,10 +5,10 @@ import itertools
 from pathlib import Path
 from typing import Any, Sequence
 
+from ..core.scenarios import BASE
 from ..core.tables import records
 from ..core.times import day_of
 from ..engine.arguments import EngineArguments
-from ..matrices import BASE
 from .settings import Study
 
 

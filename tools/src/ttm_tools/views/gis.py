@@ -3,6 +3,7 @@ GeoPackage: as points, or as the squares and areas that cells are.
 """
 
 import contextlib
+import functools
 import itertools
 import json
 import math
@@ -85,8 +86,9 @@ def with_nearest(
 ) -> Features:
     """The same with the seconds within which these numbers of opportunities are reached."""
     columns, among = dict(features.columns), features.stops.places
+    measure = functools.partial(nearest, numbers=counts.numbers, counts=nearest_of)
     for scenario, share in itertools.product(*kinds):
-        found = nearest(matrix, scenario, share, counts.numbers, nearest_of)
+        found = matrix.measure(scenario, share, measure)
         origins = matrix.origins(scenario, share)
         rows = [row for row, name in enumerate(origins) if name in among]
         places = [among[origins[row]] for row in rows]

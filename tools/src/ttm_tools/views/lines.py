@@ -6,8 +6,8 @@ import os
 from dataclasses import dataclass
 from typing import Sequence
 
+from ..core.scenarios import TODAY
 from ..gtfs.shapes import pieces
-from ..matrices import TODAY
 from ..web.page.lines import DrawnLines, name_of, on_grid, plan_files
 from .map_lines import MapLines, running, styled
 

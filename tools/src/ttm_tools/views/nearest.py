@@ -1,5 +1,6 @@
 """Maps of the time to the nearest opportunities, from each origin, and of its change in a scenario."""
 
+import functools
 import math
 from dataclasses import dataclass
 
@@ -32,7 +33,8 @@ class Nearest:
 
     def seconds(self, matrix: Matrix, scenario: str, share: Share) -> Floats:
         """The time to it from each origin, NaN where fewer are reached."""
-        seconds: Floats = nearest(matrix, scenario, share, self.numbers[:, None], [self.count])[:, 0, 0]
+        measure = functools.partial(nearest, numbers=self.numbers[:, None], counts=[self.count])
+        seconds: Floats = matrix.measure(scenario, share, measure)[:, 0, 0]
         return seconds
 
 

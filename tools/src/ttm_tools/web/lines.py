@@ -7,10 +7,10 @@ import numpy as np
 import numpy.typing as npt
 
 from ..core.arrays import Floats
+from ..core.scenarios import BASE
 from ..gtfs.projection import Projection
 from ..gtfs.shapes import LinePoints, pieces, shape_points, unique_rows
 from ..gtfs.stops import Stops, has_file
-from ..matrices import BASE
 from ..plans.base import Base
 from ..plans.new_records import OwnTrip
 from ..plans.shapes import NAME as SHAPES, Shapes

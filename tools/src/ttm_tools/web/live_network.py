@@ -9,13 +9,13 @@ import numpy.typing as npt
 
 from ..compat.network import Network
 from ..compat.v2 import matrix
-from ..matrices.result import Result
 from ..core.files import remove
+from ..core.scenarios import BASE, TODAY
 from ..gtfs.timetable import Timetable
-from ..matrices import BASE, TODAY
-from .page.lines import LineChange
+from ..matrices.result import Result
 from .lines import UNCHANGED
 from .options import ExploreOptions
+from .page.lines import LineChange
 from .point import Point, Walk, laid_out
 from .question import Question
 

@@ -8,7 +8,7 @@ from typing import Sequence
 
 from ..core.errors import InputError
 from ..core.files import remove
-from ..matrices import TODAY
+from ..core.scenarios import TODAY
 from ..plans.apply import apply_scenario
 from ..plans.base import Base
 from ..plans.limits import refuse_limits

@@ -8,33 +8,34 @@ from functools import cached_property
 from pathlib import Path
 from typing import Any, Iterator
 
-from ..matrices.result import Result
+from ..api.count_files import read_counts
 from ..core.errors import ArgumentError, InputError
 from ..gtfs.feeds import refuse_planned
 from ..gtfs.stops import Stops, read_stops
-from ..measures.opportunities import Counts, read_counts
+from ..matrices.result import Result
+from ..measures.opportunities import Counts
+from ..places.read import read_points
+from ..places.selection import points_in, with_points
 from ..plans.base import Base, read_taken_base
 from ..plans.plan_file import read_plan
-from ..places.selection import points_in, with_points
-from ..places.read import read_points
-from .page.content import PagePlaces
-from .page.ground import page_ground
-from .page.places import in_order
-from ..streets.walks import Pace
 from ..streets.osm import Streets, read_streets
+from ..streets.walks import Pace
 from . import planning
 from .changes import Namer, Values
 from .journeys import JourneyQuestion, Journeys
+from .latest_only import LatestOnly
 from .lines import FeedLines
+from .live_network import LiveNetwork, Plan, Seconds
 from .memory import give_back
 from .networks import FIRST, Networks
 from .options import ExploreOptions
+from .page.content import PagePlaces
+from .page.ground import page_ground
+from .page.places import in_order
 from .point import Point, Walk, walks_from
 from .question import Question
 from .routes import Route, routes_of
-from .live_network import LiveNetwork, Plan, Seconds
 from .timetables import timetable_of
-from .latest_only import LatestOnly
 
 
 class ExploreSession:

@@ -7,10 +7,10 @@ from dataclasses import dataclass
 from pathlib import Path
 from typing import Any, Sequence
 
+from ...api.count_files import columns_of
 from ...core.filenames import file_names
 from ...core.files import atomic_folder, output
 from ...core.text import quantity
-from ...measures.opportunities import columns_of
 from ...places.selection import points_in
 from ...views import isochrones
 from ...views.isochrones import AreaGround, Walking

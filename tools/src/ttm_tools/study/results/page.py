@@ -2,9 +2,9 @@
 
 from typing import Any, Sequence
 
+from ...api.count_files import columns_of
 from ...core.files import output
 from ...core.text import display_text, quantity
-from ...measures.opportunities import columns_of
 from ...places.folder import POINTS
 from ...views.access import decimal
 from ...web.page.make import page_of

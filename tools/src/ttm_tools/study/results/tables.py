@@ -6,6 +6,8 @@ from typing import Any, Callable, Sequence
 
 import numpy as np
 
+from ...api.access_files import read_access
+from ...api.count_files import columns_of, read_counts
 from ...core.arrays import Floats
 from ...core.filenames import file_names
 from ...core.files import atomic_folder, output
@@ -13,9 +15,9 @@ from ...core.text import display_text
 from ...gtfs.stops import Stops
 from ...matrices import Matrix, capped, open_matrix, pair_of
 from ...measures.access import Decay, access, nearest
-from ...measures.access_table import AccessKind, AccessTable, read_access
+from ...measures.access_table import AccessKind, AccessTable
 from ...measures.comparison import compare
-from ...measures.opportunities import Counts, columns_of, read_counts
+from ...measures.opportunities import Counts
 from ...places.selection import select_points
 from ...views import bands, equity, tables
 from ...views.access import ACCESS, Form, Measured, NEAREST, decimal, measured, write_access
@@ -113,14 +115,14 @@ class Measurement:
 
     def of(self, matrix: Matrix, counts: Counts) -> list[Measured]:
         """The numbers of all scenarios."""
-        measure = functools.partial(self.measure, matrix, numbers=counts.numbers)
+        measure = functools.partial(matrix.measure, function=functools.partial(self.measure, numbers=counts.numbers))
         return [measured(matrix, scenario, matrix.shares, measure) for scenario in matrix.scenarios]
 
 
 def measurements_of(study: Study) -> list[Measurement]:
     settings, cutoffs, limits = study.results, study.cutoffs, study.results.nearest
     decay = Decay(settings.decay, settings.decay_value)
-    of_access = functools.partial(access, decay=decay, cutoffs=cutoffs)
+    of_access = functools.partial(access, weighting=decay, cutoffs=cutoffs)
     of_nearest = functools.partial(nearest, counts=limits)
     options = [decay.kind, decay.value, list(cutoffs)]
     kinds = [Measurement("access", ACCESS, cutoffs, options, of_access)] if settings.access else []
@@ -234,7 +236,7 @@ def compare_stage(results: StudyMatrix, scenario: str, name: str) -> Stage:
         matrix, stops = results.open()
         pair = pair_of(matrix, results.inputs.base, scenario, study.share)
         place = matrix.limit(study.within)[0]
-        comparison = compare(pair, settings.differs, with_pairs=settings.pairs)
+        comparison = compare(pair.blocks(), settings.differs, with_pairs=settings.pairs)
         with output(results.at(by_origin)) as file:
             write_origins(file, pair, place, comparison, stops)
         if settings.pairs:

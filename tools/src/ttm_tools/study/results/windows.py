@@ -7,13 +7,14 @@ from typing import Any, BinaryIO, Iterator, Sequence
 
 import numpy as np
 
+from ...api.count_files import columns_of, read_counts
 from ...core.columns import WINDOWS as WINDOW_COLUMNS, names_of
 from ...core.filenames import file_names
 from ...core.files import atomic_folder, output
 from ...core.tables import records as records_in, write_rows
 from ...core.text import display_text, quantity
 from ...measures.access_table import AccessKind, AccessTable
-from ...measures.opportunities import Counts, columns_of, read_counts
+from ...measures.opportunities import Counts
 from ...views import equity
 from ...views.access import ACCESS, Measured, NEAREST, decimal, long_rows
 from ...views.picture_files import write_picture

@@ -7,14 +7,14 @@ from typing import Any, Sequence
 import numpy as np
 import numpy.typing as npt
 
-from ...core import progress
+from ...api.count_files import read_counts
 from ...core.arrays import Floats
 from ...core.errors import InputError
 from ...core.text import display_text
 from ...gtfs.stops import Stops
 from ...matrices import Matrix, Share, lacking
-from ...measures.access import Decay, STEP, times_to
-from ...measures.opportunities import Counts, read_counts
+from ...measures.access import Decay, STEP, nearest
+from ...measures.opportunities import Counts
 from .parts import Bytes, minutes_of
 from .places import in_order
 from .settings import PageSettings
@@ -155,8 +155,7 @@ class Reading:
         cells = np.zeros((len(rows), len(columns)), np.uint8)
         sums = [self.sums(np.zeros((0, len(matrix.stops)), np.float32))]  # of all origins of the matrix
         origins = {name: number for number, name in enumerate(matrix.origins(scenario, share))}
-        count = -(-len(origins) // matrix.rows_at_once())
-        for block in progress.track(matrix.blocks(scenario, share), count, f"{scenario} {share or ''}", "blocks"):
+        for block in matrix.tracked(scenario, share):
             sums.append(self.sums(block.seconds))
             taken = np.array([place for place, name in enumerate(block.origins) if name in rows], dtype=np.intp)
             cells[[rows[block.origins[place]] for place in taken]] = minutes_of(block.seconds[taken][:, columns])
@@ -171,8 +170,7 @@ class Reading:
         sums: Floats = flat(found)
         if not settings.nearest or not self.sought.shape[1]:
             return sums
-        used = np.flatnonzero(self.sought.any(axis=1))
-        times = times_to(seconds[:, used], self.sought[used], settings.nearest).astype(np.float32)
+        times = nearest(seconds, self.sought, settings.nearest).astype(np.float32)
         return np.concatenate([sums, minutes_of(flat(times))], axis=1)
 
 

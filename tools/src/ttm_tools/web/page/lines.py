@@ -9,11 +9,11 @@ import numpy as np
 import numpy.typing as npt
 
 from ...core.errors import InputError
+from ...core.scenarios import TODAY
 from ...core.text import display_text
 from ...gtfs.projection import Projection
 from ...gtfs.shapes import GRID, Trips, lines_of, pieces, read_trips, removed_trips
 from ...gtfs.stops import Stops, has_file
-from ...matrices import TODAY
 from .places import MICRO
 
 OnGrid = npt.NDArray[np.int32]  # x, y of both ends, on the grid
