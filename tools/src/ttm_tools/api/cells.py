@@ -11,6 +11,7 @@ from shapely.prepared import prep
 
 from ..core.errors import InputError, LimitError
 from ..core.limits import MOST_STOPS
+from ..core.notes import TtmWarning, warn
 from ..core.question import not_allowed
 from .opportunities import numbers_in
 
@@ -133,13 +134,9 @@ def shared_areas(areas: geopandas.GeoDataFrame, cells: geopandas.GeoDataFrame) -
 
 def warn_of_outside(names: Sequence[str], lost: Any, totals: Any) -> None:
     """Warn of how much of each column is outside all cells."""
-    import warnings
-
-    from ..core.notes import TtmWarning
-
     for name, outside, total in zip(names, lost.tolist(), totals.tolist()):
         if outside > 1e-6 * max(total, 1):
-            warnings.warn(f"{outside:,.6g} of {total:,.6g} {name} are outside all cells", TtmWarning, stacklevel=3)
+            warn(f"{outside:,.6g} of {total:,.6g} {name} are outside all cells", TtmWarning)
 
 
 def checked_frame(argument: str, frame: Any) -> None:

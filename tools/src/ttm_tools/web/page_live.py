@@ -45,6 +45,7 @@ def frame_of(exploration: Exploration) -> page.Frame:
         [("Feed", name), ("Date", options.date.isoformat()), ("Written by", "ttm-tools explore")],
         [],
         MINUTES,
+        pace=options.speed / options.detour,
         leaflet=options.leaflet,
     )
 
