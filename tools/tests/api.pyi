@@ -140,6 +140,24 @@ class Note(NamedTuple):
     text: str
     affected: int  # records, places or trips
 
+class ServedPage:
+    """A page that this process serves to this machine, until `close`, a ``with`` block or the interpreter ends."""
+
+    address: str  # what a browser opens; it has a token that changes with each start
+
+    @property
+    def is_open(self) -> bool:
+        """Whether the page is still served."""
+    def wait(self) -> None:
+        """Serve until interrupted, as by Ctrl-C, and then close."""
+    def close(self) -> None:
+        """End the server and its engine processes. Closing twice is allowed."""
+    def __enter__(self) -> ServedPage: ...
+    def __exit__(
+        self, kind: type[BaseException] | None, error: BaseException | None, traceback: TracebackType | None
+    ) -> None: ...
+    def _repr_html_(self) -> str: ...
+
 class Network:
     """Streets, timetable and scenarios, made by `open_network`. It never changes.
 
@@ -270,6 +288,16 @@ class Network:
         """What runs on a day: scenario, identifiers, departures, headway_minutes, vehicles, vehicle_hours, .."""
     def snap(self, points: GeoSeries, radius_m: float = 1600.0) -> GeoSeries:
         """Nearest point on a walkable street, with index and CRS of `points`; an empty point if none is so near."""
+    def explore(self, question: Question, places: Places | None = None, *, open_browser: bool = True) -> ServedPage:
+        """Serve an interactive map to this machine, until the page that is returned is closed.
+
+        Parameters
+        ----------
+        question
+            The date, and what the page begins with. `max_walk` is the longest walk that the page offers.
+        places
+            Places to begin and to end journeys at, in addition to the stops. The page counts their columns of numbers.
+        """
     def close(self) -> None:
         """End the engine processes. A later question raises `ArgumentError`."""
     def __enter__(self) -> Network: ...
@@ -375,6 +403,12 @@ def write_plan(scenarios: Sequence[Scenario], path: PathLikeStr) -> None:
     """Write a plan file, for ``ttm-tools scenarios`` and studies."""
 
 # Matrices
+
+class SavedPage:
+    """A page in a file. A notebook shows it inline."""
+
+    path: Path
+    def _repr_html_(self) -> str: ...
 
 class Matrix:
     """Seconds by scenario, percentile, origin and destination. It never changes; its arrays are read-only.
@@ -490,6 +524,8 @@ class Matrix:
         """Write `long`, in blocks. Needs pyarrow."""
     def to_csv(self, path: PathLikeStr, *, unreached: bool = True) -> None:
         """Write `long`, in blocks."""
+    def to_html(self, path: PathLikeStr, *, title: str = "", opportunities: Sequence[str] = ()) -> SavedPage:
+        """Write an interactive page, one file that needs no network."""
     def _repr_html_(self) -> str: ...
     def __array__(self, dtype: npt.DTypeLike | None = None) -> npt.NDArray[np.float32]: ...
 

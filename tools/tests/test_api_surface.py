@@ -15,7 +15,20 @@ SOURCES = HERE.parent / "src"
 NOT_PUBLIC = [  # constructors that no caller uses, and names of types that are of the stub alone
     *(f"{name}.__init__" for name in ("EngineError", "InputError", "Matrix")),
     "Network.__new__",
-    *("Date", "Departures", "Duration", "Labels", "Mode", "PathLikeStr", "Places", "Progress", "Settings", "TimeOfDay"),
+    *(
+        "Date",
+        "Departures",
+        "Duration",
+        "Labels",
+        "Mode",
+        "PathLikeStr",
+        "Places",
+        "Progress",
+        "SavedPage",
+        "ServedPage",
+        "Settings",
+        "TimeOfDay",
+    ),
 ]
 
 

@@ -41,8 +41,10 @@ MAY_IMPORT = {  # besides itself
     "web": (*LAYERS, "api", "views"),
     "study": (*LAYERS, "api", "views", "web"),
     "compat": ("core", "engine", "api"),
-    "cli": (*LAYERS, "api", "views", "web", "study", "compat"),
+    "notebook": (*LAYERS, "api", "views", "web", "study", "compat"),
+    "cli": (*LAYERS, "api", "views", "web", "study", "compat", "notebook"),
 }
+CALLED_BY_NAME = "api.pages"  # what calls `notebook`, which is above it, by the names of modules and functions
 # Modules at the top of the package, which only start or export what these packages have.
 BELONGS_TO = {
     "__main__": "cli",
@@ -148,6 +150,21 @@ def test_measures_open_no_file() -> None:
 def test_no_modules_import_each_other() -> None:
     graph = {name: {other for other in others if other} for name, others in imports().items() if name}
     assert len(list(graphlib.TopologicalSorter(graph).static_order())) == len(modules()) - 1
+
+
+def test_what_is_called_by_name_is_there_and_called_from_one_module() -> None:
+    pairs = dict[tuple[str, str], str]()
+    for name, path in modules().items():
+        for node in ast.walk(ast.parse(path.read_text())):
+            texts = (
+                [one.value for one in node.elts if isinstance(one, ast.Constant)] if isinstance(node, ast.Tuple) else []
+            )
+            if len(texts) == 2 and str(texts[0]).startswith("notebook."):
+                pairs[texts[0], texts[1]] = name
+    assert len(pairs) == 2 and set(pairs.values()) == {CALLED_BY_NAME}
+    for module, function in pairs:
+        tree = ast.parse(modules()[module].read_text())
+        assert function in {node.name for node in tree.body if isinstance(node, ast.FunctionDef)}
 
 
 def constants(path: Path) -> Iterator[object]:

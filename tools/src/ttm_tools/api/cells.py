@@ -1,16 +1,19 @@
 """Square cells, and numbers summed into them."""
 
 from collections.abc import Sequence
+from importlib.util import find_spec
 from typing import Any
 
 import geopandas
 import numpy as np
 import pandas
+import shapely
 from shapely.geometry import box
 from shapely.prepared import prep
 
-from ..core.errors import InputError, LimitError
+from ..core.errors import InputError, LimitError, needs
 from ..core.limits import MOST_STOPS
+from ..core.notes import TtmWarning, warn
 from ..core.question import not_allowed
 from .opportunities import numbers_in
 
@@ -88,6 +91,7 @@ def allocate(
     """
     checked_frame("source", source)
     checked_frame("cells", cells)
+    needs_index()
     if columns is None:
         known = [name for name in source.columns if name not in ("id", source.geometry.name)]
         columns = [name for name in known if pandas.api.types.is_numeric_dtype(source[name])]
@@ -109,6 +113,12 @@ def allocate(
         np.add.at(sums, parts["cell"].to_numpy(), numbers[parts["of"].to_numpy()] * parts["part"].to_numpy()[:, None])
     warn_of_outside(names, numbers.sum(axis=0) - sums.sum(axis=0), numbers.sum(axis=0))
     return cells.assign(**dict(zip(names, sums.T)))
+
+
+def needs_index() -> None:
+    """Raise a `MissingDependencyError` if geopandas has none of the packages by which it looks up shapes by place."""
+    if shapely.__version__ < "2" and find_spec("pygeos") is None:
+        needs("rtree")
 
 
 def shared_points(points: geopandas.GeoDataFrame, cells: geopandas.GeoDataFrame) -> pandas.DataFrame:
@@ -133,13 +143,9 @@ def shared_areas(areas: geopandas.GeoDataFrame, cells: geopandas.GeoDataFrame) -
 
 def warn_of_outside(names: Sequence[str], lost: Any, totals: Any) -> None:
     """Warn of how much of each column is outside all cells."""
-    import warnings
-
-    from ..core.notes import TtmWarning
-
     for name, outside, total in zip(names, lost.tolist(), totals.tolist()):
         if outside > 1e-6 * max(total, 1):
-            warnings.warn(f"{outside:,.6g} of {total:,.6g} {name} are outside all cells", TtmWarning, stacklevel=3)
+            warn(f"{outside:,.6g} of {total:,.6g} {name} are outside all cells", TtmWarning)
 
 
 def checked_frame(argument: str, frame: Any) -> None:

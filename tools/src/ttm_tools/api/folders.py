@@ -35,11 +35,14 @@ class PreparedFeed:
         The folder of the feed.
     scenarios
         The names of its scenario files, in order; without scenarios, none.
+    name
+        The names of the files or folders that it was prepared from.
     """
 
     key: str
     folder: Path
     scenarios: tuple[str, ...] = ()
+    name: str = ""
 
     @property
     def scenario_files(self) -> list[Path]:

@@ -23,6 +23,7 @@ from .decay import Decay
 from .differences import difference_frame, pairs_frame
 from .omx_places import write_places_of
 from .opportunities import access_frame, competition_frame, nearest_frame
+from .pages import WRITE_PAGE, SavedPage, call
 
 if TYPE_CHECKING:
     from xarray import DataArray
@@ -241,6 +242,26 @@ class Matrix:
                 writer.write_table(table)
             if writer is not None:
                 writer.close()
+
+    def to_html(self, path: PathLikeStr, *, title: str = "", opportunities: Sequence[str] = ()) -> SavedPage:
+        """Write an interactive page, one file that needs no network.
+
+        Parameters
+        ----------
+        path
+            The file.
+        title
+            The title of the page.
+        opportunities
+            Numeric columns of the destinations, which the page counts.
+
+        Returns
+        -------
+        SavedPage
+            The page by its `path`. A notebook shows it inline.
+        """
+        saved: SavedPage = call(WRITE_PAGE, self._part, path, title, opportunities)
+        return saved
 
     def _long_blocks(self, unreached: bool) -> Iterator[pandas.DataFrame]:
         for key in self._part.keys():

@@ -26,6 +26,7 @@ from .itineraries import itinerary_frame
 from .matrix import Matrix
 from .matrix_files import matrix_of, open_matrix
 from .network_frames import NetworkFrames
+from .pages import EXPLORE, ServedPage, call
 from .scenario import Scenario, by_action, plan_text
 from .tracking import Tracker
 
@@ -261,6 +262,26 @@ class Network(NetworkFrames):
         for note in notes:
             warn_of(note)
         return frame
+
+    def explore(self, question: Question, places: Places | None = None, *, open_browser: bool = True) -> ServedPage:
+        """Serve an interactive map to this machine, until the page that is returned is closed.
+
+        Parameters
+        ----------
+        question
+            The date, and what the page begins with. `max_walk` is the longest walk that the page offers.
+        places
+            Places to begin and to end journeys at, in addition to the stops. The page counts their columns of numbers.
+        open_browser
+            Whether the page is opened in a browser.
+
+        Returns
+        -------
+        ServedPage
+            The page with its `address`: `close` it, or use it in a ``with`` block. `wait` serves it until interrupted.
+        """
+        page: ServedPage = call(EXPLORE, self, question, places, open_browser)
+        return page
 
     def close(self) -> None:
         """End the engine processes. A later question raises `ArgumentError`."""

@@ -91,7 +91,7 @@ def prepared_feed(paths: Sequence[str], repair: bool, allow_loss: bool) -> tuple
     repairs = sum(1 for _ in rows(entry / FEED / PREPARED, ["file"]))
     text = (entry / LINES).read_text(encoding="utf-8").strip()
     note = Note("repaired", f"{', '.join(paths)}: {text}", repairs) if repairs else None
-    return PreparedFeed(key, entry / FEED), note
+    return PreparedFeed(key, entry / FEED, name=", ".join(Path(path).stem for path in paths)), note
 
 
 def read_cached_streets(path: str) -> tuple[Streets, str]:

@@ -1,7 +1,10 @@
 """Notes on results, and the warnings that say the same: nothing that can mislead is left out silently."""
 
+import sys
 import warnings
 from typing import NamedTuple
+
+PACKAGE = f"{__name__.partition('.')[0]}."
 
 
 class Note(NamedTuple):
@@ -41,7 +44,15 @@ WARNINGS: dict[str, type[TtmWarning]] = {
 }
 
 
-def warn_of(note: Note, stacklevel: int = 2) -> None:
+def warn(text: str, category: type[TtmWarning]) -> None:
+    """Issue a warning at the line outside this package that called it, however deep the call is."""
+    frame, level = sys._getframe(), 1
+    while frame.f_back is not None and f"{frame.f_globals.get('__name__')}.".startswith(PACKAGE):
+        frame, level = frame.f_back, level + 1
+    warnings.warn(text, category, stacklevel=level)
+
+
+def warn_of(note: Note) -> None:
     """Warn of a note by the class for its kind; a note on what a scenario does is no warning."""
     if note.kind in WARNINGS:
-        warnings.warn(note.text, WARNINGS[note.kind], stacklevel=stacklevel + 1)
+        warn(note.text, WARNINGS[note.kind])

@@ -3,11 +3,13 @@
 import datetime
 from dataclasses import dataclass, field
 
+from ..core.limits import DETOUR, WALKING_SPEED
 from ..core.question import DAYS_AFTER, DAYS_BEFORE, MAX_RIDES, MAX_WALK
 from ..core.shipped import LEAFLET
 
 SHARES = (10, 25, 50, 75, 90)  # percent, between which the page's slider chooses
-OF_NO_OPTION = ("window", "shares", "date", "name", "generated", "most_walk")  # fields that no option has the name of
+# fields that no option has the name of
+OF_NO_OPTION = ("window", "shares", "date", "name", "generated", "copied", "most_walk", "speed", "detour")
 
 
 @dataclass(frozen=True)
@@ -36,4 +38,7 @@ class ExploreOptions:
     leaflet: str = LEAFLET
     name: str | None = None  # of the feed, where the one that is explored was made of it
     generated: bool = False  # whether feed and walks are in a folder that goes with the exploration
+    copied: bool = False  # whether a saved study has copies of feed and opportunities, too
     most_walk: int = 1800  # seconds, at the end of the page's slider
+    speed: float = WALKING_SPEED  # metres a second
+    detour: float = DETOUR  # metres of way for a metre of straight line

@@ -47,6 +47,7 @@ def frame_of(session: ExploreSession) -> page.Frame:
         MINUTES,
         tiles=options.tiles,
         attribution=options.attribution or "",
+        pace=options.speed / options.detour,
         leaflet=options.leaflet,
         ground=session.background,
     )

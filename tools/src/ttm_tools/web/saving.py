@@ -15,7 +15,7 @@ from .live_network import Plan
 from .options import ExploreOptions
 from .point import FEED, Point, WALKS, Walk
 from .question import origin_of, window_of
-from .session_inputs import copy_generated, copy_with_point
+from .session_inputs import copy_generated, copy_with_point, with_copies
 
 STUDY, PLAN, ORIGINS = "study.toml", "plan.toml", "origins.csv"
 
@@ -39,7 +39,7 @@ def save(options: ExploreOptions, plan: Plan, columns: Sequence[str], body: Any,
             named = copy_with_point(options, aside, point, walker(point))
         elif options.generated:
             copy_generated(options, aside)
-        tables = tables_of(options, plan, aside, (window, trips))
+        tables = tables_of(with_copies(options, aside), plan, aside, (window, trips))
         if named is not None:
             tables["run"]["origins"] = ORIGINS
             with open(aside / ORIGINS, "wb") as file:

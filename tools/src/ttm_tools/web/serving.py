@@ -6,7 +6,7 @@ import webbrowser
 from typing import Any
 
 from flask import Flask
-from werkzeug.serving import WSGIRequestHandler, make_server
+from werkzeug.serving import BaseWSGIServer, WSGIRequestHandler, make_server
 
 from ..core.errors import InputError
 from .guard import HOST
@@ -38,11 +38,16 @@ def bound(port: int) -> socket.socket:
     return listening
 
 
+def server_of(app: Flask, own: socket.socket) -> BaseWSGIServer:
+    """A server at a socket, which answers requests once `serve_forever` is called."""
+    port = int(own.getsockname()[1])
+    return make_server(HOST, port, app, threaded=True, request_handler=Quiet, fd=own.fileno())
+
+
 def serve(app: Flask, own: socket.socket, opened: str | None) -> None:
     """Answers requests until a signal comes; opens an address in a browser if there is one (see `write_redirect`)."""
-    port = int(own.getsockname()[1])
     with own:
-        server = make_server(HOST, port, app, threaded=True, request_handler=Quiet, fd=own.fileno())
+        server = server_of(app, own)
         try:
             if opened is not None:
                 webbrowser.open(opened)

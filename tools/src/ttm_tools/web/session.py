@@ -154,7 +154,8 @@ class ExploreSession:
 
     def walks_from(self, plan: Plan, point: Point) -> list[Walk]:
         """The walks from a point to the stops of a network."""
-        return walks_from(point, read_stops(plan.folder), Pace(plan.walk), self.streets)
+        pace = Pace(plan.walk, self.options.speed, self.options.detour)
+        return walks_from(point, read_stops(plan.folder), pace, self.streets)
 
     def change(self, tab: str, actions: list[Values], walk: int) -> dict[str, Any]:
         """Begins the network of a tab's changes; the one that the tab has answers until then."""

@@ -62,9 +62,19 @@ def copy_generated(options: ExploreOptions, folder: Path) -> None:
     """Copies what was made into the folder of a study, which outlives the exploration."""
     if options.footpaths is not None:
         copy_file(options.footpaths, folder / WALKS)
-    if options.grid is not None:
+    if options.grid is not None or options.copied:
         with writing_to(folder / FEED):
             shutil.copytree(options.feed, folder / FEED)
+
+
+def with_copies(options: ExploreOptions, folder: Path) -> ExploreOptions:
+    """The options with copies of the opportunities in a study's folder, where they don't outlive the exploration."""
+    if not options.copied:
+        return options
+    copies = [folder / Path(path).name for path in options.opportunities]
+    for path, copy in zip(options.opportunities, copies):
+        copy_file(path, copy)
+    return replace(options, opportunities=[str(copy) for copy in copies])
 
 
 def copy_with_point(options: ExploreOptions, folder: Path, point: Point, walks: list[Walk]) -> str:

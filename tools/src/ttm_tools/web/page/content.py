@@ -119,8 +119,14 @@ def measures_of(matrix: Matrix, names: Sequence[str], sought: Sequence[str], opt
 
 def content_of(whole: Matrix, matrix: Matrix, stops: Stops, options: PageOptions) -> Content:
     """What is read for a page of a matrix, or of its points alone; access counts what lies at all stops."""
-    ground, known = ground_of(matrix, stops, options), whole.stops_and_origins()
-    counts, people = counts_of(known, options)
+    return content_with(
+        whole, ground_of(matrix, stops, options), *counts_of(whole.stops_and_origins(), options), options
+    )
+
+
+def content_with(whole: Matrix, ground: PagePlaces, counts: Counts, people: int, options: PageOptions) -> Content:
+    """The same where it is known what is counted: by stop of the whole matrix, the people last."""
+    known = whole.stops_and_origins()
     at = {name: number for number, name in enumerate(known)}
     there = counts.numbers[[at[name] for name in ground.places.identifiers]]
     whole_sums, sums = counts.numbers.sum(axis=0), counts.numbers[[at[name] for name in ground.columns]].sum(axis=0)
@@ -134,7 +140,7 @@ def content_of(whole: Matrix, matrix: Matrix, stops: Stops, options: PageOptions
     away = [name for name, is_there in zip(counts.names, reached.tolist()) if not is_there]
     hidden = [name for name, lost in zip(counts.names, (whole_sums > sums).tolist()) if lost and name not in away]
     names_sought = [name for name, is_sought in zip(counts.names, sought.tolist()) if is_sought]
-    measures = measures_of(matrix, [name for name in counts.names if name not in away], names_sought, options)
+    measures = measures_of(whole, [name for name in counts.names if name not in away], names_sought, options)
     return Content(ground, Counts(counts.names, there), people, hidden, away, measures, times)
 
 

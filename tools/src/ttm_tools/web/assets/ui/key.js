@@ -50,7 +50,8 @@ export function showKey(title, marks, counts) {
 /** What the lines on the map are. */
 export function showLinesKey(scenario) {
   const changes = CHANGED_LINES.filter((name) => scenario > 0 && numbers[`${name}-${scenario}`].length);
-  const lines = ["running", ...changes].map((name) =>
+  const running = ["running"].filter((name) => numbers[name].length); // a page made of frames has no lines
+  const lines = [...running, ...changes].map((name) =>
     made("li", [lineSwatch(table.lines[name]), made("span", table.lines[name].label)]));
   const sources = [head.lines.source, ...(head.ground === null ? [] : [head.ground.attribution])];
   fill("lines-key", ...lines, made("li", sources.join(" "), { class: "source" }));
