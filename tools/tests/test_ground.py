@@ -14,7 +14,7 @@ from ttm_tools.ground.extract import read_ground
 from ttm_tools.ground.fitting import fitted, in_page
 from ttm_tools.ground.packing import as_bytes, as_numbers, packed, read_packed, signed, unpacked, unsigned
 from ttm_tools.ground.tags import area_of, line_of, name_of
-from ttm_tools.ground.thinning import hectares_of, lengths_of, thinned
+from ttm_tools.ground.thinning import lengths_of, signed_hectares, thinned
 from ttm_tools.views.classes import TABLE, TOKENS
 from ttm_tools.web.page.document import host_of, policy_of
 
@@ -104,7 +104,8 @@ def test_points_are_left_out_where_a_line_moves_by_less_than_the_tolerance() -> 
     assert thinned(shapes).points[1].tolist() == shapes.points[2].tolist()
     assert lengths_of(shapes)[1] == pytest.approx(100, abs=1)
     ring = np.array([[0, 0], [0, 100], [200, 100], [200, 0], [0, 0]]) * METRE
-    assert hectares_of(ring) == pytest.approx(2, rel=0.02)
+    assert signed_hectares(ring) == pytest.approx(2, rel=0.02)
+    assert signed_hectares(ring[::-1]) == pytest.approx(-2, rel=0.02)
 
 
 def streets(count: int) -> Ground:

@@ -28,6 +28,15 @@ test("a ground has its shapes with a box around each, and its names", () => {
   assert.deepEqual(names, [{ kind: "city", text: "Lea", x: worldOf(0, 1)[0], y: 128 }]);
 });
 
+test("a ring around an area turns to the left, and one around a hole to the right", () => {
+  const text = new TextEncoder().encode(JSON.stringify({ unit: 10, kinds: [["park", 2, 20]], names: [] }));
+  const square = [2, 2, 0, 2, 2, 0, 0, 1, 1, 0]; // north and east: (1,1), east, north, west, south
+  const hole = [0, 0, 2, 0, 0, 2, 1, 1]; // (1,1), north, east, back
+  const bytes = new Uint8Array([text.length, 0, 0, 0, ...text, 5, 4, ...square, ...hole]);
+  const { turns } = groundOf(bytes.buffer).shapes.park;
+  assert.deepEqual([...turns].map(Math.sign), [1, -1]);
+});
+
 test("a label takes its place, else the next free spot, else none", () => {
   const labels = new Boxes(), marks = new Boxes();
   assert.deepEqual(freest(100, 100, 40, 10, 0, labels, marks, 0), [80, 95, 120, 105]);

@@ -26,8 +26,8 @@ With --grid the places are cells as well as stops, and walks begin in the middle
 With --streets walks go along streets. Such walks take at most --walk; they are computed at the start, and a saved study
 has copies of them.
 
-`ttm` keeps the network in memory and answers the page. The page sends requests to nobody else; with --tiles it asks the
-host of the tiles, too. Only this machine can send requests to it: the address has a token that changes with each start.
+`ttm` keeps the network in memory and answers the page. The page sends requests only to this server, and with --tiles to
+the host of the tiles. Only this machine can send requests to it: the address has a token that changes with each start.
 Ctrl-C ends it. Only --out is written to. Needs flask, jinja2 and pandas, with Debian's package also libjs-leaflet.
 Memory: that of a run of ttm, 100 MB, and 35 bytes for each stop time, journeys and changes included. While a changed
 network starts, `ttm` takes its memory twice."""

@@ -1,4 +1,4 @@
-"""What a ground contains: shapes by kind as rows of points on a grid of degrees, and names."""
+"""A ground: shapes by kind, as rows of points on a grid of degrees, and names."""
 
 from dataclasses import dataclass, field
 from typing import Sequence
@@ -8,7 +8,7 @@ import numpy.typing as npt
 
 from ..core.arrays import Floats
 
-UNIT = 100_000  # steps of the grid in a degree; one is 1.1 metres of latitude
+UNIT = 100_000  # steps of the grid in a degree, of 1.1 metres of latitude each
 Points = npt.NDArray[np.int64]  # latitude and longitude of each, in steps of the grid
 Counts = npt.NDArray[np.int64]
 Box = tuple[float, float, float, float]  # west, south, east and north, degrees
@@ -16,8 +16,8 @@ Box = tuple[float, float, float, float]  # west, south, east and north, degrees
 
 @dataclass(frozen=True)
 class Shapes:
-    """Lines or rings of one kind, one after the other. The rings of an area follow one another: holes after the outer
-    ring, each of which turns the other way or lies inside, so that the even-odd rule fills them.
+    """Lines or rings of one kind, one after the other. The rings of an area turn to the left, and its holes, which come
+    after the ring around them, to the right.
     """
 
     counts: Counts  # points of each
@@ -49,7 +49,7 @@ class Shapes:
 
 @dataclass(frozen=True)
 class Name:
-    """A name on the ground: where it stands, in degrees, and how much it matters among those of its kind."""
+    """A name on the ground, its place in degrees, and its weight among names of its kind."""
 
     kind: str  # one of `tags.NAMES`
     text: str
@@ -68,6 +68,6 @@ class Ground:
     attribution: str = "© OpenStreetMap contributors"
 
     def meets(self, box: Box) -> bool:
-        """Whether some of the ground lies in a box."""
+        """Whether the ground and a box overlap."""
         west, south, east, north = self.box
         return west <= box[2] and east >= box[0] and south <= box[3] and north >= box[1]

@@ -10,7 +10,7 @@ from ..core.errors import InputError, needs
 from ..core.reading import as_one_line, regular
 from .contents import UNIT, Box, Ground, Name, Shapes
 from .tags import AREAS, KEYS, LINES, area_of, line_of, name_of
-from .thinning import hectares_of, thinned
+from .thinning import signed_hectares, thinned
 
 WORLD: Box = (-180.0, -90.0, 180.0, 90.0)
 LEAST_HECTARES = {"water": 0.05, "park": 0.25}
@@ -18,7 +18,7 @@ LEAST_NAMED = {"water": 2.0, "park": 4.0}  # hectares, from which on an area's n
 
 
 class Collector:
-    """Takes objects of pyosmium one after the other, those that lie in a box at least in part."""
+    """Collects objects of pyosmium that overlap a box."""
 
     def __init__(self, box: Box) -> None:
         self.box = box
@@ -61,10 +61,11 @@ class Collector:
             return
         for outer in area.outer_rings():
             row = row_of(outer)
-            size = hectares_of(row)
+            size = abs(signed_hectares(row))
             if len(row) < 4 or size < LEAST_HECTARES[kind] or not self.is_near(row):
                 continue
-            self.rows[kind] += [row, *filter(len, map(row_of, area.inner_rings(outer)))]
+            holes = [turned(hole, False) for hole in map(row_of, area.inner_rings(outer)) if len(hole) > 3]
+            self.rows[kind] += [turned(row, True), *holes]
             if tags.get("name") and size >= LEAST_NAMED[kind] and tags.get("water") != "river":
                 self.names.append(Name(kind, tags["name"], *middle_of(row), size))
 
@@ -82,6 +83,12 @@ def row_of(nodes: Any) -> Floats:
     return np.array(places, dtype=np.float64).reshape(-1, 2)
 
 
+def turned(ring: Floats, to_left: bool) -> Floats:
+    """A ring that turns to the left, or to the right, so that areas that overlap are filled and holes are not."""
+    is_left = signed_hectares(ring) > 0
+    return ring if is_left == to_left else ring[::-1]
+
+
 def middle_of(row: Floats) -> tuple[float, float]:
     """The middle of the box around a ring, or the middle point of a line."""
     is_ring = len(row) > 3 and bool((row[0] == row[-1]).all())
@@ -90,7 +97,7 @@ def middle_of(row: Floats) -> tuple[float, float]:
 
 
 def box_of(shapes: dict[str, Shapes], limits: Box) -> Box:
-    """The box around all shapes, as far as it lies within limits."""
+    """The box around all shapes, cut at limits."""
     points = np.concatenate([some.points for some in shapes.values()]) / UNIT
     (south, west), (north, east) = points.min(axis=0).tolist(), points.max(axis=0).tolist()
     return max(west, limits[0]), max(south, limits[1]), min(east, limits[2]), min(north, limits[3])

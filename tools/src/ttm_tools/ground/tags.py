@@ -1,4 +1,4 @@
-"""What an object of OpenStreetMap is on the ground of a map, by its tags."""
+"""Kinds of objects on the ground of a map, by their tags in OpenStreetMap."""
 
 from typing import Mapping
 

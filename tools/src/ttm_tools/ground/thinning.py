@@ -38,7 +38,7 @@ def ends_of(counts: Counts) -> npt.NDArray[np.bool_]:
 
 
 def thinned(shapes: Shapes, tolerance: float = TOLERANCE) -> Shapes:
-    """Returns shapes without the points that lie within `tolerance` metres of the piece between their neighbours.
+    """Returns shapes without the points closer than `tolerance` metres to the piece between their neighbours.
 
     Each pass drops points of which no neighbour is dropped with them, the nearest first, as Visvalingam and Whyatt do;
     so a point's piece grows by steps, and a line moves by little more than the tolerance.
@@ -64,8 +64,8 @@ def lengths_of(shapes: Shapes) -> Floats:
     return np.asarray(np.bincount(owners[1:], steps, minlength=len(shapes)), dtype=np.float64)
 
 
-def hectares_of(row: Floats) -> float:
-    """The area of a ring of latitudes and longitudes, in hectares."""
+def signed_hectares(row: Floats) -> float:
+    """The area of a ring of latitudes and longitudes, in hectares; below 0 if it turns to the right."""
     north, east = in_metres(np.rint(row * UNIT).astype(np.int64)).T
     twice = np.dot(east, np.roll(north, -1)) - np.dot(north, np.roll(east, -1))
-    return abs(float(twice)) / 20_000
+    return float(twice) / 20_000

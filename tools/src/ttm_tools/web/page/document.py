@@ -145,7 +145,7 @@ class PageKind:
 
 
 def host_of(tiles: str) -> str:
-    """Returns the only host that tiles come from, as a content policy names it; `{s}` stands for any name below it."""
+    """Returns the only host that tiles come from, as a content policy names it; `{s}` becomes `*`."""
     parts = urlsplit(tiles)
     return f"{parts.scheme}://{parts.netloc.replace('{s}', '*')}"
 

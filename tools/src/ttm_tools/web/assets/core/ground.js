@@ -1,6 +1,9 @@
 // The ground of a map, as `ttm-tools ground` packs it: shapes by kind and names.
 
-/** @typedef {{ counts: Int32Array, ends: Float64Array, boxes: Float64Array }} GroundShapes */
+/** Points of each shape, where they are, the box around each, and how a ring turns: above 0 round an area, below 0 round
+ * a hole.
+ * @typedef {{ counts: Int32Array, ends: Float64Array, boxes: Float64Array, turns: Float64Array }} GroundShapes
+ */
 /** @typedef {{ kind: string, text: string, x: number, y: number }} GroundName */
 
 const SIDE = 256; // of the world on the map of zoom 0
@@ -46,7 +49,7 @@ export function groundOf(buffer) {
 /** Shapes with the box around each: west, north, east and south. @returns {GroundShapes} */
 function shapesOf(numbers, count, unit) {
   const counts = Int32Array.from(numbers.slice(0, count)), ends = new Float64Array(numbers.length - count);
-  const boxes = new Float64Array(4 * count);
+  const boxes = new Float64Array(4 * count), turns = new Float64Array(count);
   let north = 0, east = 0, from = 0;
   const stepAt = (place) => (numbers[place] % 2 ? -(numbers[place] + 1) / 2 : numbers[place] / 2);
   counts.forEach((points, shape) => {
@@ -61,9 +64,12 @@ function shapesOf(numbers, count, unit) {
       box[1] = Math.min(box[1], y);
       box[2] = Math.max(box[2], x);
       box[3] = Math.max(box[3], y);
+      if (place > from) {
+        turns[shape] += ends[2 * place - 2] * -y + x * ends[2 * place - 1];
+      }
     }
     boxes.set(box, 4 * shape);
     from += points;
   });
-  return { counts, ends, boxes };
+  return { counts, ends, boxes, turns };
 }

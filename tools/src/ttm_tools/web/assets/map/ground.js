@@ -5,6 +5,8 @@ import { table } from "../core/table.js";
 
 const CIRCLE = 40075017; // metres of the equator
 const WORLD_SIDE = 256;
+const CLOSE = 1.5; // pixels
+const POINTS_AT_ONCE = 400; // points that are painted together; far more take longer each
 
 /** Metres of a pixel in the middle of a view. */
 export function metresOf(view) {
@@ -40,43 +42,57 @@ export class GroundLayer {
     if (!shapes?.counts.length || metres > how.until) {
       return;
     }
-    pen.beginPath();
-    this.trace(pen, view, shapes, how.fill !== undefined);
     if (how.fill !== undefined) {
       pen.fillStyle = table.tokens[how.fill];
-      pen.fill("evenodd");
+      this.trace(pen, view, shapes, true, () => pen.fill());
       return;
     }
     const factor = Math.min(1.8, Math.max(0.5, Math.sqrt(table.ground.metres / metres)));
-    const widths = [[how.casing, how.edge, []], [how.width, how.colour, how.dash ?? []], [how.core, how.inner, [6, 6]]];
-    Object.assign(pen, { lineCap: how.dash || how.core ? "butt" : "round", lineJoin: "round" });
+    const widths = metres > how.thin ? [[how.hair / factor, how.edge, []]]
+      : [[how.casing, how.edge, []], [how.width, how.colour, []], [how.core, how.inner, [6, 6]]];
+    Object.assign(pen, { lineCap: how.casing ? "round" : "butt", lineJoin: how.casing ? "round" : "bevel" });
     for (const [width, colour, dash] of widths.filter(([width]) => width)) {
       pen.lineWidth = width * factor;
       pen.strokeStyle = table.tokens[colour];
       pen.setLineDash(dash);
-      pen.stroke();
+      this.trace(pen, view, shapes, false, () => pen.stroke());
     }
     pen.setLineDash([]);
     Object.assign(pen, { lineCap: "butt", lineJoin: "miter" });
   }
 
-  /** Adds the shapes that are in the view to the path of a pen. */
-  trace(pen, view, shapes, areRings) {
-    const { scale, x, y } = view, { counts, ends, boxes } = shapes;
+  /** Has the shapes that are in the view painted, some at a time. Points closer than a pixel to the one before are left
+   * out; holes are painted with the ring around them.
+   */
+  trace(pen, view, shapes, areRings, paint) {
+    const { scale, x, y } = view, { counts, ends, boxes, turns } = shapes;
     const west = x / scale, north = y / scale, east = (x + view.width) / scale, south = (y + view.height) / scale;
-    let from = 0;
+    const least = CLOSE / scale;
+    let from = 0, points = 0;
+    pen.beginPath();
     for (let shape = 0; shape < counts.length; shape++) {
       const to = from + 2 * counts[shape], box = 4 * shape;
       if (boxes[box] < east && boxes[box + 2] > west && boxes[box + 1] < south && boxes[box + 3] > north) {
-        pen.moveTo(ends[from] * scale - x, ends[from + 1] * scale - y);
+        let across = ends[from], down = ends[from + 1];
+        pen.moveTo(across * scale - x, down * scale - y);
         for (let place = from + 2; place < to; place += 2) {
-          pen.lineTo(ends[place] * scale - x, ends[place + 1] * scale - y);
+          if (place === to - 2 || Math.abs(ends[place] - across) + Math.abs(ends[place + 1] - down) > least) {
+            [across, down] = [ends[place], ends[place + 1]];
+            pen.lineTo(across * scale - x, down * scale - y);
+            points++;
+          }
         }
         if (areRings) {
           pen.closePath();
         }
       }
+      if (points > POINTS_AT_ONCE && (!areRings || turns[shape + 1] > 0)) {
+        paint();
+        pen.beginPath();
+        points = 0;
+      }
       from = to;
     }
+    paint();
   }
 }

@@ -1,4 +1,4 @@
-// Names on the ground, each at the freest spot near its place; a name without one is left out.
+// Names on the ground, each at the freest spot near its place; names without a spot are left out.
 
 import { Boxes, freest } from "../core/labels.js";
 import { table } from "../core/table.js";
