@@ -29,7 +29,7 @@ from ..places.folder import FEED, FOOTPATHS, PointsOptions, folder_of as folder_
 from ..web.guard import Guard
 from ..web.options import SHARES, ExploreOptions
 from ..web.page.document import leaflet_files
-from ..web.session import Exploration, called_at
+from ..web.session import ExploreSession, called_at
 from .frame_points import points_of
 
 if TYPE_CHECKING:
@@ -49,19 +49,19 @@ def explore(network: "Network", question: Question, places: Any, open_browser: b
 
     with contextlib.ExitStack() as parts:
         room = parts.enter_context(scratch("explore"))
-        exploration = Exploration(options_for(network, question, places, room), room)
-        parts.callback(exploration.close)
+        session = ExploreSession(options_for(network, question, places, room), room)
+        parts.callback(session.close)
         if network._state.streets is not None:
-            exploration.streets = network._state.streets[0]
+            session.streets = network._state.streets[0]
         own = parts.enter_context(bound(0))
         guard = Guard(int(own.getsockname()[1]))
-        server = server_of(application(exploration, guard), own)
+        server = server_of(application(session, guard), own)
         parts.callback(server.server_close)
         thread = threading.Thread(target=server.serve_forever, kwargs={"poll_interval": 0.1}, daemon=True)
         thread.start()
         parts.callback(thread.join)
         parts.callback(server.shutdown)
-        exploration.read_ahead()
+        session.read_ahead()
         if open_browser:
             webbrowser.open(guard.write_redirect(room / "explore.html"))
         page = ServedPage(guard.address, parts.pop_all().close)
