@@ -5,7 +5,7 @@ from typing import Iterable
 import numpy as np
 import pytest
 
-from ttm_tools.core.arrays import Seconds
+from ttm_tools.core.arrays import Floats, Seconds
 from ttm_tools.matrices.array_matrix import ArrayMatrix
 from ttm_tools.measures.access import Decay, access, completing, nearest
 from ttm_tools.measures.comparison import CUT_OFF, FASTER, NEW, SLOWER, compare
@@ -61,9 +61,9 @@ def test_a_matrix_is_measured_by_blocks_of_rows(monkeypatch: pytest.MonkeyPatch)
     monkeypatch.setattr("ttm_tools.matrices.base.CELLS_AT_ONCE", 8)
     sizes = list[int]()
 
-    def count(seconds: Seconds) -> np.ndarray:
+    def count(seconds: Seconds) -> Floats:
         sizes.append(len(seconds))
-        return np.count_nonzero(~np.isnan(seconds), axis=1)[:, None].astype(np.float64)
+        return np.asarray(np.count_nonzero(~np.isnan(seconds), axis=1)[:, None], dtype=np.float64)
 
     assert matrix.measure("base", 50, count).tolist() == [[3], [4], [1]]
     assert sizes == [2, 1]
