@@ -14,10 +14,11 @@ import pytest
 from helpers import CALENDAR, STOP_TIMES, Room
 from test_damages import damaged
 from ttm_tools.gtfs.stops import read_stops
+from ttm_tools.journeys.found import calls_of_ride
 from ttm_tools.journeys.search import Leg, Search, cell, durations, journey
 from ttm_tools.journeys.network import NEVER, Schedule
 from ttm_tools.gtfs.footpaths import read_walks
-from ttm_tools.gtfs.timetable import read_edits, read_timetable, runs_of
+from ttm_tools.gtfs.timetable import Events, read_edits, read_timetable, runs_of
 from ttm_tools.views.itineraries import parts_of
 
 ROOT = Path(__file__).resolve().parents[2]
@@ -361,3 +362,17 @@ def test_drawn_feeds_are_explained_as_ttm_counts(room: Room, program: str) -> No
         files = [str(room.folder), room.path("cut.csv"), room.path("late.csv")]
         lines = explained(room, program, *files, *ends, *some, "--footpaths", room.path("footpaths.csv"))
         assert lines[2] == "Found by a second search, in Python, which isn't proved."
+
+
+@pytest.mark.parametrize(
+    "leg, calls",
+    [
+        (Leg(7, 8, 3620, 3900, 0, 0), (3, 5)),  # from the second call at 7
+        (Leg(6, 7, 3600, 3620, 0, 0), (2, 4)),
+        (Leg(7, 7, 3540, 3620, 0, 0), (1, 4)),  # a loop
+    ],
+)
+def test_a_ride_has_the_calls_from_where_one_boards_to_where_one_alights(leg: Leg, calls: tuple[int, int]) -> None:
+    stops, times = np.array([5, 7, 6, 7, 8], np.int32), np.array([0, 0, 60, 80, 360], np.int32)
+    events = Events(np.array([0, 1, 5]), stops, times, times, *[np.ones(5, np.bool_)] * 2)
+    assert calls_of_ride(events, 1, 3540, leg) == slice(*calls)

@@ -55,8 +55,6 @@ BELONGS_TO = {
 EXCEPTIONS = {
     "compat": ("matrices", "plans"),
     "compat.r5py": ("gtfs", "journeys", "places", "prepare", "streets"),
-    "journeys.explain": ("matrices", "plans", "views"),
-    "journeys.option_checks": ("matrices", "views"),
     "places.selection": ("matrices",),
     "views.lines": ("web",),
     "views.maps": ("web",),

@@ -63,8 +63,7 @@ def test_a_matrix_is_measured_by_blocks_of_rows(monkeypatch: pytest.MonkeyPatch)
 
     def count(seconds: Seconds) -> Floats:
         sizes.append(len(seconds))
-        found: Floats = np.count_nonzero(~np.isnan(seconds), axis=1)[:, None].astype(np.float64)
-        return found
+        return np.asarray(np.count_nonzero(~np.isnan(seconds), axis=1)[:, None], dtype=np.float64)
 
     assert matrix.measure("base", 50, count).tolist() == [[3], [4], [1]]
     assert sizes == [2, 1]

@@ -14,13 +14,11 @@ from ..core.errors import ArgumentError
 from ..core.notes import Note
 from ..core.question import not_allowed, travel_seconds, window_of
 from ..core.settings import Progress
-from ..core.tables import rows
 from ..core.text import quantity
 from ..core.times import as_minute, day_of, minutes_of
 from ..engine.network import EngineNetwork
-from ..gtfs.modes import mode_of
+from ..gtfs.modes import mode_of, route_types
 from ..gtfs.route_names import routes_called
-from ..gtfs.stops import in_folder
 from ..journeys.itineraries import DepartureWindow, ItinerarySearch, Journey, LegDrawing, PlacesToSearch
 from ..matrices import open_matrix
 from .asking import (
@@ -98,8 +96,7 @@ class RouteNames:
 
     @cached_property
     def modes(self) -> dict[str, str]:
-        found = rows(in_folder(self.folder, "routes.txt"), ["route_id"], ["route_type"])
-        return {route: mode_of(int(kind.strip() or -1)) for _, (route, kind) in found}
+        return {route: mode_of(kind) for route, kind in route_types(self.folder).items()}
 
     @cached_property
     def called(self) -> dict[str, str]:

@@ -3,14 +3,14 @@ from typing import TYPE_CHECKING, Iterable, Iterator
 
 from ..core.errors import ArgumentError, InputError, needs
 from ..core.files import output
-from ..views.picture_files import write_picture
 from ..core.ranges import Range
+from ..views.picture_files import write_picture
 from .machine import add_json, give, is_json
 from .options import Parser
 
 if TYPE_CHECKING:
     from ..engine.arguments import EngineArguments
-    from ..views.journeys import ExplainOptions, Found
+    from ..journeys.found import ExplainOptions, Found
 
     Explained = tuple[ExplainOptions, list[Found]]
 
@@ -81,8 +81,8 @@ def run(args: argparse.Namespace) -> None:
     if (args.streets or args.all_options) and not is_json(args):
         raise ArgumentError("--streets and --all-options go with --json").noting(column="--json")
     needs("numpy", "pandas", *(["matplotlib"] if args.picture else []), *(["osmium", "scipy"] if args.streets else []))
-    from ..journeys.explain import all_found
-    from ..journeys.option_checks import checked_options
+    from ..api.explain import all_found
+    from ..api.option_checks import checked_options
     from ..views.departures import figure_of
     from ..views.journeys import text_of
 

@@ -1,5 +1,9 @@
 """Modes of transport by the `route_type` of a route (GTFS reference, routes.txt, and its extended types)."""
 
+from ..core.tables import rows
+from .fields import number
+from .stops import in_folder
+
 MODES = {  # by name, the route_type of the reference
     "tram": 0,
     "metro": 1,
@@ -28,6 +32,12 @@ EXTENDED = (  # route types below a number
     (1400, "aerial"),
     (1500, "funicular"),
 )
+
+
+def route_types(folder: str) -> dict[str, int]:
+    """Return the `route_type` of each route of a feed; below 0 if it is empty or no number."""
+    found = rows(in_folder(folder, "routes.txt"), ["route_id"], ["route_type"])
+    return {route: number(kind) for _, (route, kind) in found}
 
 
 def mode_of(route_type: int) -> str:

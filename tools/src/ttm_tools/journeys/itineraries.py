@@ -5,7 +5,7 @@ several departures arrive at the same time, only the last has a journey. Journey
 """
 
 import datetime
-from collections.abc import Callable, Iterator, Mapping, Sequence
+from collections.abc import Callable, Hashable, Iterator, Mapping, Sequence
 from dataclasses import dataclass, field
 from functools import cached_property
 from pathlib import Path
@@ -23,6 +23,7 @@ from ..streets.osm import Streets
 from ..streets.walks import Pace, distances, points_of
 from ..streets.ways import Ways, degrees_of
 from . import search
+from .found import calls_of_ride, last_to_arrive, ridden
 from .network import Schedule
 from .search import Leg
 
@@ -174,13 +175,13 @@ class ItinerarySearch:
             return []
         begin, end = self.places.numbers[origin], self.places.numbers[destination]
         seconds = search.durations(self.schedule, begin, end, self.departures, self.window.rides)
-        journeys = dict[tuple[tuple[int, int, int], ...], Journey]()
-        for minute, taken in last_to_arrive(seconds):
-            if taken < self.below:
+        journeys = dict[Hashable, Journey]()
+        for minute in reversed(last_to_arrive(self.departures, seconds)):
+            taken = seconds[minute]
+            if taken is not None and taken < self.below:
                 self.check(origin, destination, minute, taken)
                 legs = [leg for leg in self.legs(begin, end, minute, taken) if not self.is_change(leg)]
-                key = tuple((-1 if leg.run is None else leg.run, leg.start, leg.end) for leg in legs)
-                journeys.setdefault(key, Journey(minute, taken, legs))
+                journeys.setdefault(ridden(legs), Journey(minute, taken, legs))
         return sorted(journeys.values(), key=lambda journey: journey.minute)
 
     def legs(self, begin: int, end: int, minute: int, taken: int) -> list[Leg]:
@@ -202,16 +203,6 @@ class ItinerarySearch:
         if np.isnan(expected) or int(expected) != taken:
             text = f"at {as_minute(of_day)}: ttm has {expected} seconds, and this search {taken}"
             raise InputError("the travel times differ", text)
-
-
-def last_to_arrive(seconds: list[int | None]) -> Iterator[tuple[int, int]]:
-    """Yield the last of the departures that arrive at the same time, with its duration; the last departure first."""
-    before = None
-    for minute in reversed(range(len(seconds))):
-        taken = seconds[minute]
-        if taken is not None and 60 * minute + taken != before:
-            before = 60 * minute + taken
-            yield minute, taken
 
 
 @dataclass(frozen=True)
@@ -292,11 +283,8 @@ class LegDrawing:
         """Return the stops of a ride, with both ends."""
         assert leg.run is not None
         runs, events = self.found.runs, self.found.places.timetable.events
-        trip, shift = int(runs.trip[leg.run]), int(runs.shift[leg.run])
-        own = np.arange(events.begins[trip], events.begins[trip + 1])
-        begin = own[(events.stop[own] == leg.start) & (events.depart[own] + shift == leg.begin)][0]
-        ends = own[(events.stop[own] == leg.end) & (events.arrive[own] + shift == leg.finish) & (own > begin)]
-        called = [self.found.places.boards.get(stop, stop) for stop in events.stop[begin : ends[0] + 1].tolist()]
+        calls = calls_of_ride(events, int(runs.trip[leg.run]), int(runs.shift[leg.run]), leg)
+        called = [self.found.places.boards.get(stop, stop) for stop in events.stop[calls].tolist()]
         return [stop for stop, before in zip(called, [-1, *called]) if stop != before]
 
     def legs_of(self, journey: Journey) -> Iterator[DrawnLeg]:

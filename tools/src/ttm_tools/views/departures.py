@@ -5,7 +5,7 @@ from typing import Any, Sequence
 import numpy as np
 
 from ..core.text import display_text
-from .journeys import ExplainOptions, Found
+from ..journeys.found import ExplainOptions, Found
 from .texts import figure_with, without_mathtext
 
 COLOURS = ("#332288", "#cc6677", "#117733", "#88ccee", "#aa4499", "#ddcc77")

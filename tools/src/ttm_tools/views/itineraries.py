@@ -5,8 +5,8 @@ from typing import Iterator, Sequence
 
 from ..core.columns import JOURNEYS
 from ..core.text import display_text
+from ..journeys.found import ExplainOptions, Found
 from ..journeys.search import Leg
-from .journeys import ExplainOptions, Found
 
 
 @dataclass

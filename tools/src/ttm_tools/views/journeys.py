@@ -1,57 +1,15 @@
 """What is shown of journeys: leg by leg, scenarios side by side, and a table of all departures."""
 
 import itertools
-from dataclasses import dataclass
 from typing import Iterator, Mapping, Sequence
 
 from ..core.text import display_text, quantity
-from ..core.times import as_clock
 from ..gtfs.route_names import routes_called
 from ..gtfs.stops import has_file
-from ..gtfs.timetable import DAY, Runs, Timetable
+from ..journeys.found import ExplainOptions, Found
 from ..journeys.search import Leg
 
 GAP = "   "
-
-
-@dataclass(frozen=True)
-class Option:
-    """A journey that some departure has."""
-
-    departure: int  # seconds on the axis
-    seconds: int
-    legs: list[Leg]
-
-
-@dataclass(frozen=True)
-class Found:
-    name: str
-    cell: int | None  # seconds; None where too few departures get there
-    durations: list[int | None]  # for each departure
-    chosen: int | None  # the place of the departure whose duration the cell is
-    legs: list[Leg]
-    runs: Runs
-    options: Sequence[Option] = ()  # the journey of the cell, or each that is the fastest of some departure
-
-
-@dataclass(frozen=True)
-class ExplainOptions:
-    timetable: Timetable
-    origin: int
-    destination: int
-    departures: list[int]  # seconds on the axis
-    back: int  # days before the date, with which the axis begins
-    share: int  # percent
-    arguments: str  # the other arguments
-
-    def clock(self, seconds: int) -> str:
-        """A time on the axis, by the clock of the date."""
-        seconds_of_day = seconds - DAY * self.back
-        sign, seconds_of_day = ("-", -seconds_of_day) if seconds_of_day < 0 else ("", seconds_of_day)
-        return f"{sign}{as_clock(seconds_of_day)}"
-
-    def stop(self, place: int) -> str:
-        return self.timetable.all_stops.name_of(self.timetable.stops[place])
 
 
 def span(seconds: int) -> str:

@@ -7,19 +7,16 @@ from typing import Iterable, Iterator, Sequence
 import numpy as np
 
 from ..core.arrays import Floats
-from ..core.tables import rows
-from ..gtfs.fields import number
-from ..gtfs.modes import WALK, mode_named
+from ..gtfs.modes import WALK, mode_named, route_types
 from ..gtfs.route_names import routes_called
 from ..gtfs.shape_parts import Shapes, read_shapes
-from ..gtfs.stops import in_folder
 from ..gtfs.timetable import DAY, Runs, Timetable
+from ..journeys.found import ExplainOptions, Found, Option, calls_of_ride
 from ..journeys.search import Leg
+from ..streets.osm import Streets
 from ..streets.straight import Pace, distances, points_of
 from ..streets.walks import NEAR
-from ..streets.osm import Streets
 from ..streets.ways import Ways, degrees_of
-from .journeys import ExplainOptions, Found, Option
 
 DECIMALS = 6  # of degrees, some tenths of a metre
 LONGER = 2.0  # a drawn walk takes at most this multiple of its seconds, at the default speed
@@ -56,8 +53,7 @@ class JourneyValues:
     @cached_property
     def modes(self) -> dict[str, str | None]:
         """The mode of each route; None where its route_type has none."""
-        types = rows(in_folder(self.timetable.folder, "routes.txt"), ["route_id"], ["route_type"])
-        return {route: mode_named(number(kind.strip(" "))) for _, (route, kind) in types}
+        return {route: mode_named(kind) for route, kind in route_types(self.timetable.folder).items()}
 
     def journeys(self) -> Iterator[Journey]:
         """Each journey of each pair and scenario; one without a departure if too few departures get there."""
@@ -128,11 +124,8 @@ class JourneyValues:
     def ride_line(self, runs: Runs, leg: Leg) -> tuple[Floats | None, float]:
         """The line of a ride, along its shape or from stop to stop, and its metres; None without coordinates."""
         assert leg.run is not None
-        trip, shift, events = int(runs.trip[leg.run]), int(runs.shift[leg.run]), self.timetable.events
-        own = np.arange(events.begins[trip], events.begins[trip + 1])
-        begin = own[(events.stop[own] == leg.start) & (events.depart[own] + shift == leg.begin)][0]
-        ends = own[(events.stop[own] == leg.end) & (events.arrive[own] + shift == leg.finish) & (own > begin)]
-        stops = self.degrees[events.stop[begin : ends[0] + 1]]
+        trip, events = int(runs.trip[leg.run]), self.timetable.events
+        stops = self.degrees[events.stop[calls_of_ride(events, trip, int(runs.shift[leg.run]), leg)]]
         if np.isnan(stops[[0, -1]]).any():
             return None, 0.0
         stops = stops[~np.isnan(stops[:, 0])]

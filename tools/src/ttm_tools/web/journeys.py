@@ -8,10 +8,10 @@ from ..core.errors import ArgumentError
 from ..core.text import display_text
 from ..engine.arguments import EngineArguments
 from ..gtfs.timetable import DAY, Runs, Timetable, read_edits, runs_of
-from ..journeys.explain import describe_question, found_by, refuse_difference
+from ..journeys.found import ExplainOptions, Found, calls_of_ride, describe_question, found_by, refuse_difference
 from ..journeys.network import Schedule
 from ..journeys.search import Leg
-from ..views.journeys import ExplainOptions, Found, names_of_routes
+from ..views.journeys import names_of_routes
 from .live_network import LiveNetwork
 from .memory import give_back
 from .options import ExploreOptions
@@ -110,13 +110,10 @@ class Shown:
             return fields
         ran = run_of(self.parts, leg.run)
         events, route = ran.timetable.events, ran.timetable.routes[ran.trip]
-        own = slice(events.begins[ran.trip], events.begins[ran.trip + 1])
-        calls = zip(*(column[own].tolist() for column in (events.stop, events.depart, events.arrive)))
-        first, last = leg.begin - ran.shift, leg.finish - ran.shift  # on the clock of the trip
-        on = [stop for stop, depart, arrive in calls if first <= depart and arrive <= last]
         fields |= {
             "route": self.routes.get(route, display_text(route)),
             "trip": display_text(ran.timetable.trips[ran.trip]),
         }
         fields |= {"change": leg.change, "wait": leg.begin - time - leg.change}
-        return {**fields, "via": [self.places[stop] for stop in on]}
+        called = events.stop[calls_of_ride(events, ran.trip, ran.shift, leg)].tolist()
+        return {**fields, "via": [self.places[stop] for stop in called]}

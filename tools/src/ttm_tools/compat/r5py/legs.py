@@ -7,6 +7,8 @@ from typing import Any
 from shapely.geometry import LineString
 
 from ...core.tables import rows
+from ...gtfs.modes import route_types
+from ...gtfs.stops import in_folder
 from ...gtfs.timetable import Timetable
 from ...journeys.itineraries import DrawnLeg
 from .modes import TransportMode, mode_of
@@ -16,8 +18,9 @@ Row = dict[str, Any]
 
 def routes_of(folder: str) -> dict[str, tuple[str | None, TransportMode | None]]:
     """Of each route of a feed its agency and its mode."""
-    found = rows(f"{folder}/routes.txt", ["route_id"], ["agency_id", "route_type"])
-    return {route: (agency or None, mode_of(int(kind.strip() or -1))) for _, (route, agency, kind) in found}
+    kinds = route_types(folder)
+    found = rows(in_folder(folder, "routes.txt"), ["route_id"], ["agency_id"])
+    return {route: (agency or None, mode_of(kinds[route])) for _, (route, agency) in found}
 
 
 class LegRows:

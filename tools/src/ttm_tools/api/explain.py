@@ -1,13 +1,13 @@
-"""The journey behind a cell, compared with the travel time of `ttm`: if they differ, an error says so."""
+"""The journeys behind cells of a matrix, compared with the travel times of `ttm`: an error says where they differ."""
 
 import contextlib
 import datetime
 import functools
 import math
 import os
+from collections.abc import Iterator, Sequence
 from dataclasses import replace
 from pathlib import Path
-from typing import Iterator, Sequence
 
 from ..core.arrays import Whole
 from ..core.console import say
@@ -15,6 +15,7 @@ from ..core.errors import InputError
 from ..core.folders import scratch
 from ..core.progress import reported
 from ..core.reading import regular
+from ..core.scenarios import BASE, TODAY
 from ..core.tables import RoundingCounter
 from ..core.text import display_text
 from ..core.times import minutes_of
@@ -25,11 +26,13 @@ from ..engine.process import EngineProcess
 from ..gtfs.footpaths import Footpaths, read_walks
 from ..gtfs.stops import Stops, read_stops
 from ..gtfs.timetable import DAY, Timetable, read_edits, read_timetable, runs_of
-from ..matrices import BASE, Matrix, TODAY, open_matrix
+from ..journeys.found import ExplainOptions, Found, describe_question, found_by, refuse_difference
+from ..journeys.network import Schedule
+from ..matrices import Matrix, open_matrix
 from ..plans.nearness import nearer_by_plan
-from ..views.journeys import ExplainOptions, Found, Option
-from .network import Schedule
-from .search import Search, cell, durations, journey
+
+TimesByScenario = dict[str, int | None]  # a travel time for each scenario, seconds; None where there is none
+Pairs = Sequence[tuple[str, str]]  # origins and destinations
 
 
 def all_found(
@@ -80,17 +83,6 @@ def scenarios_of(files: Sequence[Pathlike]) -> dict[str, str | None]:
     paths: dict[str, str | None] = {BASE: None}
     paths |= {Path(path).name.removesuffix(".csv"): str(path) for path in files}
     return {name: path for name, path in paths.items() if name != BASE or TODAY not in paths}
-
-
-def describe_question(task: EngineArguments, date: datetime.date) -> str:
-    """The date, days, departures and limits of a search."""
-    days = f"service days: {task.back} before and {task.ahead} after"
-    limits = f"at most {task.trips} rides, walks up to {task.walk} seconds"
-    return f"{date:%Y-%m-%d}, {days}; departures {task.window[0]} to {task.window[1]}, {limits}"
-
-
-TimesByScenario = dict[str, int | None]  # a travel time for each scenario, seconds; None where there is none
-Pairs = Sequence[tuple[str, str]]  # origins and destinations
 
 
 def read_both(
@@ -149,48 +141,3 @@ def cells_of(matrix: Matrix, names: Sequence[str], share: int, pairs: Pairs) -> 
         found = {name: float(matrix.seconds(matrix.scenario(name), chosen, origin)[place]) for name in names}
         cells[origin, destination] = {name: None if math.isnan(cell) else int(cell) for name, cell in found.items()}
     return cells
-
-
-def found_by(what: ExplainOptions, name: str, trips: int, schedule: Schedule, all_options: bool = False) -> Found:
-    """What this search finds among the runs of a schedule."""
-    times = durations(schedule, what.origin, what.destination, what.departures, trips)
-    seconds = cell(times, what.share)
-    chosen = None if seconds is None else times.index(seconds)
-    options = [] if chosen is None else [option_of(what, chosen, times, trips, schedule)]
-    legs = options[0].legs if options else []
-    if all_options:
-        last = last_to_arrive(what.departures, times)
-        options = different([option_of(what, place, times, trips, schedule) for place in last])
-    return Found(name, seconds, times, chosen, legs, schedule.runs, options)
-
-
-def option_of(what: ExplainOptions, place: int, times: Sequence[int | None], trips: int, schedule: Schedule) -> Option:
-    """The journey of a departure, which gets there."""
-    departure, seconds = what.departures[place], times[place]
-    assert seconds is not None
-    search = Search(schedule.within(departure, departure + seconds), what.origin, departure, trips)
-    return Option(departure, seconds, journey(search, what.destination))
-
-
-def last_to_arrive(departures: Sequence[int], times: Sequence[int | None]) -> list[int]:
-    """Of the departures that arrive at the same time the place of the last one, in order."""
-    there = ((place, taken) for place, taken in enumerate(times) if taken is not None)
-    return sorted({departures[place] + taken: place for place, taken in there}.values())
-
-
-def different(options: Sequence[Option]) -> list[Option]:
-    """Options without those by the same vehicles, or on the same walk, as an earlier one."""
-    keys = [tuple((leg.run, leg.start, leg.end) for leg in option.legs) for option in options]
-    return [option for place, option in enumerate(options) if keys[place] not in keys[:place]]
-
-
-def refuse_difference(
-    name: str, own: int | None, seconds: int | None, origin: str, destination: str, at: str = ""
-) -> None:
-    """The fault where `ttm` has another travel time in a scenario."""
-    if own != seconds:
-        one, other = ("none" if value is None else f"{value} seconds" for value in (seconds, own))
-        ends = f"from {display_text(origin)} to {display_text(destination)}{at}, {display_text(name)}"
-        raise InputError(
-            "the travel times differ", f"{ends}: ttm has {one}, and this search, which isn't proved, has {other}"
-        )

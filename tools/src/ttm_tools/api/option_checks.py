@@ -7,7 +7,7 @@ departure of its own, and `ttm --ask` answers a question for each of these depar
 import contextlib
 from dataclasses import replace
 from pathlib import Path
-from typing import Iterator
+from collections.abc import Iterator
 
 from ..core.folders import scratch
 from ..core.tables import RoundingCounter
@@ -17,9 +17,9 @@ from ..engine.inputs import write_inputs
 from ..engine.pool import ask_command
 from ..engine.refusals import EngineError
 from ..gtfs.timetable import DAY
+from ..journeys.found import ExplainOptions, Found, refuse_difference
 from ..matrices import Matrix, open_matrix
-from ..views.journeys import ExplainOptions, Found
-from .explain import Pairs, cells_of, refuse_difference
+from .explain import Pairs, cells_of
 
 EVERY = 100  # the percentile of a window of one departure
 
