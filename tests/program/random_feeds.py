@@ -184,10 +184,14 @@ class Drawn:
             ]
         return ["remove_route", self.random.choice(self.routes), ""]
 
-    def words(self, folder: Path) -> list[str]:
+    def words(self, folder: Path, minutes: int | None = None) -> list[str]:
+        """The options of a run over the files in a folder; with a window of this length, or a drawn one."""
         # windows of one batch of 16 or 32 departures, of one more departure, and of several batches
         first = self.any_of(0, 7 * 60, 7 * 60 + 50, 8 * 60, 8 * 60, 23 * 60)
         last = min(first + self.any_of(0, 0, 0, 1, 15, 16, 31, 32, 64), 24 * 60 - 1)
+        if minutes is not None:
+            first = min(first, 24 * 60 - minutes)
+            last = first + minutes - 1
         options: dict[str, object] = {
             "feed": folder,
             "date": DATE.strftime("%Y%m%d"),

@@ -1,5 +1,5 @@
 -- A row's cells are columns of the row that has all stops, and so a matrix has columns of the one that has them.
-use Rattle.std.proofs.Common.{◌≡◌, ◌<◌, ◌+◌, ◌*◌, ◌/◌, ◌%◌, ℕ, List, [], ◌∷◌, Option, None, Some, length, get_or, map}
+use Rattle.std.proofs.Common.{◌≡◌, ◌<◌, ◌+◌, ◌*◌, ◌/◌, ◌%◌, ℕ, List, [], ◌∷◌, Option, None, length, get_or, map}
 use Rattle.std.proofs.Common.{refl, sym, ap, ◌∙◌, subst, arith}
 use Rattle.std.specs.List.{All, AllZip, range_with_len, slice_get}
 use Rattle.std.proofs.lemmas.List.{ext_get_or, get_or-map, length-map, same_lists}

@@ -1,5 +1,6 @@
 pub mod Shares
 pub mod WholeRows
+pub mod FoundRows
 pub mod SeatSteps
 pub mod KnowledgeGrows
 mod NextJob

@@ -10,8 +10,7 @@ use Rattle.rounds.specs.Table.{DurationTable}
 use Rattle.shares.specs.Percentiles.{AreCells, AreCellsAt}
 use Rattle.shares.proofs.CellsUnique.{cell_unique}
 use Rattle.collector.specs.Row.{CellsData}
-use Rattle.workers.specs.Study.{StudyData}
-use Rattle.workers.specs.Rows.{at_stops, AreDurationsOf, AreOfShares, IsRowOf}
+use Rattle.workers.specs.Rows.{at_stops}
 
 module _ {A B : Type 0} (R : A → B → Type 0) where
   pub zip_length : (xs : List A) (ys : List B) → AllZip R xs ys → length xs ≡ length ys
@@ -68,18 +67,3 @@ mapped_next f xs k low =
     let step : k + 1 ≡ suc k = omega arith in
     ap (λ (n : ℕ). map f (take n xs)) step ∙ ap (λ (l : List ℕ). map f l) (take-suc xs k 0 low)
     ∙ map-append f (take k xs) (get_or xs k 0 ∷ [])
-
--- what each share gives makes the row of a scenario and an origin
-pub row_is : (s : StudyData) (scenario origin : ℕ) (times : DurationTable) (shares : List CellsData) →
-    AreDurationsOf s scenario origin times → AreOfShares times s shares
-    → IsRowOf s scenario origin (record { study = s.number; scenario = scenario; origin = origin; shares = shares })
-row_is s scenario origin times shares of given = record {
-  study_is = refl;
-  scenario_is = refl;
-  origin_is = refl;
-  network = of.network;
-  stop = of.stop;
-  network_is = of.network_is;
-  stop_is = of.stop_is;
-  is_row = record { times = times; durations = of.durations; shares_are = given };
-}

@@ -1,12 +1,9 @@
 -- Each row of a study that fits has a cell per destination and a sum per limit for each share.
-use Rattle.std.proofs.Common.{◌≡◌, ◌<◌, ℕ, true, None, Some, length, get_or, sym, ap, ◌∙◌, subst}
-use Rattle.std.specs.List.{slice_get}
+use Rattle.std.proofs.Common.{◌≡◌, ◌<◌, ℕ, true, None, length, get_or, sym, ap, ◌∙◌, subst}
 use Rattle.std.proofs.lemmas.List.{length-map}
 use Rattle.std.proofs.lemmas.List.Sums.{list_all-from_AllPass}
-use Rattle.std.proofs.lemmas.Option.{slice_get_within, get_or_from_slice_get}
 use Rattle.std.proofs.lemmas.Bool.{and_from, eq-eqb}
 use Rattle.timetable.specs.declared.trips.StopNo.{StopNo}
-use Rattle.timetable.specs.Networks.{Net}
 use Rattle.shares.specs.Opportunities.{access_of}
 use Rattle.collector.specs.Row.{CellsData, RowData}
 use Rattle.collector.specs.Places.{PlacesData}
@@ -16,13 +13,6 @@ use Rattle.workers.specs.Rows.{IsOfShare, IsRowOf}
 use Rattle.workers.specs.Matrices.{HasAllCells}
 use Rattle.workers.specs.Jobs.{ArePlaces}
 use Rattle.workers.proofs.Shares.{zip_length, zip_at}
-
--- each network has as many stops as there are opportunities
-pub stops_of : (s : StudyData) (k : ℕ) (n : Net) → StudyFits s → slice_get s.networks k ≡ Some n →
-    n.stops ≡ length s.opportunities
-stops_of s k n fits at =
-    subst (λ (m : Net). m.stops ≡ length s.opportunities) (get_or_from_slice_get s.networks k n n at)
-    (fits.stops k n (slice_get_within s.networks k n at))
 
 -- a row has as many cells as there are destinations, for each share
 pub cells_of : (s : StudyData) (scenario origin : ℕ) (row : RowData) → StudyFits s → IsRowOf s scenario origin row

@@ -1,5 +1,6 @@
 pub mod Study
 pub mod Rows
+pub mod FoundRows
 pub mod Matrices
 pub mod Jobs
 pub mod Plain

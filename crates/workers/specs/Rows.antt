@@ -12,14 +12,6 @@ use Rattle.shares.specs.Opportunities.{access_of}
 use Rattle.collector.specs.Row.{CellsData, RowData}
 use Rattle.workers.specs.Study.{Query, StudyData}
 
--- the durations from a study's origin over the network of its scenario, both by their positions
-pub record AreDurationsOf (s : StudyData) (scenario origin : ℕ) (times : DurationTable) : Type 0 where
-  pub network : Net
-  pub stop : StopNo
-  pub network_is : slice_get s.networks scenario ≡ Some network
-  pub stop_is : slice_get s.origins origin ≡ Some stop
-  pub durations : AreDurations network stop.0 s.query.window s.query.rides times
-
 -- the access of some cells for each limit, in the limits' order
 abbrev pub sums_of : List (Option ℕ) → List ℕ → List ℕ → List ℕ
 sums_of cells opportunities limits = map (λ limit. access_of cells opportunities limit) limits

@@ -3,10 +3,9 @@ ghost use Rattle.std.specs.Prelude.{◌≡◌, ◌<◌, IfOk};
 ghost use Rattle.workers.specs.Study.{study_of, StudyFits};
 ghost use Rattle.workers.specs.Jobs.{jobs_of, IsRowOfJob, places_without_rows};
 
-use crate::rows::row_with;
+use crate::rows::{RowBuffers, row_with};
 use crate::study::Study;
 use collector::{Collector, Row};
-use rounds::Search;
 use std::alloc::{AllocError, Global};
 
 /// The places of a study, without a row yet.
@@ -33,7 +32,7 @@ pub(crate) fn empty_places(alloc: Global, study: &Study) -> Result<Collector, Al
 /// The row of a job.
 pub(crate) fn row_of_job(
     alloc: Global,
-    search: &mut Search,
+    buffers: &mut RowBuffers,
     study: &Study,
     job: u32,
 ) -> Result<Row, AllocError>
@@ -42,5 +41,5 @@ pub(crate) fn row_of_job(
     ensures { IfOk result (λ row. IsRowOfJob (study_of study.now) job row) }
 {
     let origins = study.origins.len() as u32;
-    row_with(alloc, search, study, job / origins, job % origins)
+    row_with(alloc, buffers, study, job / origins, job % origins)
 }

@@ -2,7 +2,8 @@
 //! rows. A study asks for one row per scenario and origin; each row depends on its own scenario's network alone.
 //!
 //! - `study`: [`Study`], what is asked for, and the limits within which it fits.
-//! - `rows`: the row of one scenario and origin; `jobs`: one job for each.
+//! - `rows`: the row of one scenario and origin, computed from narrow labels if a search leaves them, else from
+//!   durations. `jobs`: one job for each.
 //! - `run`: [`run_workers`], the matrix, by workers in threads of their own that share a board of jobs.
 //! - `worker`, `task`, `threads`: what one worker does, what it promises of its rows, and how workers start and end.
 //! - `gates`: [`Gate`], which decides what becomes of a worker's lease, and [`Open`], which lets each be worked at.
@@ -14,8 +15,8 @@
 //! - [`row_of`], [`Study::fits`], [`shares_fit`] and [`limits_fit`]: doors for other programs.
 //! - `laws`: what follows for rows and matrices, as that a study has one matrix.
 //!
-//! What a row and a matrix are stands in `specs/` (`Rows`, `Matrices`); what a worker promises, in `Held`; and what a
-//! run of workers ends with, in `Outcomes`.
+//! In `specs/`, `Rows` and `Matrices` define a row and a matrix, and `FoundRows` the shares of a row by what a search
+//! found. `Held` has what a worker promises, and `Outcomes` what a run of workers ends with.
 #![tactic(auto)]
 
 mod faults;

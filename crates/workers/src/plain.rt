@@ -9,9 +9,9 @@ ghost use Rattle.workers.specs.Plain.{DoesJob, HasNoJob, IsUnderWay};
 
 use crate::faults::RunFault;
 use crate::jobs::{empty_places, row_of_job};
+use crate::rows::RowBuffers;
 use crate::study::Study;
 use collector::{Collector, Matrix};
-use rounds::Search;
 use std::alloc::{AllocError, Global};
 use work_book::{Answer, Book};
 
@@ -53,7 +53,7 @@ fn filled(alloc: Global, study: &Study) -> Result<Collector, AllocError>
     Ok(collector)
 }
 
-/// Does the jobs that are left, all of them with one search.
+/// Does the jobs that are left, all of them with the same buffers.
 fn do_all_jobs(
     alloc: Global,
     study: &Study,
@@ -64,8 +64,8 @@ fn do_all_jobs(
     requires way { IsUnderWay (study_of study.now) book.old collector.old }
     ensures { OnOk result (AreFilled (study_of study.now) collector.new) }
 {
-    let mut search = Search::new(alloc);
-    while do_next_job(alloc, &mut search, study, book, collector)? {}
+    let mut buffers = RowBuffers::new(alloc);
+    while do_next_job(alloc, &mut buffers, study, book, collector)? {}
     Ok(())
 }
 
@@ -73,7 +73,7 @@ fn do_all_jobs(
 /// is left.
 fn do_next_job(
     alloc: Global,
-    search: &mut Search,
+    buffers: &mut RowBuffers,
     study: &Study,
     book: &mut Book,
     collector: &mut Collector,
@@ -88,7 +88,7 @@ fn do_next_job(
     let Answer::Lease(lease) = book.draw(0)? else {
         return Ok(false);
     };
-    let row = row_of_job(alloc, search, study, lease.job)?;
+    let row = row_of_job(alloc, buffers, study, lease.job)?;
     if let Answer::Kept = book.settle(0, lease.number)? {
         collector.offer(row);
     }

@@ -9,9 +9,9 @@ ghost use Rattle.workers.specs.Held.{AreTold, DoesAs, HoldsMore, HoldsRows, IsHe
 
 use crate::gates::{Gate, Verdict};
 use crate::jobs::row_of_job;
+use crate::rows::RowBuffers;
 use crate::study::Study;
 use collector::Row;
-use rounds::Search;
 use std::alloc::{AllocError, Global};
 use work_book::{Board, Draw, Lease, Settled, WorkSeat};
 
@@ -48,15 +48,15 @@ pub(crate) enum Next {
     End(Ending),
 }
 
-/// What a worker has in hand: a search for all its rows, its seat, and the rows that it holds.
+/// The buffers that serve all rows of a worker, its seat, and the rows that it holds.
 #[derive(Drop)]
 struct Hands {
-    search: Search,
+    buffers: RowBuffers,
     seat: WorkSeat,
     rows: Vec<Row>,
 }
 
-/// Draws leases until there is none, and does with each what the gate says, all with one search.
+/// Draws leases until there is none, and does with each what the gate says, all with the same buffers.
 pub(crate) fn work<G: Gate>(
     alloc: Global,
     study: &Study,
@@ -72,7 +72,7 @@ pub(crate) fn work<G: Gate>(
     ensures { WorkedFor board.now (study_of study.now) (G.decides gate.now) (G.was_told gate.now) result }
 {
     let mut hands = Hands {
-        search: Search::new(alloc),
+        buffers: RowBuffers::new(alloc),
         seat,
         rows: Vec::new(alloc),
     };
@@ -102,8 +102,12 @@ pub(crate) fn unstarted(alloc: Global, seat: WorkSeat) -> Worked
 fn given_back(hands: Hands, ending: Ending) -> Worked
     ensures { result ≡ record { seat = hands.seat; rows = hands.rows; ending = ending } }
 {
-    let Hands { search, seat, rows } = hands;
-    drop(search);
+    let Hands {
+        buffers,
+        seat,
+        rows,
+    } = hands;
+    drop(buffers);
     Worked { seat, rows, ending }
 }
 
@@ -205,7 +209,7 @@ fn settle_once<G: Gate>(
     ensures known { KnowsAsMuch (seen_by hands.old.seat) (seen_by hands.new.seat) }
     ensures settled { IfOk result (λ _. knows (seen_by hands.new.seat) lease.job ≡ true) }
 {
-    let row = row_of_job(alloc, &mut hands.search, study, lease.job)?;
+    let row = row_of_job(alloc, &mut hands.buffers, study, lease.job)?;
     hands.rows.reserve(1)?;
     let settled = board.settle(&mut hands.seat, lease);
     gate.after(&lease, settled);
@@ -249,8 +253,8 @@ fn settle_twice<G: Gate>(
     ensures known { KnowsAsMuch (seen_by hands.old.seat) (seen_by hands.new.seat) }
     ensures settled { IfOk result (λ _. knows (seen_by hands.new.seat) lease.job ≡ true) }
 {
-    let row = row_of_job(alloc, &mut hands.search, study, lease.job)?;
-    let again = row_of_job(alloc, &mut hands.search, study, lease.job)?;
+    let row = row_of_job(alloc, &mut hands.buffers, study, lease.job)?;
+    let again = row_of_job(alloc, &mut hands.buffers, study, lease.job)?;
     hands.rows.reserve(2)?;
     let first = board.settle(&mut hands.seat, lease);
     gate.after(&lease, first);

@@ -2,12 +2,12 @@ use Rattle.workers.specs.Study.{study_of}
 use Rattle.workers.proofs.NextJob.{done, all_done}
 use Rattle.workers.proofs.plain.do_all_jobs.Goals as goal
 
-pub loop-search-preserved : goal.loop-search-preserved
-loop-search-preserved c =
-    done (study_of c.args.study.now) _ _ _ _ c.requires.fits c.loop-search.invariant
+pub loop-buffers-preserved : goal.loop-buffers-preserved
+loop-buffers-preserved c =
+    done (study_of c.args.study.now) _ _ _ _ c.requires.fits c.loop-buffers.invariant
     (c.in_ok-do_next_job.ensures.done c.if-branch.true)
 
 pub returns : goal.returns
 returns c =
-    all_done (study_of c.args.study.now) _ _ _ _ c.loop-search.invariant
+    all_done (study_of c.args.study.now) _ _ _ _ c.loop-buffers.invariant
     (c.in_ok-do_next_job.ensures.none c.if-branch.false)
