@@ -239,8 +239,8 @@ def test_the_methods_of_a_router_agree(room: Room, seed: int) -> None:
     assert np.isfinite(seconds).any() and np.isnan(seconds).any()
     is_origin = np.arange(30) < origins
     metres = np.full((30, 30), np.inf)
-    for begin, end, length in router.walks(Endpoints(is_origin, ~is_origin)):
-        metres[begin, end] = length
+    for begins, ends, lengths in router.walks(Endpoints(is_origin, ~is_origin)):
+        metres[begins, ends] = lengths
     for origin in range(origins):
         left = np.full(30, -1.0)
         left[origin] = router.limit
