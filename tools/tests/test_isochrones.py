@@ -160,18 +160,19 @@ def test_one_walks_on_along_streets(town: Town) -> None:
 def test_from_the_place_where_most_is_left_one_comes_furthest() -> None:
     pytest.importorskip("scipy")
     from ttm_tools.streets.osm import Streets
-    from ttm_tools.streets.reach import reach_of
-    from ttm_tools.streets.straight import Pace
+    from ttm_tools.streets.router import Router
+    from ttm_tools.streets.straight import Pace, points_of
+    from ttm_tools.streets.strips import pieces
 
     # a street of two pieces of 1,000 m along the equator, a way for both directions, with places at 0, 300 and 1,000 m
     ways = (np.array([0, 1]), np.array([1, 2]), np.array([True, True]), np.array([True, True]))
     streets = Streets("", np.zeros(3), np.array([0.0, 1000, 2000]) * METRE, *ways)
     places = np.array([0.0, 300, 1000]) * METRE
-    reach = reach_of(streets, np.array([0.0, 0, 10 * METRE]), places, Pace(600, 1, 1), 100)
-    found = reach.pieces(np.array([400.0, 50, -1])) / METRE
+    router = Router(streets, points_of(np.array([0.0, 0, 10 * METRE]), places), Pace(600, 1, 1), 100)
+    found = pieces(router, np.array([400.0, 50, -1])) / METRE
     # 400 m from the first; the second, of which 50 m were left, adds nothing, since the first leaves 100 m there
     assert (found[:, [0, 2]].min(), round(found[:, [0, 2]].max(), 3)) == (0, 400)
-    found = reach.pieces(np.array([-1.0, 50, 260])) / METRE
+    found = pieces(router, np.array([-1.0, 50, 260])) / METRE
     # from the second 50 m both ways; from the third, 10 m beside the street, 250 m both ways
     lengths = sorted({(round(min(item)), round(max(item))) for item in found[:, [0, 2]].tolist()})
     assert lengths == [(250, 300), (300, 350), (750, 1000), (1000, 1250)]
@@ -206,7 +207,7 @@ def test_bands_of_decimals_are_whole_seconds_as_cutoffs_are(town: Town) -> None:
 
 
 def test_many_streets_take_seconds(monkeypatch: pytest.MonkeyPatch) -> None:
-    from ttm_tools.streets.reach import strip
+    from ttm_tools.streets.strips import strip
 
     # 21 streets of 2 km from west to east and as many from south to north, each 100 m, in pieces both ways
     ends = [(x, y, x + 0.1, y) for x in np.arange(20) / 10 for y in np.arange(21) / 10]
@@ -221,7 +222,7 @@ def test_many_streets_take_seconds(monkeypatch: pytest.MonkeyPatch) -> None:
 def test_each_piece_of_a_street_is_united_once_and_with_those_near_it(monkeypatch: pytest.MonkeyPatch) -> None:
     """The time and memory of many streets and bands: a union of all pieces at once took 10 minutes and 6.7 GB."""
     import shapely.ops
-    from ttm_tools.streets.reach import GrowingStrip
+    from ttm_tools.streets.strips import GrowingStrip
 
     # streets of 100 m in a square of 4 km, within four distances of its middle, in pieces both ways
     ends = [(x, y, x + 0.1, y) for x in np.arange(40) / 10 for y in np.arange(41) / 10]
@@ -248,7 +249,7 @@ def test_each_piece_of_a_street_is_united_once_and_with_those_near_it(monkeypatc
 def test_areas_of_streets_that_grow_are_those_of_all_streets_at_once(seed: int) -> None:
     from shapely.geometry import LineString
     from shapely.ops import unary_union
-    from ttm_tools.streets.reach import GrowingStrip
+    from ttm_tools.streets.strips import GrowingStrip
 
     draw = np.random.default_rng(seed)
     begin = draw.uniform(0, 2, (120, 2))  # kilometres

@@ -6,11 +6,14 @@ import random
 from pathlib import Path
 from typing import Any
 
+import numpy as np
 import pytest
 
-from helpers import Room
+from helpers import METRE, Room
 from streets import Way, write_osm
-from ttm_tools.streets.osm import directions_of, is_walked
+from ttm_tools.streets.osm import directions_of, is_walked, read_streets
+from ttm_tools.streets.router import Endpoints, Router
+from ttm_tools.streets.straight import Pace, points_of
 
 pytest.importorskip("osmium")
 pytest.importorskip("scipy")
@@ -213,3 +216,47 @@ def test_drawn_networks_have_the_walks_of_networkx(room: Room, seed: int) -> Non
     assert within.keys() <= found.keys(), f"seed {seed}"
     for ends, seconds in found.items():
         assert seconds - 1.05 <= expected[ends] <= seconds + 0.05, (seed, ends)
+
+
+def drawn_router(room: Room, draw: np.random.Generator, places: int) -> Router:
+    """Places on a grid of streets of 100 metres, some of them one-way for pedestrians."""
+    nodes = {100 * row + column: (100.0 * row, 100.0 * column) for row in range(8) for column in range(8)}
+    ways = list[Way]()
+    for node in nodes:
+        for other in (node + 1, node + 100):
+            if other in nodes and draw.random() < 0.8:
+                ways.append(([node, other], STREET | ({"oneway:foot": "yes"} if draw.random() < 0.4 else {})))
+    streets = read_streets(write_osm(room.folder / "drawn.osm", nodes, ways))
+    north, east = draw.uniform(0, 700, (2, places)) * METRE
+    return Router(streets, points_of(north, 1 + east), Pace(500, 1.3, 1.2), 20)
+
+
+@pytest.mark.parametrize("seed", range(4))
+def test_the_methods_of_a_router_agree(room: Room, seed: int) -> None:
+    draw = np.random.default_rng(seed)
+    router, origins = drawn_router(room, draw, 30), int(draw.choice([5, 25]))  # with 25, searches begin at the ends
+    seconds = router.seconds(origins)
+    assert np.isfinite(seconds).any() and np.isnan(seconds).any()
+    is_origin = np.arange(30) < origins
+    metres = np.full((30, 30), np.inf)
+    for begins, ends, lengths in router.walks(Endpoints(is_origin, ~is_origin)):
+        metres[begins, ends] = lengths
+    for origin in range(origins):
+        left = np.full(30, -1.0)
+        left[origin] = router.limit
+        after = router.within(left)[router.first :] - router.approaches
+        for end in range(origins, 30):
+            line, length = router.path(origin, end)
+            if np.isnan(seconds[origin, end - origins]):
+                assert not length <= router.limit and after[end] < 0
+                continue
+            assert seconds[origin, end - origins] == router.pace.along_streets.seconds(np.array(length))
+            assert metres[origin, end] == pytest.approx(length) == pytest.approx(router.limit - after[end])
+            steps = np.linalg.norm(np.diff(line, axis=0), axis=1)
+            on_street = steps[1:-1].sum() + router.approaches[[origin, end]].sum()
+            assert on_street == pytest.approx(length, abs=1e-3)
+
+
+def test_scipy_searches_in_one_place() -> None:
+    sources = Path(__file__).resolve().parents[1] / "src"
+    assert [path.name for path in sources.rglob("*.py") if "dijkstra(" in path.read_text()] == ["router.py"]

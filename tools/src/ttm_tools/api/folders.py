@@ -15,8 +15,9 @@ from ..places.folder import FEED, FOOTPATHS, PointsOptions, make
 from ..places.long_walks import LongWalks
 from ..places.read import Points
 from ..streets.osm import Streets
-from ..streets.router import Endpoints, street_walks
+from ..streets.router import Endpoints
 from ..streets.straight import straight_walks
+from ..streets.street_walks import street_walks
 from ..streets.walks import Pace, Walks
 from .frames import GivenPlaces
 

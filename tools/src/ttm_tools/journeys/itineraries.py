@@ -19,9 +19,10 @@ from ..core.times import as_minute
 from ..gtfs.footpaths import Footpaths, joined, read_walks
 from ..gtfs.stops import read_stops
 from ..gtfs.timetable import DAY, Runs, Timetable, read_edits, read_timetable, runs_of
+from ..streets.graph import degrees_of
 from ..streets.osm import Streets
+from ..streets.router import Router
 from ..streets.walks import Pace, distances, points_of
-from ..streets.ways import Ways, degrees_of
 from . import search
 from .found import calls_of_ride, last_to_arrive, ridden
 from .network import Schedule
@@ -255,7 +256,7 @@ class LegDrawing:
         chosen = [stops.places[name] for name in timetable.stops]
         self.points = points_of(stops.latitudes[chosen], stops.longitudes[chosen])
         self.placed = stops.placed[chosen]
-        self.ways: Ways | None = None
+        self.router: Router | None = None
         self.numbers = dict[int, int]()
 
     def walk_along(self, legs: Sequence[Leg]) -> None:
@@ -264,7 +265,7 @@ class LegDrawing:
         if ends and self.streets is not None:
             points = self.points[sorted(ends)]
             self.numbers = {place: number for number, place in enumerate(sorted(ends))}
-            self.ways = Ways(self.streets[0], points, points, self.pace, self.streets[1])
+            self.router = Router(self.streets[0], points, self.pace, self.streets[1])
 
     def line_of(self, leg: Leg) -> tuple[Floats, float]:
         """Return the points of a leg, and its metres."""
@@ -273,8 +274,8 @@ class LegDrawing:
             ends = self.points[self.stops_of(leg)]
         elif self.streets is None:
             detour = self.pace.detour
-        elif self.ways is not None and {leg.start, leg.end} <= self.numbers.keys():
-            line, metres = self.ways.way(self.numbers[leg.start], self.numbers[leg.end])
+        elif self.router is not None and {leg.start, leg.end} <= self.numbers.keys():
+            line, metres = self.router.path(self.numbers[leg.start], self.numbers[leg.end])
             if len(line):
                 return line, metres
         return ends, detour * float(distances(ends[:-1], ends[1:]).sum())

@@ -11,7 +11,7 @@ import numpy.typing as npt
 from ..core.files import remove
 from ..core.tables import rows, write_rows
 from ..streets.counting import TooManyWalks
-from ..streets.router import street_walks
+from ..streets.street_walks import street_walks
 from .folder import FOOTPATHS, PointsOptions, make, refuse_places
 from .long_walks import ALIGHTS, LongWalks, reached_directly
 

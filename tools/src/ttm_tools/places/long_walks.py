@@ -17,7 +17,8 @@ from ..gtfs.stops import Stops, read_stops
 from ..gtfs.timetable import Timetable, read_timetable
 from ..streets.needed import needed_walks
 from ..streets.osm import Streets
-from ..streets.router import Endpoints, SnappedStops, snap_stops
+from ..streets.router import Endpoints
+from ..streets.street_walks import SnappedStops, snap_stops
 from ..streets.table import NONE, WalkTable, street_table
 from ..streets.walks import Pace
 from .folder import FEED, FOOTPATHS, PointStudy, prefixes_of, study_of
@@ -71,7 +72,7 @@ class LongWalks:
         some = np.zeros(len(self.endpoints.origins), np.bool_)
         some[np.random.default_rng(0).choice(begins, min(len(begins), SAMPLE), replace=False)] = True
         sample = Endpoints(some, self.endpoints.destinations)
-        found = sum(len(a) for a, *_ in self.snapped.ways(self.streets, self.pace, sample))
+        found = sum(len(a) for a, *_ in self.snapped.walks(sample))
         return found * len(begins) > MANY * int(some.sum())
 
     def write(self, folder: Path, merges: bool) -> None:
@@ -94,7 +95,7 @@ class LongWalks:
 
     def table(self, stated: Footpaths) -> WalkTable:
         """The walks along streets and those that the feed states, and chains of both."""
-        table = street_table(self.snapped, self.streets, self.pace, self.endpoints)
+        table = street_table(self.snapped, self.endpoints)
         stops = np.flatnonzero(self.own.kinds == 0)
         ends = stops[stated.begin].tolist(), stops[stated.end].tolist()
         put = table.put_direct(zip(*ends, stated.seconds.tolist()))

@@ -76,6 +76,11 @@ class Graph:
     target: Places
     length: Floats
 
+    @property
+    def source(self) -> Places:
+        """The node at which each edge begins, shape (m,)."""
+        return np.repeat(np.arange(len(self.positions)), np.diff(self.indptr))
+
 
 def snap(streets: Streets, points: Floats) -> Snaps:
     """Find the nearest position on a street for each point. Of edges at equal distance the first is taken.
@@ -191,8 +196,6 @@ def subgraph(graph: Graph, nodes: Places, local: Places) -> Any:
         Scratch space of one entry per node of the graph, all -1. It is -1 again on return; allocating it for each call
         would cost more than the search.
     """
-    from scipy.sparse import csr_matrix
-
     local[nodes] = np.arange(len(nodes))
     none = np.zeros(0, np.int64)
     chunks = ranges(graph.indptr[nodes], graph.indptr[nodes + 1])
@@ -201,4 +204,27 @@ def subgraph(graph: Graph, nodes: Places, local: Places) -> Any:
     local[nodes] = -1
     inside = target >= 0
     indptr = np.searchsorted(source[inside], np.arange(len(nodes) + 1))
-    return csr_matrix((graph.length[edge][inside], target[inside], indptr), shape=(len(nodes), len(nodes)))
+    return matrix_of(graph.length[edge][inside], target[inside], indptr)
+
+
+def matrix_of(length: Floats, target: Places, indptr: Places) -> Any:
+    """Return edges in compressed sparse row form as a `scipy.sparse.csr_matrix`, with a row for each node."""
+    from scipy.sparse import csr_matrix
+
+    count = len(indptr) - 1
+    return csr_matrix((length, target, indptr), shape=(count, count))
+
+
+def on_streets(streets: Streets, latitudes: Floats, longitudes: Floats) -> tuple[Floats, Floats]:
+    """Return the nearest position on a street to each place, as longitudes and latitudes, and the metres to it."""
+    snaps = snap(streets, points_of(latitudes, longitudes))
+    nodes = points_of(streets.latitudes, streets.longitudes)
+    nearest = interpolate(nodes[streets.begin], nodes[streets.end], snaps.edge, snaps.fraction)
+    return degrees_of(nearest), snaps.distance
+
+
+def degrees_of(positions: Floats) -> Floats:
+    """Return the longitude and latitude of each position."""
+    length = np.linalg.norm(positions, axis=-1)
+    east, north = np.arctan2(positions[..., 1], positions[..., 0]), np.arcsin(positions[..., 2] / length)
+    return np.asarray(np.degrees(np.stack([east, north], axis=-1)))

@@ -7,9 +7,9 @@ import numpy as np
 import numpy.typing as npt
 
 from .counting import Places, TooManyWalks, Ways
-from .osm import Streets
-from .router import Endpoints, SnappedStops
+from .router import Endpoints
 from .straight import Pace
+from .street_walks import SnappedStops
 
 NONE = 20_000  # seconds: longer than any walk, and the sum of three fits into two bytes
 MOST_CELLS = 500_000_000  # so a table takes 1 GB at most
@@ -66,13 +66,13 @@ def positions_in(stops: Places) -> Places:
     return positions
 
 
-def street_table(snapped: SnappedStops, streets: Streets, pace: Pace, endpoints: Endpoints) -> WalkTable:
+def street_table(snapped: SnappedStops, endpoints: Endpoints) -> WalkTable:
     """The walks along streets from all stops that may be origins to all that may be destinations."""
-    begins, others = np.flatnonzero(endpoints.origins), np.flatnonzero(endpoints.destinations)
+    router, begins, others = snapped.router, np.flatnonzero(endpoints.origins), np.flatnonzero(endpoints.destinations)
     if len(begins) * len(others) > MOST_CELLS:
         text = f"{len(begins):,} times {len(others):,} walks are more than fit into the memory"
-        raise TooManyWalks(streets.path, text, limit=MOST_CELLS)
-    table = WalkTable(begins, others, np.full((len(begins), len(others)), NONE, np.uint16), int(pace.limit))
+        raise TooManyWalks(router.streets.path, text, limit=MOST_CELLS)
+    table = WalkTable(begins, others, np.full((len(begins), len(others)), NONE, np.uint16), int(router.pace.limit))
     stops = snapped.indices
-    table.put(((stops[a], stops[b], metres) for a, b, metres in snapped.ways(streets, pace, endpoints)), pace)
+    table.put(((stops[a], stops[b], metres) for a, b, metres in snapped.walks(endpoints)), router.pace)
     return table

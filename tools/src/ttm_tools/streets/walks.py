@@ -19,7 +19,7 @@ def walks_of(
         return straight_walks(stops, pace, first)
     needs("osmium", "scipy")
     from .osm import read_streets
-    from .router import street_walks
+    from .street_walks import street_walks
 
     return street_walks(stops, pace, read_streets(streets), near, first)
 

@@ -24,8 +24,9 @@ from ..matrices import Matrix, Share
 from ..measures.opportunities import Counts
 from ..places.features import AREAS, POLYGONS, read_frame, text_of, valid
 from ..streets.osm import read_streets
-from ..streets.reach import GrowingStrip, Reach, reach_of
-from ..streets.walks import Pace
+from ..streets.router import Router
+from ..streets.strips import GrowingStrip, pieces
+from ..streets.walks import Pace, points_of
 from .gis import whole, write_features, write_layer
 
 LAYER = "isochrones"
@@ -68,7 +69,7 @@ class AreaGround:
     north: Floats
     shapes: list[Any]  # polygons; None where there is none
     placed: Any  # whether it has a place
-    reach: Reach | None = None  # along streets, from those that have a place and no shape, in their order
+    router: Router | None = None  # along streets, from those that have a place and no shape, in their order
 
     def around(self, identifier: str) -> "AreaGround":
         """The same ground, projected around a stop, near which lengths are true; unchanged if it has no place."""
@@ -95,9 +96,9 @@ class AreaGround:
         from shapely.geometry import Point
 
         bare = np.flatnonzero(self.placed & np.array([shape is None for shape in self.shapes], dtype=np.bool_))
-        if self.reach is not None:
+        if self.router is not None:
             metres = np.where(left[bare] >= 0, np.minimum(left[bare], walking.most) * walking.speed, -1.0)
-            yield streets.grown(self.reach.pieces(metres))
+            yield streets.grown(pieces(self.router, metres))
             return
         # as the crow flies, in kilometres
         radii = np.minimum(left[bare], walking.most) * walking.speed / walking.detour / 1000
@@ -164,8 +165,8 @@ def along_streets(ground: AreaGround, stops: Stops, streets: str, walking: Walki
     pace = Pace(walking.most, walking.speed, walking.detour)
     if not bare:
         return ground
-    found = read_streets(streets)
-    return replace(ground, reach=reach_of(found, stops.latitudes[bare], stops.longitudes[bare], pace, near))
+    positions = points_of(stops.latitudes[bare], stops.longitudes[bare])
+    return replace(ground, router=Router(read_streets(streets), positions, pace, near))
 
 
 def ground_on_foot(stops: Stops, points: str | None, walking: Walking, streets: str | None, near: float) -> AreaGround:

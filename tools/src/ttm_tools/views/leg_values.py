@@ -13,10 +13,11 @@ from ..gtfs.shape_parts import Shapes, read_shapes
 from ..gtfs.timetable import DAY, Runs, Timetable
 from ..journeys.found import ExplainOptions, Found, Option, calls_of_ride
 from ..journeys.search import Leg
+from ..streets.graph import degrees_of
 from ..streets.osm import Streets
+from ..streets.router import Router
 from ..streets.straight import Pace, distances, points_of
 from ..streets.walks import NEAR
-from ..streets.ways import Ways, degrees_of
 
 DECIMALS = 6  # of degrees, some tenths of a metre
 LONGER = 2.0  # a drawn walk takes at most this multiple of its seconds, at the default speed
@@ -133,7 +134,7 @@ class JourneyValues:
         return measured(stops if along is None else along)
 
     @cached_property
-    def ways(self) -> tuple[Ways, dict[int, int]] | None:
+    def router(self) -> tuple[Router, dict[int, int]] | None:
         """The streets with the ends of all walks on them, and the number of each end; None without streets."""
         walks = [leg for _, leg in self.legs() if leg.run is None]
         ends = sorted({place for leg in walks for place in (leg.start, leg.end)})
@@ -142,16 +143,16 @@ class JourneyValues:
             return None
         points = points_of(self.degrees[ends, 1], self.degrees[ends, 0])
         pace = Pace(LONGER * max(leg.finish - leg.begin for leg in walks))
-        return Ways(self.streets, points, points, pace, NEAR), {place: count for count, place in enumerate(ends)}
+        return Router(self.streets, points, pace, NEAR), {place: count for count, place in enumerate(ends)}
 
     def walk_line(self, leg: Leg) -> tuple[Floats | None, float]:
         """The line of a walk, along streets or straight, and its metres; None without coordinates."""
         ends = self.degrees[[leg.start, leg.end]]
         if np.isnan(ends).any():
             return None, 0.0
-        if self.ways is not None:
-            ways, numbers = self.ways
-            line, metres = ways.way(numbers[leg.start], numbers[leg.end])
+        if self.router is not None:
+            router, numbers = self.router
+            line, metres = router.path(numbers[leg.start], numbers[leg.end])
             if len(line):
                 return degrees_of(line), metres
         return measured(ends)

@@ -49,7 +49,8 @@ def walks_from(point: Point, stops: Stops, pace: Pace, streets: Streets | None) 
     if streets is None:
         walks = straight_walks(alone, pace, 1)
     else:
-        from ..streets.router import Endpoints, street_walks
+        from ..streets.router import Endpoints
+        from ..streets.street_walks import street_walks
 
         first = np.arange(len(alone.identifiers)) == 0
         around = streets_around(point, streets, pace.limit * pace.speed + NEAR)

@@ -18,8 +18,8 @@ from ...places.folder import TooManyPlaces, UNREACHED
 from ...places.frames import FramePlaces, GRID
 from ...places.long_walks import LongWalks
 from ...streets.counting import TooManyWalks
+from ...streets.router import Router
 from ...streets.walks import points_of
-from ...streets.ways import Ways
 from .network import Prepared, TransportNetwork
 from .refusals import NotAvailable
 from .task import NEAR, RegionalTask
@@ -52,7 +52,7 @@ def walked(network: TransportNetwork, task: RegionalTask, origins: FramePlaces, 
         points_of(places.latitudes[places.placed], places.longitudes[places.placed])
         for places in (origins, destinations)
     )
-    found = Ways(network.streets, begins, ends, task.pace(), NEAR).seconds()
+    found = Router(network.streets, np.concatenate([begins, ends]), task.pace(), NEAR).seconds(len(begins))
     if origins is destinations:
         np.fill_diagonal(found, 0)
     return found

@@ -13,8 +13,9 @@ from ...core.times import as_minute
 from ...journeys.itineraries import DepartureWindow, ItinerarySearch, LegDrawing, PlacesToSearch
 from ...places.frames import DEGREES, FramePlaces
 from ...places.folder import FEED, FOOTPATHS
+from ...streets.graph import degrees_of
+from ...streets.router import Router
 from ...streets.walks import points_of
-from ...streets.ways import Ways, degrees_of
 from .doors import doors_of
 from .frames import ComputedGeoFrame
 from .legs import LegRows, Row
@@ -77,13 +78,13 @@ def walked(
 ) -> Iterator[Row]:
     """The walk of each pair, where there is one."""
     begins, others = (points_of(np.nan_to_num(places.latitudes), np.nan_to_num(places.longitudes)) for places in ends)
-    ways = Ways(network.streets, begins, others, task.pace(), NEAR)
-    seconds = ways.seconds()
+    router = Router(network.streets, np.concatenate([begins, others]), task.pace(), NEAR)
+    seconds = router.seconds(len(begins))
     for one, other in pairs:
         same = ends[0] is ends[1] and one == other
         if same or np.isnan(seconds[one, other]):
             continue
-        line, metres = ways.way(one, other)
+        line, metres = router.path(one, len(begins) + other)
         yield {
             "from_id": ends[0].identifiers[one],
             "to_id": ends[1].identifiers[other],

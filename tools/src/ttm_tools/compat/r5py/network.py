@@ -103,7 +103,7 @@ class TransportNetwork:
         """
         import geopandas
 
-        from ...streets.ways import on_streets
+        from ...streets.graph import on_streets
 
         if street_mode is not TransportMode.WALK:
             raise NotAvailable("street_mode", f"{street_mode} isn't supported", "TransportMode.WALK")

@@ -8,8 +8,8 @@ import numpy.typing as npt
 
 from ...gtfs.stops import Stops
 from ...streets.osm import read_streets
-from ...streets.reach import Reach, reach_of
-from ...streets.walks import Pace
+from ...streets.router import Router
+from ...streets.walks import Pace, points_of
 from .parts import Element, part
 from .places import MICRO, ranks
 
@@ -45,22 +45,24 @@ def page_streets(path: str, places: Stops, columns: Numbers, pace: Pace, near: f
     bare = [column for column in columns.tolist() if places.placed[column] and not is_cell[column]]
     if not bare:
         return None
-    reach = reach_of(read_streets(path), places.latitudes[bare], places.longitudes[bare], pace, near)
-    return within_walks(reach, places, bare, pace)
+    positions = points_of(places.latitudes[bare], places.longitudes[bare])
+    return within_walks(Router(read_streets(path), positions, pace, near), places, bare)
 
 
-def within_walks(reach: Reach, places: Stops, bare: list[int], pace: Pace) -> PageStreets:
+def within_walks(router: Router, places: Stops, bare: list[int]) -> PageStreets:
     """The streets that one reaches from some places within the longest walk."""
-    left = reach.left_at_nodes(np.full(len(bare), pace.limit * pace.speed) - reach.connectors)
-    walked = left[reach.begin] > 0
-    begin, end = reach.begin[walked], reach.end[walked]
+    pace, graph = router.pace, router.graph
+    source, target = graph.source, graph.target
+    walked = router.within(np.full(len(bare), pace.limit * pace.speed))[source] > 0
+    begin, end = source[walked], target[walked]
     nodes = np.unique(np.concatenate([begin, end]))
-    nodes = nodes[np.argsort(ranks(reach.latitudes[nodes], reach.longitudes[nodes]), kind="stable")]
-    number = np.full(len(reach.latitudes), NO_NODE, np.int32)
+    longitudes, latitudes = router.degrees.T
+    nodes = nodes[np.argsort(ranks(latitudes[nodes], longitudes[nodes]), kind="stable")]
+    number = np.full(len(latitudes), NO_NODE, np.int32)
     number[nodes] = np.arange(len(nodes))
     order = np.lexsort((number[end], number[begin]))
-    degrees = np.rint(np.stack([reach.latitudes[nodes], reach.longitudes[nodes]], axis=1) * MICRO)
+    degrees = np.rint(np.stack([latitudes[nodes], longitudes[nodes]], axis=1) * MICRO)
     at, beside = np.full(len(places.names), NO_NODE, np.int32), np.zeros(len(places.names), np.float32)
-    at[bare] = number[len(reach.latitudes) - len(bare) :]
-    beside[bare] = reach.connectors
+    at[bare] = number[router.first :]
+    beside[bare] = router.connectors
     return PageStreets(degrees.astype(np.int32), number[begin][order], number[end][order], at, beside, pace.speed)

@@ -1,77 +1,28 @@
-"""How far one comes along streets from places at which some time is left."""
+"""The area along streets that are walked, for limits that grow."""
 
 import struct
-from dataclasses import dataclass
 from typing import Any, Callable
 
 import numpy as np
 
 from ..core.arrays import Floats
-from .counting import Places
-from .graph import build_graph, snap
-from .osm import Streets
-from .straight import Pace, points_of
+from .router import Router
 
 SHORTEST = 1e-6  # metres of a piece that isn't a crossing
 TILE = 0.5  # kilometres; areas of pieces are united tile by tile, which takes less time and memory than at once
 QUARTER = 8  # corners of a quarter of a circle
 
 
-@dataclass(frozen=True)
-class Reach:
-    """The streets with some places on them, which are the last nodes."""
-
-    latitudes: Floats  # of each node
-    longitudes: Floats
-    begin: Places  # of each connection the nodes
-    end: Places
-    metres: Floats
-    connectors: Floats  # metres from each place to its street
-
-    def pieces(self, left: Floats) -> Floats:
-        """The pieces of streets, as longitude and latitude of both ends, along which one comes from places where so
-        many metres are left; below 0 one doesn't come from there.
-        """
-        after = self.left_at_nodes(left - self.connectors)
-        there = np.flatnonzero((after[self.begin] > 0) & (self.metres > SHORTEST))
-        begin, end = self.begin[there], self.end[there]
-        part = np.minimum(1.0, after[begin] / self.metres[there])[:, None]
-        places = np.stack([self.longitudes, self.latitudes], axis=1)
-        pieces: Floats = np.concatenate([places[begin], places[begin] + part * (places[end] - places[begin])], axis=1)
-        return pieces
-
-    def left_at_nodes(self, left: Floats) -> Floats:
-        """How many metres are left at each node, below 0 where one doesn't come: the most that any place gives, which
-        is a shortest way from a node before all of them.
-        """
-        from scipy.sparse import csr_matrix
-        from scipy.sparse.csgraph import dijkstra
-
-        count, places = len(self.latitudes), np.flatnonzero(left > 0)
-        none: Floats = np.full(count, -1.0)
-        if not len(places):
-            return none
-        most = float(left[places].max())
-        nodes = count - len(left) + places
-        begin = np.concatenate([self.begin, np.full(len(places), count)])
-        end = np.concatenate([self.end, nodes])
-        metres = np.concatenate([np.maximum(self.metres, 1e-9), most - left[places] + 1e-9])
-        found = dijkstra(csr_matrix((metres, (begin, end)), shape=(count + 1, count + 1)), indices=count, limit=most)
-        return np.asarray(np.where(np.isfinite(found), most - found, -1.0)[:count])
-
-
-def reach_of(streets: Streets, latitudes: Floats, longitudes: Floats, pace: Pace, near: float) -> Reach:
-    """The streets with places on them, which are near up to a distance in metres."""
-    snaps = snap(streets, points_of(latitudes, longitudes))
-    graph = build_graph(streets, snaps)
-    counts = np.diff(graph.indptr)
-    begin, connectors = np.repeat(np.arange(len(counts)), counts), snaps.connectors(near, pace)
-
-    def along(numbers: Floats) -> Floats:
-        low, high = (numbers[ends[snaps.edge]] for ends in (streets.begin, streets.end))
-        return np.concatenate([numbers, low + snaps.fraction * (high - low)])
-
-    return Reach(along(streets.latitudes), along(streets.longitudes), begin, graph.target, graph.length, connectors)
+def pieces(router: Router, left: Floats) -> Floats:
+    """Return the pieces of streets, as longitude and latitude of both ends, that are reached from the places of a
+    router where so many metres are left; see `Router.within`.
+    """
+    after, graph, places = router.within(left), router.graph, router.degrees
+    source = graph.source
+    there = np.flatnonzero((after[source] > 0) & (graph.length > SHORTEST))
+    begin, end = source[there], graph.target[there]
+    part = np.minimum(1.0, after[begin] / graph.length[there])[:, None]
+    return np.concatenate([places[begin], places[begin] + part * (places[end] - places[begin])], axis=1)
 
 
 Projected = Callable[[Floats, Floats], tuple[Floats, Floats]]  # degrees east and north to kilometres
