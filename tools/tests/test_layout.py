@@ -41,7 +41,7 @@ BELONGS_TO = {
 # are changed. This list only gets shorter.
 EXCEPTIONS = {
     "compat": ("matrices", "plans"),
-    "compat.r5py": ("gtfs", "journeys", "places", "prepare", "streets"),
+    "compat.r5py": ("gtfs", "places", "streets"),
     "journeys.explain": ("matrices", "plans", "views"),
     "journeys.option_checks": ("matrices", "views"),
     "measures.access": ("matrices",),
