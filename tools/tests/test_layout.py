@@ -54,7 +54,7 @@ BELONGS_TO = {
 # are changed. This list only gets shorter.
 EXCEPTIONS = {
     "compat": ("matrices", "plans"),
-    "compat.r5py": ("gtfs", "journeys", "places", "prepare", "streets"),
+    "compat.r5py": ("gtfs", "places", "streets"),
     "places.selection": ("matrices",),
     "views.lines": ("web",),
     "views.maps": ("web",),

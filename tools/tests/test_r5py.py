@@ -3,6 +3,7 @@
 import datetime
 import math
 import warnings
+from pathlib import Path
 from typing import Any, Iterator
 
 import numpy as np
@@ -201,6 +202,9 @@ REFUSED: list[tuple[str, Any, str]] = [
     ("max_time_walking", 121 * MINUTE, "at most 2:00:00"),
     ("departure_time_window", datetime.timedelta(seconds=90), "whole minutes"),
     ("departure_time_window", 17 * 60 * MINUTE, "past midnight"),
+    ("departure_time_window", 60, r"60 is not a timedelta; such as datetime.timedelta\(minutes=60\)"),
+    ("max_time", 60, "60 is not a timedelta"),
+    ("max_time_walking", 15.5, "15.5 is not a timedelta"),
     ("departure", SEVEN_45.replace(second=30), "whole minutes"),
     ("departure", SEVEN_45.replace(tzinfo=datetime.timezone.utc), "the clock of the feed"),
     ("percentiles", [2.5], "whole numbers"),
@@ -273,11 +277,11 @@ def test_streets_feeds_and_walks_are_kept(
 ) -> None:
     assert minutes(from_home(network)) == [41]
     entries = sorted(
-        path.name for kind in ("streets", "feeds", "doors") for path in (room.folder / "cache" / kind).iterdir()
+        path.name for kind in ("streets", "prepared", "places") for path in (room.folder / "cache" / kind).iterdir()
     )
     assert len(entries) == 3 and not any(name.startswith(".") for name in entries)
-    for name in ("read_streets", "make"):
-        monkeypatch.setattr(f"ttm_tools.compat.r5py.network.{name}", None)
+    for name in ("read_streets", "prepare"):
+        monkeypatch.setattr(f"ttm_tools.api.opening.{name}", None)
     monkeypatch.setattr("ttm_tools.places.doors.street_walks", None)
     with warnings.catch_warnings():
         warnings.simplefilter("error")
@@ -294,6 +298,45 @@ def test_a_network_of_a_folder_and_its_extent(room: Room, cache: None) -> None:
     extent = r5py.TransportNetwork(room.path("streets.osm")).extent
     low, high = degrees((0.0, -500.0)), degrees((2000.0, 2500.0))
     assert np.allclose(extent.bounds, (low.x, low.y, high.x, high.y))
+
+
+def test_the_timetable_says_which_dates_it_covers(room: Room, cache: None, walking: r5py.TransportNetwork) -> None:
+    layer = r5py.TransportNetwork(room.path("streets.osm"), write_feed(room)).transit_layer
+    first, last = layer.start_date, layer.end_date
+    assert (first, last) == (datetime.datetime(2026, 5, 4), datetime.datetime(2026, 5, 31, 23, 59, 59))
+    assert layer.covers(SEVEN_45) and layer.covers(last) and not layer.covers(datetime.datetime(2026, 6, 1))
+    with pytest.raises(
+        r5py.NotAvailable, match=r"^transit_layer.trip_patterns: .*; ttm_tools.open_network\(gtfs\) has"
+    ):
+        layer.trip_patterns
+    assert not walking.transit_layer.covers(SEVEN_45)
+    with pytest.raises(r5py.NotAvailable, match="^gtfs: the network has no feed"):
+        walking.transit_layer.start_date
+
+
+def test_sample_data_by_its_name_says_what_to_use() -> None:
+    with pytest.raises(r5py.NotAvailable, match=r"^sampledata: .*ttm_tools.sample\(\)"):
+        r5py.sampledata
+    with pytest.raises(AttributeError, match="has no attribute 'sampledatas'"):
+        r5py.sampledatas
+
+
+def test_minutes_are_those_of_the_library(room: Room, network: r5py.TransportNetwork, program: str) -> None:
+    import ttm_tools as ttm
+
+    homes, clinics = frame([HOME, (0.0, 1000.0)], ["home", "middle"]), frame([CLINIC, FAR], [7, 8])
+    found = r5py.TravelTimeMatrix(network, homes, clinics, departure=SEVEN_45, percentiles=[25, 75], **QUARTER)
+    question = ttm.Question.starting(SEVEN_45, "10 min", percentiles=(25, 75), max_walk="15 min", walking_kmh=3.6)
+    ttm.settings.engine = Path(program)
+    try:
+        with ttm.open_network(room.path("feed"), room.path("streets.osm")) as own:
+            matrix = own.matrix(homes, clinics, question.replace(max_rides=8, max_travel="2 h"))
+    finally:
+        ttm.settings.engine = None
+    for percentile in (25, 75):
+        minutes_of_library = np.floor(matrix.wide(percentile=percentile).to_numpy().ravel() / 60)
+        assert np.array_equal(found[f"travel_time_p{percentile}"], minutes_of_library, equal_nan=True)
+    assert np.isfinite(found["travel_time_p25"]).any()
 
 
 def test_more_walks_than_ttm_takes_are_named(network: r5py.TransportNetwork, monkeypatch: pytest.MonkeyPatch) -> None:

@@ -4,6 +4,8 @@ What r5py has and `ttm` hasn't, such as cars, bicycles and fares, raises `NotAva
 do instead. docs/howto/r5py.md has the differences.
 """
 
+from typing import Any
+
 from .compat.r5py import (
     DetailedItineraries,
     DetailedItinerariesComputer,
@@ -29,3 +31,11 @@ __all__ = [
     "TravelTimeMatrix",
     "TravelTimeMatrixComputer",
 ]
+
+
+def __getattr__(name: str) -> Any:
+    """Refuse r5py's sample data, which is a package of its own that downloads files."""
+    if name == "sampledata":
+        what = "the sample data of r5py is a package of its own, which downloads files"
+        raise NotAvailable(name, what, "ttm_tools.sample() has gtfs, streets, homes, jobs and clinics of a made town")
+    raise AttributeError(f"module {__name__!r} has no attribute {name!r}")

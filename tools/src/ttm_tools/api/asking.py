@@ -168,7 +168,7 @@ def engine_for(state: NetworkState, request: Request, folder: PlacesFolder) -> t
 
     def start() -> EngineNetwork:
         files = NetworkFiles(folder.feed.folder, str(question.date), walk, scenarios, folder.footpaths, days)
-        return EngineNetwork(files, program=settings.engine)
+        return EngineNetwork(files, program=state.program or settings.engine)
 
     return state.engines.of(key, start), names
 

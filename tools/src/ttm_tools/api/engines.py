@@ -4,6 +4,7 @@ import threading
 from collections import OrderedDict
 from collections.abc import Callable
 from dataclasses import dataclass, field
+from pathlib import Path
 
 from ..core.errors import ArgumentError
 from ..engine.network import EngineNetwork
@@ -54,14 +55,17 @@ class NetworkState:
         The streets, and the checksum of all that they depend on; None for straight walks.
     engines
         The engine's networks that were used last. A pickled state has none of them.
+    program
+        The program `ttm`; None takes that of the settings.
     """
 
     feed: PreparedFeed
     streets: tuple[Streets, str] | None
     engines: Engines = field(default_factory=Engines)
+    program: Path | None = None
 
     def __getstate__(self) -> tuple[object, ...]:
-        return self.feed, self.streets
+        return self.feed, self.streets, self.program
 
-    def __setstate__(self, state: tuple[PreparedFeed, tuple[Streets, str] | None]) -> None:
-        (self.feed, self.streets), self.engines = state, Engines()
+    def __setstate__(self, state: tuple[PreparedFeed, tuple[Streets, str] | None, Path | None]) -> None:
+        (self.feed, self.streets, self.program), self.engines = state, Engines()

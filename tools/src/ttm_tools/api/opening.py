@@ -12,6 +12,7 @@ from ..core.folders import scratch
 from ..core.notes import Note, warn_of
 from ..core.settings import Progress
 from ..core.tables import rows
+from ..prepare.clip import Clip
 from ..prepare.make import PREPARED, PrepareOptions, make as prepare
 from ..streets.osm import Streets, read_streets
 from .folders import PreparedFeed
@@ -77,13 +78,15 @@ def open_network(
     return Network(feed, walked, tuple(notes))
 
 
-def prepared_feed(paths: Sequence[str], repair: bool, allow_loss: bool) -> tuple[PreparedFeed, Note | None]:
-    """Return the feeds as one that the engine reads, and what was repaired."""
-    key = key_of("prepared", repair, allow_loss, *map(sum_of_source, paths))
+def prepared_feed(
+    paths: Sequence[str], repair: bool, allow_loss: bool, *, routes: Sequence[str] = ()
+) -> tuple[PreparedFeed, Note | None]:
+    """Return the feeds, or some of their routes, as one that the engine reads; and what was repaired."""
+    key = key_of("prepared", repair, allow_loss, *map(sum_of_source, paths), *routes)
 
     def write(folder: Path) -> None:
         with scratch("feed") as room:
-            options = PrepareOptions(paths, str(folder / FEED), repair, allows_loss=allow_loss)
+            options = PrepareOptions(paths, str(folder / FEED), repair, Clip(routes=list(routes)), allow_loss)
             lines = prepare(options, room)
         (folder / LINES).write_text("".join(f"{line}\n" for line in lines[:-1]), encoding="utf-8")
 

@@ -10,7 +10,7 @@ from shapely.geometry import Point
 
 from ...places.frames import DEGREES
 from ...places.street_grid import StreetGrid
-from .doors import seconds_between
+from .asking import seconds_between
 from .frames import ComputedGeoFrame
 from .matrix import ends_of
 from .network import network_from

@@ -1,6 +1,7 @@
 """Journeys leg by leg, as frames with r5py's columns."""
 
 import datetime
+import itertools
 import warnings
 from functools import partial
 from typing import Any, Iterator, Sequence
@@ -9,25 +10,25 @@ import geopandas
 import numpy as np
 from shapely.geometry import LineString
 
-from ...core.times import as_minute
-from ...journeys.itineraries import DepartureWindow, ItinerarySearch, LegDrawing, PlacesToSearch
+from ...api.itineraries import itinerary_frame
+from ...api.network import Network
+from ...core.tables import rows
 from ...places.frames import DEGREES, FramePlaces
-from ...places.folder import FEED, FOOTPATHS
 from ...streets.graph import degrees_of
 from ...streets.router import Router
 from ...streets.walks import points_of
-from .doors import doors_of
+from .asking import request_of, warn_of_notes
 from .frames import ComputedGeoFrame
-from .legs import LegRows, Row
 from .matrix import ends_of
-from .modes import TransportMode
-from .network import Prepared, TransportNetwork, network_from
+from .modes import TransportMode, mode_of
+from .network import TransportNetwork, network_from
 from .task import NEAR, RegionalTask
 
 COLUMNS = (
     "from_id to_id option segment transport_mode departure_time distance travel_time wait_time feed agency_id route_id "
     "start_stop_id end_stop_id geometry"
 ).split()
+Row = dict[str, Any]
 PlacePairs = Sequence[tuple[int, int]]  # places among the origins and the destinations
 
 
@@ -43,34 +44,43 @@ def pairs_of(origins: FramePlaces, destinations: FramePlaces, all_to_all: bool) 
 
 
 def ridden(
-    network: TransportNetwork,
-    task: RegionalTask,
-    feed: Prepared,
-    ends: tuple[FramePlaces, FramePlaces],
-    pairs: PlacePairs,
+    feed: Network, task: RegionalTask, ends: tuple[FramePlaces, FramePlaces], pairs: PlacePairs
 ) -> Iterator[Row]:
     """The journeys of each pair, which take vehicles or walk."""
-    doors = doors_of(network, task, feed, *ends)
-    engine = network.network_of(doors.folder, doors.key, task.times, doors.walk)
-    feed_folder, footpaths = doors.folder / FEED, doors.folder / FOOTPATHS
-    places = PlacesToSearch(feed_folder, footpaths, doors.walk, doors.ends, doors.direct, doors.alights)
+    in_turn = pairs != list(itertools.product(*(places.placed.tolist() for places in ends)))
+    if in_turn:
+        ends = chosen(ends[0], [begin for begin, _ in pairs]), chosen(ends[1], [end for _, end in pairs])
+    request = request_of(task, *ends, task.max_time - 1)
+    legs, notes = itinerary_frame(feed._state, request, "row_by_row" if in_turn else "all", False)
+    warn_of_notes(notes)
+    kinds = rows(feed._state.feed.folder / "routes.txt", ["route_id"], ["agency_id", "route_type"])
+    routes = {route: (agency or None, mode_of(int(kind.strip() or -1))) for _, (route, agency, kind) in kinds}
+    for leg in legs.to_dict("records"):
+        agency, mode = (None, TransportMode.WALK) if leg["route_id"] is None else routes[leg["route_id"]]
+        yield {
+            "from_id": leg["from_id"],
+            "to_id": leg["to_id"],
+            "option": leg["option"],
+            "segment": leg["leg"],
+            "transport_mode": mode,
+            "departure_time": leg["departure"],
+            "distance": leg["metres"],
+            "travel_time": datetime.timedelta(seconds=leg["seconds"]),
+            "wait_time": datetime.timedelta(seconds=leg["wait_seconds"]),
+            "feed": None if leg["route_id"] is None else feed._state.feed.name,
+            "agency_id": agency,
+            "route_id": leg["route_id"],
+            "start_stop_id": leg["from_stop_id"],
+            "end_stop_id": leg["to_stop_id"],
+            "geometry": leg["geometry"],
+        }
 
-    def expected(origin: str, destination: str, minute: int) -> float:
-        window = (as_minute(minute), as_minute(minute))
-        answer = engine.matrix(window, trips=task.rides, origins=[origin], destinations=[destination])
-        return float(answer.array("base", 50)[0, 0])
 
-    window = DepartureWindow(task.times.date, task.times.first, task.times.count, task.rides)
-    found = ItinerarySearch(places, window, expected, task.max_time)
-    numbers = [dict(zip(places.placed.tolist(), own)) for places, own in zip(ends, doors.ends)]
-    options = {(one, other): found.between(numbers[0][one], numbers[1][other]) for one, other in pairs}
-    drawn, named = LegDrawing(found, (network.streets, NEAR), task.pace()), LegRows(places.timetable, network.feed_name)
-    drawn.walk_along([leg for journeys in options.values() for journey in journeys for leg in journey.legs])
-    for (one, other), journeys in options.items():
-        ids = {"from_id": ends[0].identifiers[one], "to_id": ends[1].identifiers[other]}
-        for option, journey in enumerate(journeys):
-            for row in named.of(drawn.legs_of(journey)):
-                yield {**ids, "option": option, **row}
+def chosen(places: FramePlaces, rows_chosen: Sequence[int]) -> FramePlaces:
+    """Some places, in this order."""
+    identifiers = [places.identifiers[row] for row in rows_chosen]
+    wanted = list(rows_chosen)
+    return FramePlaces(places.name, identifiers, places.longitudes[wanted], places.latitudes[wanted])
 
 
 def walked(
@@ -119,7 +129,7 @@ class DetailedItineraries(ComputedGeoFrame):
         pairs, feed = pairs_of(*both, force_all_to_all), network.feed_with(task.vehicles)
         found = list[Row]()
         if pairs:
-            found += walked(network, task, both, pairs) if feed is None else ridden(network, task, feed, both, pairs)
+            found += walked(network, task, both, pairs) if feed is None else ridden(feed, task, both, pairs)
         columns = {name: [row.get(name) for row in found] for name in COLUMNS[:-1]}
         super().__init__(columns, geometry=[row["geometry"] for row in found], crs=DEGREES)
 

@@ -9,7 +9,7 @@ import pandas
 
 from ...places.doors import Seconds
 from ...places.frames import FramePlaces, places_of
-from .doors import seconds_between
+from .asking import seconds_between
 from .frames import ComputedFrame
 from .network import TransportNetwork, network_from
 from .refusals import NotAvailable

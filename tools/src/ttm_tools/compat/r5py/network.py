@@ -1,40 +1,59 @@
-"""Streets and feeds, made ready once and kept, and the networks of `ttm` that answer for them."""
+"""Streets and feeds, made ready once and kept, and the networks of the library that answer for them."""
 
+import datetime
 import os
 import threading
-import warnings
-from collections import OrderedDict
-from dataclasses import dataclass
+from dataclasses import replace
 from pathlib import Path
 from typing import Any, Iterable
 
 import numpy as np
 
-from ...core.cache import cached_entry, key_of, sum_of_source
+from ...api.network import Network
+from ...api.opening import prepared_feed, read_cached_streets
 from ...core.errors import needs
-from ...core.folders import scratch
+from ...core.notes import warn_of
 from ...core.tables import rows
 from ...engine.arguments import Pathlike
 from ...places.frames import DEGREES
-from ...prepare.clip import Clip
-from ...prepare.make import PREPARED, PrepareOptions, make
-from ...streets.osm import Streets, read_streets
-from ..network import Network
 from .modes import ElevationCostFunction, TransportMode, VEHICLES, mode_of
 from .refusals import NotAvailable
-from .task import DepartureTimes, NEAR
+from .task import NEAR
 
-MOST_NETWORKS = 4  # that are kept at once: of different points, dates or longest walks
-TOLD = "told.txt"
-FEED = "feed"
+TODAY = "today"  # the scenario of a network as it is
+INSTEAD = "ttm_tools.open_network(gtfs) has stops, routes, trips_by_date and service(date)"
 
 
-@dataclass(frozen=True)
-class Prepared:
-    """A feed that `ttm` reads."""
+class TransitLayer:
+    """What r5py's `transit_layer` says of the dates of a timetable; all else of it raises `NotAvailable`."""
 
-    key: str
-    folder: str
+    def __init__(self, feed: Network | None) -> None:
+        self._feed = feed
+
+    @property
+    def _dates(self) -> tuple[datetime.date, datetime.date]:
+        if self._feed is None:
+            raise NotAvailable("gtfs", "the network has no feed", "TransportNetwork(osm_pbf, gtfs)")
+        return self._feed.dates
+
+    @property
+    def start_date(self) -> datetime.datetime:
+        """The first day on which a trip runs."""
+        return datetime.datetime.combine(self._dates[0], datetime.time())
+
+    @property
+    def end_date(self) -> datetime.datetime:
+        """The last second of the last day on which a trip runs."""
+        return datetime.datetime.combine(self._dates[1], datetime.time(23, 59, 59))
+
+    def covers(self, point_in_time: datetime.datetime) -> bool:
+        """Whether a time is on the first or the last day on which a trip runs, or between them."""
+        return self._feed is not None and self.start_date <= point_in_time <= self.end_date
+
+    def __getattr__(self, name: str) -> Any:
+        if name.startswith("__"):
+            raise AttributeError(name)
+        raise NotAvailable(f"transit_layer.{name}", "it isn't supported", INSTEAD)
 
 
 class TransportNetwork:
@@ -61,11 +80,11 @@ class TransportNetwork:
             raise NotAvailable("elevation_model", "ttm knows no slopes", "leave it out: walks are as on flat ground")
         paths = [os.fspath(gtfs)] if isinstance(gtfs, (str, os.PathLike)) else [os.fspath(path) for path in gtfs]
         self.program, self.lock = program, threading.Lock()
-        self.networks: OrderedDict[tuple[object, ...], Network] = OrderedDict()
-        self.streets_key = key_of("streets", sum_of_source(os.fspath(osm_pbf)))
-        self.streets = streets_of(os.fspath(osm_pbf), self.streets_key)
-        self.feed = feed_of(paths, repair, allow_errors) if paths else None
-        self.feed_name = ", ".join(Path(path).stem for path in paths)
+        self.parts: dict[tuple[str, ...], Network] = {}  # by routes, of a feed with some of them alone
+        self.streets, self.streets_key = read_cached_streets(os.fspath(osm_pbf))
+        self.paths, self.options = paths, (repair, allow_errors)
+        self.feed: Network | None = None
+        self.feed = self.opened(()) if paths else None
 
     @classmethod
     def from_directory(cls, path: Pathlike) -> "TransportNetwork":
@@ -84,8 +103,13 @@ class TransportNetwork:
     def close(self) -> None:
         """Ends the processes that keep networks."""
         with self.lock:
-            while self.networks:
-                self.networks.popitem()[1].close()
+            for network in [*self.parts.values(), *([self.feed] if self.feed is not None else [])]:
+                network.close()
+
+    @property
+    def transit_layer(self) -> TransitLayer:
+        """The dates of the timetable."""
+        return TransitLayer(self.feed)
 
     @property
     def extent(self) -> Any:
@@ -113,31 +137,33 @@ class TransportNetwork:
         series = geopandas.GeoSeries(geopandas.points_from_xy(*found.T), index=points.index, crs=DEGREES)
         return series.to_crs(points.crs)
 
-    def feed_with(self, vehicles: frozenset[TransportMode]) -> Prepared | None:
-        """The feed with the routes of some modes alone; none where it has no such routes."""
+    def feed_with(self, vehicles: frozenset[TransportMode]) -> Network | None:
+        """The network of the routes of some modes alone; none where the feed has no such routes."""
         if self.feed is None or not vehicles or vehicles == frozenset(VEHICLES):
             return self.feed if vehicles else None
-        kinds = rows(os.path.join(self.feed.folder, "routes.txt"), ["route_id", "route_type"])
-        routes = [route for _, (route, kind) in kinds if mode_of(int(kind.strip() or -1)) in vehicles]
+        kinds = rows(self.feed._state.feed.folder / "routes.txt", ["route_id", "route_type"])
+        routes = tuple(route for _, (route, kind) in kinds if mode_of(int(kind.strip() or -1)) in vehicles)
         if not routes:
             return None
-        key = key_of("routes", self.feed.key, *routes)
-        return made_feed(key, [self.feed.folder], Clip(routes=routes), False, False)
-
-    def network_of(self, folder: Path, key: str, times: DepartureTimes, walk: int) -> Network:
-        """The network of a folder of points on a date; the ones that were used last are kept."""
-        name = (key, times.date, walk)
         with self.lock:
-            if name not in self.networks:
-                walks = folder / "footpaths.csv"
-                network = Network(folder / FEED, times.date, walk=walk, footpaths=walks, program=self.program)
-                self.networks[name] = network
-            self.networks.move_to_end(name)
-            old = [self.networks.popitem(last=False)[1] for _ in range(len(self.networks) - MOST_NETWORKS)]
-            found = self.networks[name]
-        for network in old:
-            network.close()
-        return found
+            if routes not in self.parts:
+                self.parts[routes] = self.opened(routes)
+            return self.parts[routes]
+
+    def opened(self, routes: tuple[str, ...]) -> Network:
+        """The network of the feed, or of some of its routes; a warning says what was repaired."""
+        if self.feed is None or not routes:
+            feed, note = prepared_feed(self.paths, *self.options)
+        else:
+            whole = self.feed._state.feed
+            feed, note = prepared_feed([str(whole.folder)], False, False, routes=routes)
+            feed = replace(feed, name=whole.name)
+        notes = [note] if note is not None else []
+        for one in notes:
+            warn_of(one)
+        network = Network(feed, (self.streets, self.streets_key), tuple(notes))
+        network._state.program = None if self.program is None else Path(self.program)
+        return network
 
 
 def network_from(given: Any) -> TransportNetwork:
@@ -148,38 +174,3 @@ def network_from(given: Any) -> TransportNetwork:
         what = f"{type(given).__name__} is not a network"
         raise NotAvailable("transport_network", what, "TransportNetwork(osm_pbf, gtfs)")
     return TransportNetwork(*given[:2], **(given[2] if len(given) > 2 else {}))
-
-
-def streets_of(path: str, key: str) -> Streets:
-    """The streets of a file, read once."""
-
-    def read(folder: Path) -> None:
-        found = read_streets(path)
-        fields = {name: getattr(found, name) for name in Streets.__dataclass_fields__ if name != "path"}
-        np.savez(folder / "streets.npz", **fields)
-
-    with np.load(cached_entry("streets", key, read) / "streets.npz") as stored:
-        return Streets(path, **{name: stored[name] for name in stored.files})
-
-
-def feed_of(paths: list[str], repair: bool, allow_errors: bool) -> Prepared:
-    """The feeds, made ready as one."""
-    return made_feed(
-        key_of("feed", repair, allow_errors, *map(sum_of_source, paths)), paths, Clip(), repair, allow_errors
-    )
-
-
-def made_feed(key: str, paths: list[str], clip: Clip, repair: bool, allow_errors: bool) -> Prepared:
-    """The prepared feeds; a warning says what was repaired."""
-
-    def prepare(folder: Path) -> None:
-        with scratch("feed") as room:
-            text = make(PrepareOptions(paths, str(folder / FEED), repair, clip, allow_errors), room)
-        mended = next(rows(str(folder / FEED / PREPARED), ["file"]), None) is not None
-        (folder / TOLD).write_text("".join(f"{line}\n" for line in text[:-1]) if mended else "", encoding="utf-8")
-
-    entry = cached_entry("feeds", key, prepare)
-    text = (entry / TOLD).read_text(encoding="utf-8")
-    if text:
-        warnings.warn(f"{', '.join(paths)} repaired:\n{text}", stacklevel=4)
-    return Prepared(key, str(entry / FEED))

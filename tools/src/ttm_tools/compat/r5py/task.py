@@ -5,8 +5,8 @@ from dataclasses import dataclass
 from typing import Any, Iterable, Sequence
 
 from ...core.limits import DETOUR, MOST_RIDES, MOST_SHARES
-from ...core.question import PERCENTILES
-from ...core.times import as_minute
+from ...core.question import PERCENTILES, Question
+from ...core.times import as_duration, as_minute
 from ...streets.walks import Pace
 from .modes import TransportMode, modes_of, only_walks, vehicles_of
 from .refusals import NotAvailable
@@ -81,6 +81,21 @@ class RegionalTask:
             breakdown=(breakdown, False),
         )
 
+    def question(self, most: int) -> Question:
+        """The same for the library; journeys that take more seconds count as not reached."""
+        first, last = self.times.window
+        return Question(
+            self.times.date,
+            first,
+            last,
+            percentiles=sorted(set(self.percentiles)),
+            max_walk=as_duration(min(self.max_time_walking, self.max_time)),
+            max_rides=self.rides,
+            max_travel=as_duration(most),
+            walking_kmh=self.speed_walking,
+            detour=DETOUR,
+        )
+
     def pace(self) -> Pace:
         """How one walks, as long as a walk may last."""
         return Pace(float(min(self.max_time_walking, self.max_time)), self.speed_walking / 3.6, DETOUR)
@@ -102,6 +117,7 @@ def times_of(departure: datetime.datetime | None, window: datetime.timedelta) ->
         raise NotAvailable("departure", "a time zone isn't supported", "the clock of the feed: .replace(tzinfo=None)")
     if first.second or first.microsecond:
         raise NotAvailable("departure", f"{first} is not a whole minute", "departures are at whole minutes")
+    refuse_number("departure_time_window", window)
     if window < MINUTE or window % MINUTE:
         raise NotAvailable("departure_time_window", f"{window} isn't supported", "a minute or more, in whole minutes")
     minute, count = first.hour * 60 + first.minute, window // MINUTE
@@ -122,9 +138,17 @@ def percentiles_of(given: Sequence[int]) -> list[int]:
 
 def seconds_of(argument: str, given: datetime.timedelta, most: datetime.timedelta) -> int:
     """A limit in whole seconds."""
+    refuse_number(argument, given)
     if not datetime.timedelta() < given <= most:
         raise NotAvailable(argument, f"{given} isn't supported", f"more than 0, at most {most}")
     return int(given.total_seconds())
+
+
+def refuse_number(argument: str, given: object) -> None:
+    """Refuses a number in place of a duration, since r5r's are minutes."""
+    if not isinstance(given, datetime.timedelta):
+        what = f"{given!r} is not a timedelta"
+        raise NotAvailable(argument, what, "such as datetime.timedelta(minutes=60)")
 
 
 def refuse_outside(argument: str, given: float, least: float, most: float, more: str) -> None:
