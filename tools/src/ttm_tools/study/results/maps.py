@@ -10,6 +10,7 @@ from typing import Any, Sequence
 from ...core.filenames import file_names
 from ...core.files import atomic_folder, output
 from ...core.text import quantity
+from ...ground.packing import read_ground_file
 from ...measures.opportunities import columns_of
 from ...places.selection import points_in
 from ...views import isochrones
@@ -85,8 +86,8 @@ def maps_stages(whole: StudyMatrix, known: Records) -> list[Stage]:
     facts["counted"] = inputs.outputs_of("counted") if settings.nearest else {}
     if settings.isochrones:
         facts["isochrones"] = [settings.isochrones, settings.isochrone_bands, study.pace]
-    streets = [study.walks.streets] if settings.isochrones else []
-    return [Sources(study.at, streets).stage("maps", facts, [MAPS], make)]
+    files = [study.walks.streets if settings.isochrones else None, settings.ground]
+    return [Sources(study.at, files).stage("maps", facts, [MAPS], make)]
 
 
 def options_of(whole: StudyMatrix, drawn: StudyMap) -> PictureOptions:
@@ -103,7 +104,9 @@ def sheet_of(whole: StudyMatrix, drawn: StudyMap) -> Sheet:
     edits = [whole.at(inputs.edits[name]) for name in (inputs.base, drawn.scenario) if name in inputs.edits]
     planned = planned_of(whole.at(inputs.feed), edits, inputs.base, drawn.scenario, drawn.is_difference)
     own = edits if drawn.is_difference else []
-    return Sheet(None, whole.study.about.note, edits=own, planned=planned)
+    ground = whole.study.results.ground
+    below = read_ground_file(whole.study.at(ground)) if ground else None
+    return Sheet(None, whole.study.about.note, edits=own, planned=planned, ground=below)
 
 
 def areas_drawn(whole: StudyMatrix, drawn: StudyMap, ground: AreaGround, walking: Walking) -> Any:
