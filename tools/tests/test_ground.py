@@ -1,10 +1,14 @@
 """The ground of maps: what of OpenStreetMap it has, its file, its size, and how pages draw it."""
 
 from pathlib import Path
-from typing import Iterator
+from typing import Any, Iterator
 
 import numpy as np
 import pytest
+from matplotlib.collections import PolyCollection
+from matplotlib.colors import to_rgba
+from matplotlib.figure import Figure
+from matplotlib.transforms import Bbox
 
 from browser import Browser
 from helpers import METRE, Room, Town, town_matrix
@@ -15,7 +19,8 @@ from ttm_tools.ground.fitting import fitted, in_page
 from ttm_tools.ground.packing import as_bytes, as_numbers, packed, read_packed, signed, unpacked, unsigned
 from ttm_tools.ground.tags import area_of, line_of, name_of
 from ttm_tools.ground.thinning import lengths_of, signed_hectares, thinned
-from ttm_tools.views.classes import TABLE, TOKENS
+from ttm_tools.views.classes import NEAR, TABLE, TOKENS
+from ttm_tools.views.ground import freest
 from ttm_tools.web.page.document import host_of, policy_of
 
 SQUARE = {1: (0.0, 0.0), 2: (0.0, 400.0), 3: (400.0, 400.0), 4: (400.0, 0.0)}  # metres north and east
@@ -227,3 +232,60 @@ def test_tiles_come_from_one_host_alone() -> None:
     assert host_of("https://{s}.tile.example/{z}/{x}/{y}.png") == "https://*.tile.example"
     policy = policy_of([], [], "https://tiles.example/{z}/{x}/{y}.png")
     assert "img-src data: https://tiles.example;" in policy
+
+
+def pictured(town: Town, monkeypatch: pytest.MonkeyPatch, *arguments: str) -> Any:
+    """The figure that ttm-tools map would save."""
+    figures = list[Any]()
+    monkeypatch.setattr(Figure, "savefig", lambda figure, *_, **__: figures.append(figure))
+    words = ["map", *arguments, "--ground", town_ground(town), "--feed", town.feed, "--out", town.path("map.png")]
+    assert town.ran(*words, town.file)[1:] == ("", 0)
+    return figures[0]
+
+
+def orders(axes: Any, colour: str) -> list[float]:
+    """The orders of drawing of what has a colour."""
+    wanted = to_rgba(colour)
+    found = [(it, it.get_facecolor() if it.get_fill() else it.get_edgecolor()) for it in axes.collections]
+    return sorted(it.get_zorder() for it, colours in found if any(tuple(one) == wanted for one in colours))
+
+
+def test_a_picture_has_the_ground_below_its_lines_and_names_its_source(
+    town: Town, monkeypatch: pytest.MonkeyPatch
+) -> None:
+    town.matrix(town_matrix(True))
+    figure = pictured(town, monkeypatch, "times", "--origin", "A")
+    axes = figure.axes[0]
+    (park,), (line,) = orders(axes, TOKENS["park"]), orders(axes, TOKENS["route"])
+    (casing,), (street,) = orders(axes, TOKENS["street-edge"]), orders(axes, TOKENS["street1"])
+    marks = [it.get_zorder() for it in axes.collections if it.get_zorder() > 2.9]
+    assert park < casing < street < line < min(marks) and len(marks) == 4  # three classes and the origin's star
+    assert "Lea Park" in [text.get_text() for text in axes.texts]
+    assert "© OpenStreetMap contributors." in figure.texts[2].get_text().replace("\n", " ")
+
+
+def test_cells_of_a_picture_end_at_parks(town: Town, monkeypatch: pytest.MonkeyPatch) -> None:
+    town.matrix(town_matrix(True))
+    rows = [["A", 0.0, 9.0, ""], ["B", 0.0, 9.01, ""], ["C", 0.01, 9.01, 2000], ["D", 0.02, 9.0, ""]]
+    cells = town.write("cells.csv", "id,lat,lon,width", rows)
+    axes = pictured(town, monkeypatch, "times", "--origin", "A", "--points", cells).axes[0]
+    below, above = orders(axes, TOKENS["park"])
+    (cell,) = [it.get_zorder() for it in axes.collections if isinstance(it, PolyCollection)]
+    assert below < cell < above < orders(axes, TOKENS["street1"])[0]
+
+
+def test_areas_of_a_picture_end_at_parks(town: Town, monkeypatch: pytest.MonkeyPatch) -> None:
+    pytest.importorskip("shapely")
+    town.matrix(town_matrix(True))
+    axes = pictured(town, monkeypatch, "isochrones", "--origin", "A").axes[0]
+    below, above = orders(axes, TOKENS["park"])
+    (band,) = orders(axes, NEAR[0])
+    assert below < band < above
+
+
+def test_a_name_takes_the_freest_spot_and_none_where_others_are() -> None:
+    stops = np.array([[100.0, 100.0], [104.0, 100.0]])
+    found = freest(np.array([100.0, 100.0]), (40, 10), 1, False, [], stops)
+    assert found is not None and found.bounds == (80, 109, 40, 10)
+    everywhere = Bbox.from_bounds(0, 0, 300, 300)
+    assert freest(np.array([100.0, 100.0]), (40, 10), 1, False, [everywhere], stops) is None

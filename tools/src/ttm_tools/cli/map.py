@@ -4,6 +4,7 @@ import math
 from ..core.errors import ArgumentError, needs
 from ..views.picture_files import picture_name, write_picture
 from ..core.ranges import Range
+from .backgrounds import add_ground
 from .options import Parser, column_of, decimals, ground_of, opened
 from .unused import WALKING, refuse_near_alone, refuse_unused
 
@@ -58,6 +59,7 @@ def describe(parser: Parser) -> None:
     what = "a scenario file, named as its scenario, whose trips to draw"
     parser.add_several("--edits", "FILE", what, without="none")
     parser.add_walking(", in isochrones", " there")
+    add_ground(parser)
     parser.add_text("--unit", "WORD", "what access counts, such as jobs", default="opportunities")
     what = "where classes begin, ascending numbers above 0 between commas: minutes, access, or percent"
     default = "default 10,20,30,45,60,90 minutes, for isochrones 15,30,45,60, for a difference 2,5,15 minutes or "
@@ -98,6 +100,7 @@ def run(args: argparse.Namespace) -> None:
     refuse_unused_of(args, of_nearest)
     shapes = ["shapely", *(["osmium", "scipy"] if args.streets else [])] if args.picture == "isochrones" else []
     needs("numpy", "pandas", "matplotlib", *shapes)
+    from ..ground.packing import read_ground_file
     from ..places.selection import select_points
     from ..views.lines import planned_of
     from ..views.maps import Areas, Sheet, figure_of, figure_of_isochrones, picture_of
@@ -113,7 +116,8 @@ def run(args: argparse.Namespace) -> None:
     options = PictureOptions(args.scenario, base, args.share, args.within, args.breaks, args.unit, what)
     scenario = args.scenario or (matrix.other(base, None) if loses else base)
     planned = planned_of(args.feed, args.edits, base, scenario, loses)
-    sheet = Sheet(args.title, args.note or "", args.width, args.edits, planned)
+    ground = read_ground_file(args.ground) if args.ground else None
+    sheet = Sheet(args.title, args.note or "", args.width, args.edits, planned, ground)
     if args.picture == "isochrones":
         areas = Areas(args.origin, options, *ground_of(args, there))
         figure = figure_of_isochrones(matrix, stops, args.feed, sheet, areas)

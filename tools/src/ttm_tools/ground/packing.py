@@ -97,6 +97,11 @@ def unpacked(path: str, data: bytes) -> Ground:
         return Ground((west, south, east, north), shapes, names, str(head["attribution"]))
 
 
+def read_ground_file(path: str) -> Ground:
+    """Returns the ground of a file that `ttm-tools ground` wrote."""
+    return unpacked(path, read_packed(path))
+
+
 def read_packed(path: str) -> bytes:
     """Returns the packed bytes of a file that `ttm-tools ground` wrote."""
     data = read_bytes(path, MOST_FILE, "a ground")

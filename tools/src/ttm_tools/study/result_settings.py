@@ -5,7 +5,7 @@ from dataclasses import dataclass
 from ..core.limits import MOST_NUMBER
 from ..core.toml_values import TEXT, ascending, number, one_of, whole
 from ..measures.registry import DECAYS
-from .kinds import TEXTS, flag, setting, several
+from .kinds import FILE, TEXTS, flag, setting, several
 
 
 @dataclass(frozen=True)
@@ -46,6 +46,9 @@ class ResultSettings:
     differs: int = setting(whole(0, 604800, "seconds"), "a change of travel time counts above this", "60", 60)
     maps: bool = flag("pictures of access and of each scenario's difference", True)
     map_origins: tuple[str, ...] = several(TEXTS, "stops whose travel times are drawn too", '["B00170S"]')
+    ground: str | None = setting(
+        FILE, "a file of ttm-tools ground, to draw below maps and page; without it, none", '"ground.bin"'
+    )
     isochrones: tuple[str, ...] = several(
         TEXTS, "stops or points from which areas are written, as isochrones/STOP.geojson; needs shapely", '["B00170S"]'
     )

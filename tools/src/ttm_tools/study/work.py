@@ -13,6 +13,7 @@ from ..core.shipped import LEAFLET
 from ..gtfs.stops import read_stops
 from ..matrices import BASE, TODAY, open_matrix
 from ..web.page.document import leaflet_files
+from ..web.page.ground import page_ground
 from .checks import check_shown
 from .executors.remote import ExecutorOptions
 from .inputs import Inputs, make_inputs, sums_of
@@ -84,6 +85,8 @@ def refuse_settings(study: Study, inputs: Inputs) -> None:
     """Refuses before the run what maps and the page couldn't show after it."""
     if study.results.page:
         leaflet_files(LEAFLET)
+    if study.results.ground:
+        page_ground(study.at(study.results.ground), read_stops(inputs.at(inputs.feed)))
     if not (study.results.maps or study.results.page or study.results.isochrones):
         return
     check_shown(study, set(inputs.origins()), "map_origins", "isochrones")

@@ -16,8 +16,10 @@ from matplotlib.patheffects import withStroke
 
 from ..gtfs.projection import Projection
 from ..gtfs.stops import Stops
+from ..ground.contents import Ground
 from .cells import Cells
 from .classes import TOKENS, Mark
+from .ground import ground_layer
 from .map_content import NO_ORIGIN, Picture, round_step
 from .map_lines import MapLines, MapPoints, draw_crosses, draw_lines, over_squares
 from .texts import without_mathtext
@@ -50,13 +52,21 @@ LETTERS: dict[str, Any] = {
 
 
 @without_mathtext
-def draw(picture: Picture, stops: Stops, lines: Sequence[MapLines], note: str, width: int = 1350) -> Figure:
+def draw(
+    picture: Picture,
+    stops: Stops,
+    lines: Sequence[MapLines],
+    note: str,
+    width: int = 1350,
+    ground: Ground | None = None,
+) -> Figure:
     """The picture of these stops, which are those of the matrix, as a figure of this width in pixels."""
     projection = Projection(stops.latitudes, stops.longitudes)
     points, cells = points_of(stops, projection), Cells(stops, projection)
     corners = [path.vertices for path in cells.areas.values()]
     figure, axes = empty_map(limits_of(np.concatenate([points[stops.placed], *corners])), width)
     write_head(figure, picture)
+    layer = ground_layer(ground, projection, axes, bool(cells.are_there.any()))
     if cells.are_there.any():
         lines = over_squares(lines)
     marked = np.where(cells.are_there[:, None], np.nan, points)
@@ -65,7 +75,9 @@ def draw(picture: Picture, stops: Stops, lines: Sequence[MapLines], note: str, w
         draw_crosses(axes, kind, marked, 1.05 + number / 10)
     draw_cells(axes, picture, points, cells)
     draw_stops(axes, picture, marked)
-    draw_names(axes, picture, stops, points)
+    taken = draw_names(axes, picture, stops, points)
+    if layer is not None:
+        layer.draw_names(marked, taken)
     draw_scale(axes)
     draw_key(figure, shaped(picture, cells), points, lines)
     write_notes(figure, picture, f"{note} In brackets: number of {picture.what}.".strip())
@@ -175,8 +187,10 @@ def draw_stops(axes: Any, picture: Picture, points: MapPoints) -> None:
             axes.scatter(chosen[:, 0], chosen[:, 1], c=mark.colour, **shape, **edge)
 
 
-def draw_names(axes: Any, picture: Picture, stops: Stops, points: MapPoints) -> None:
-    """A star and a name at the origin, and names at stops that lose most, as far as they don't cover one another."""
+def draw_names(axes: Any, picture: Picture, stops: Stops, points: MapPoints) -> list[Any]:
+    """A star and a name at the origin, and names at stops that lose most unless they cover one another; returns their
+    boxes.
+    """
     wished = [*([picture.origin] if picture.origin is not None else []), *picture.named]
     if picture.origin is not None and not math.isnan(points[picture.origin, 0]):
         axes.scatter(*points[picture.origin], s=260, edgecolors="white", linewidths=0.9, zorder=5, **STAR)
@@ -192,6 +206,7 @@ def draw_names(axes: Any, picture: Picture, stops: Stops, points: MapPoints) -> 
             name.remove()
         else:
             taken.append(box)
+    return taken
 
 
 def draw_scale(axes: Any) -> None:

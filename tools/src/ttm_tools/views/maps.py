@@ -10,11 +10,12 @@ from ..core.errors import InputError
 from ..core.text import display_text, quantity, rounded
 from ..gtfs.projection import Projection
 from ..gtfs.stops import Stops
+from ..ground.contents import Ground
 from ..matrices import Matrix
 from ..web.page.lines import DrawnLines
 from . import drawing, map_content
 from .classes import BANDS
-from .isochrone_map import draw_bands
+from .isochrone_map import Bands, draw_bands
 from .isochrones import AreaGround, Walking
 from .lines import Planned, lines_of_edits, lines_of_plan
 from .map_content import Picture, PictureOptions
@@ -31,6 +32,7 @@ class Sheet:
     width: int = 1350  # pixels
     edits: list[str] = field(default_factory=list)  # scenario files, named as their scenarios are
     planned: Planned | None = None  # of scenarios of a plan, whose files stand for these
+    ground: Ground | None = None
 
 
 @dataclass(frozen=True)
@@ -74,7 +76,7 @@ def figure_of(picture: Picture, matrix: Matrix, stops: Stops, folder: str, sheet
     projection = Projection(shown_stops.latitudes, shown_stops.longitudes)
     lines, note = lines_below(folder, stops, projection, sheet, base)
     picture = replace(picture, title=sheet.title or picture.title)
-    return drawing.draw(picture, shown_stops, lines, note, sheet.width)
+    return drawing.draw(picture, shown_stops, lines, note, sheet.width, sheet.ground)
 
 
 def say_unplaced(count: int, what: str) -> None:
@@ -94,7 +96,8 @@ def lines_below(
     else:
         lines = lines_of_plan(drawn, sheet.planned)
     drawn_from = "Lines as in shapes.txt." if drawn.shaped else "Lines drawn straight from stop to stop."
-    return lines, f"{drawn_from} {as_sentence(sheet.note)}".strip()
+    ground = sheet.ground.attribution if sheet.ground else ""
+    return lines, " ".join(filter(None, (drawn_from, as_sentence(ground), as_sentence(sheet.note))))
 
 
 def as_sentence(text: str) -> str:
@@ -117,4 +120,4 @@ def figure_of_isochrones(matrix: Matrix, stops: Stops, folder: str, sheet: Sheet
     source, place = map_content.source_of(display_text(scenario), share, matrix), there.places.get(areas.origin)
     picture = Picture(title, subtitle, "Reached within", [], np.zeros(0, np.intp), source, place)
     lines, note = lines_below(folder, stops, ground.projection, sheet, None)
-    return draw_bands(picture, ground, lines, note, sheet.width, bands)
+    return draw_bands(picture, ground, lines, note, sheet.width, Bands(bands, sheet.ground))

@@ -11,6 +11,7 @@ from ...api.count_files import columns_of
 from ...core.filenames import file_names
 from ...core.files import atomic_folder, output
 from ...core.text import quantity
+from ...ground.packing import read_ground_file
 from ...places.selection import points_in
 from ...views import isochrones
 from ...views.isochrones import AreaGround, Walking
@@ -91,8 +92,8 @@ def maps_stages(results: StudyMatrix, records: Records) -> list[Stage]:
     facts["counted"] = inputs.outputs_of("counted") if settings.nearest else {}
     if settings.isochrones:
         facts["isochrones"] = [settings.isochrones, settings.isochrone_bands, study.pace]
-    streets = [study.walks.streets] if settings.isochrones else []
-    return [Sources(study.at, streets).stage("maps", facts, [MAPS], make)]
+    files = [study.walks.streets if settings.isochrones else None, settings.ground]
+    return [Sources(study.at, files).stage("maps", facts, [MAPS], make)]
 
 
 def options_of(results: StudyMatrix, drawn: StudyMap) -> PictureOptions:
@@ -109,7 +110,9 @@ def sheet_of(results: StudyMatrix, drawn: StudyMap) -> Sheet:
     edits = [results.at(inputs.edits[name]) for name in (inputs.base, drawn.scenario) if name in inputs.edits]
     planned = planned_of(results.at(inputs.feed), edits, inputs.base, drawn.scenario, drawn.is_difference)
     own = edits if drawn.is_difference else []
-    return Sheet(None, results.study.about.note, edits=own, planned=planned)
+    ground = results.study.results.ground
+    below = read_ground_file(results.study.at(ground)) if ground else None
+    return Sheet(None, results.study.about.note, edits=own, planned=planned, ground=below)
 
 
 def areas_drawn(results: StudyMatrix, drawn: StudyMap, ground: AreaGround, walking: Walking) -> Any:

@@ -40,7 +40,11 @@ def page_stages(results: StudyMatrix, records: Records) -> list[Stage]:
     texts += [list(study.results.nearest), study.pace]
     counts = [inputs.outputs_of("counted"), inputs.outputs_of("people")]
     facts = {"texts": texts, "counts": counts, "run": inputs.sums, "words": inputs.run.arguments()}
-    return [Sources(study.at, [study.walks.streets]).stage("page", {**results.depends, **facts}, [PAGE], make)]
+    return [
+        Sources(study.at, [study.walks.streets, study.results.ground]).stage(
+            "page", {**results.depends, **facts}, [PAGE], make
+        )
+    ]
 
 
 def limits_of_page(cutoffs: Sequence[float]) -> tuple[list[float], list[str]]:
@@ -86,4 +90,5 @@ def settings_of(results: StudyMatrix) -> PageSettings:
         detour=study.walks.detour,
         streets=study.at(study.walks.streets) if study.walks.streets else None,
         near=study.walks.near,
+        ground=study.at(study.results.ground) if study.results.ground else None,
     )
