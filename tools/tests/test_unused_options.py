@@ -1,8 +1,16 @@
 """Options that would do nothing are refused, and those that count are not."""
 
+from pathlib import Path
+
 import pytest
 
 from helpers import Room, Town, town_matrix
+
+
+@pytest.fixture(autouse=True)
+def in_a_folder_of_its_own(tmp_path: Path, monkeypatch: pytest.MonkeyPatch) -> None:
+    """Tests of other processes write the same default outputs."""
+    monkeypatch.chdir(tmp_path)
 
 
 @pytest.mark.parametrize(
