@@ -36,7 +36,8 @@ rows_more lists new walks a b row at is =
 -- the rows of all stops
 pub all_rows : (feet : FeetData) (lists : FootLists) (a : ℕ) → length feet.walks ≤ a →
     length lists ≡ length feet.walks →
-    ((b : ℕ) → b < length lists → get_or lists b [] ++ reversed_to b a (drop a feet.walks) ≡ reversed_to b 0 feet.walks) →
+    ((b : ℕ) → b < length lists →
+    get_or lists b [] ++ reversed_to b a (drop a feet.walks) ≡ reversed_to b 0 feet.walks) →
     lists ≡ (mirrored_feet feet).walks
 all_rows feet lists a past count each =
     let n = length feet.walks in

@@ -1,8 +1,9 @@
 -- An itinerary: rides, with at most one walk before, between and after them.
 --
--- A journey says when a traveller is where. An itinerary has only inequalities: each link from one ride to the next takes
--- at most the time between them. Its mirror image is therefore an itinerary, too.
-use Rattle.std.specs.Prelude.{◌≡◌, ℕ, zero, suc, ◌+◌, ◌-◌, ◌≤◌, ◌⊎◌, Bool, true, ◌&&◌, cond, slice_get, slice_index, Some}
+-- A journey says when a traveller is where. An itinerary has only inequalities: each link from one ride to the next
+-- takes at most the time between them. Its mirror image is therefore an itinerary, too.
+use Rattle.std.specs.Prelude.{◌≡◌, ℕ, zero, suc, ◌+◌, ◌-◌, ◌≤◌}
+use Rattle.std.specs.Prelude.{◌⊎◌, Bool, true, ◌&&◌, cond, slice_get, slice_index, Some}
 use Rattle.timetable.specs.declared.trips.Event.{Event}
 use Rattle.timetable.specs.declared.trips.Trip.{Trip}
 use Rattle.timetable.specs.Footpaths.{IsFoot}
@@ -37,12 +38,13 @@ pub record RideBetween (n : Net) (on off : Whereabouts) : Type 0 where
   pub leaves : on ≡ record { stop = first.stop.0; time = first.depart }
   pub arrives : off ≡ record { stop = last.stop.0; time = last.arrive }
 
--- k rides lead from a to b. The flags say whether another ride ends at a, and whether another one begins at b: only then
--- does a change time count there
+-- k rides lead from a to b. The flags say whether another ride ends at a, and whether another one begins at b: a change
+-- time counts only between two rides
 abbrev pub Itinerary : Net → Bool → Whereabouts → ℕ → Bool → Whereabouts → Type 0
 Itinerary n before a zero after b = IsLink n (before && after) a b
 Itinerary n before a (suc k) after b =
-    (on : Whereabouts) × (off : Whereabouts) × Itinerary n before a k true on × RideBetween n on off × IsLink n after off b
+    (on : Whereabouts) × (off : Whereabouts) × Itinerary n before a k true on × RideBetween n on off
+    × IsLink n after off b
 
 -- the same place at the mirrored time
 abbrev pub mirrored_place : ℕ → Whereabouts → Whereabouts

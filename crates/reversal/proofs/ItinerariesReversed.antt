@@ -39,6 +39,7 @@ module _ (h : ℕ) (n m : Net) (ends : IsHorizon h n.trips) (is : IsMirrored h n
       subst (λ c. IsLink m c (mirrored_place h b) (mirrored_place h a)) (and_flip before after)
       (link_reversed h n m is (before && after) a b low link)
   itinerary_reversed (suc k) before after a b low (on, off, rest, ride, link) =
-      ride_before m k after before (mirrored_place h b) (mirrored_place h off) (mirrored_place h on) (mirrored_place h a)
+      ride_before m k after before (mirrored_place h b) (mirrored_place h off) (mirrored_place h on)
+      (mirrored_place h a)
       (link_reversed h n m is after off b low link) (ride_reversed h n m is on off ride)
       (itinerary_reversed k before true a on (leaves_in_time on off ride) rest)

@@ -1,5 +1,6 @@
 -- A journey that ends by a deadline exists if and only if an itinerary of as many rides does.
-use Rattle.std.proofs.Common.{◌≡◌, inl, inr, ℕ, zero, suc, ◌+◌, ◌≤◌, List, [], ◌∷◌, Bool, true, false, cond, slice_index}
+use Rattle.std.proofs.Common.{◌≡◌, inl, inr, ℕ, zero, suc, ◌+◌, ◌≤◌}
+use Rattle.std.proofs.Common.{List, [], ◌∷◌, Bool, true, false, cond, slice_index}
 use Rattle.std.proofs.Common.{refl, ◌∙◌, ap, subst, add-one, arith}
 use Rattle.timetable.specs.Footpaths.{IsFoot}
 use Rattle.timetable.specs.Networks.{Net}
@@ -81,7 +82,8 @@ module _ (n : Net) where
 
     -- a link after a ride: the traveller waits, changes or walks
     after_ride : (k trip j i : ℕ) (before : List Leg) (after : Bool) (off b : Whereabouts) →
-        Journey n o (Ride trip j i ∷ before) off → rides before ≡ k → IsLink n after off b → LegsInTime n o (suc k) after b
+        Journey n o (Ride trip j i ∷ before) off → rides before ≡ k → IsLink n after off b →
+        LegsInTime n o (suc k) after b
     after_ride k trip j i before after off b journey count (inl s) =
         record {
           legs = Ride trip j i ∷ before;

@@ -10,3 +10,7 @@ pub mod MirroredFeet
 pub mod MirroredNetworks
 pub mod FootpathsInTurn
 pub mod NothingRefused
+pub mod AlightingChosen
+pub mod DeadlinesMet
+pub mod DurationsReadOut
+pub mod DeadlinesFound

@@ -14,7 +14,8 @@ use Rattle.reversal.proofs.ReversedFootpaths.{to_forth, to_rising}
 use Rattle.reversal.proofs.ReversedPairs.{sum_mapped, walks_reversed}
 
 -- the targets of accepted footpaths ascend
-pub rising_row : (feet : FeetData) → AreFeet feet → (a : ℕ) (row : List (StopNo × ℕ)) → slice_get feet.walks a ≡ Some row →
+pub rising_row : (feet : FeetData) → AreFeet feet → (a : ℕ) (row : List (StopNo × ℕ)) →
+    slice_get feet.walks a ≡ Some row →
     Rising 0 row
 rising_row feet ok a row at =
     rising_from 0 row (ok.in_range.walks.rows a row at).ascending (λ x h. omega arith)

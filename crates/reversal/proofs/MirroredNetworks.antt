@@ -1,5 +1,6 @@
 -- A mirrored network is an accepted network, it is unique, and mirrored again it is the original network.
-use Rattle.std.proofs.Common.{inl, inr, ◌≡◌, ℕ, ◌+◌, ◌-◌, ◌<◌, ◌≤◌, List, length, map, get_or, slice_get, Some, All, sum_by}
+use Rattle.std.proofs.Common.{inl, inr, ◌≡◌, ℕ, ◌+◌, ◌-◌, ◌<◌, ◌≤◌}
+use Rattle.std.proofs.Common.{List, length, map, get_or, slice_get, Some, All, sum_by}
 use Rattle.std.proofs.Common.{refl, sym, ◌∙◌, ap, subst, arith}
 use Rattle.std.specs.Prelude.{reverse}
 use Rattle.std.proofs.lemmas.List.{length-map, length-reverse}
@@ -14,7 +15,8 @@ use Rattle.timetable.specs.Footpaths.{AreFeet}
 use Rattle.timetable.specs.Networks.{Net}
 use Rattle.timetable.proofs.MappedLists.{map_got}
 use Rattle.reversal.specs.Mirror.{IsMirrored, mirrored, mirrored_event, mirrored_trip}
-use Rattle.reversal.specs.Laws.{LastDeparturesAreHorizons, MirroredNetworksAreNetworks, MirroredTwiceIsOriginal, MirroredNetworksAreUnique}
+use Rattle.reversal.specs.Laws.{LastDeparturesAreHorizons, MirroredNetworksAreNetworks}
+use Rattle.reversal.specs.Laws.{MirroredTwiceIsOriginal, MirroredNetworksAreUnique}
 use Rattle.reversal.proofs.MirroredFeet.{are_feet, are_mirrored, lists_count, same_feet}
 use Rattle.reversal.proofs.MirroredParts.{reverse_got}
 use Rattle.reversal.proofs.MirroredTwice.{All-reverse, mirrored_back}

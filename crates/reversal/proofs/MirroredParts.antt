@@ -30,7 +30,8 @@ pub reverse_got : {X : Type 0} (xs : List X) (k : ℕ) (x : X) → slice_get (re
 reverse_got xs k x h =
     let long : length (reverse xs) - 1 - k ≡ length xs - 1 - k = ap (λ m. m - 1 - k) (length-reverse xs) in
     subst (λ j. slice_get xs j ≡ Some x) long
-    (subst (λ ys. slice_get ys (length (reverse xs) - 1 - k) ≡ Some x) (reverse-reverse xs) (reverse_put (reverse xs) k x h))
+    (subst (λ ys. slice_get ys (length (reverse xs) - 1 - k) ≡ Some x) (reverse-reverse xs)
+    (reverse_put (reverse xs) k x h))
 
 -- no event of the network is later than the horizon
 pub event_ends : (h : ℕ) (trips : List Trip) → IsHorizon h trips → (trip k : ℕ) (t : Trip) (e : Event) →
@@ -41,7 +42,8 @@ event_ends h trips ends trip k t e runs at =
 
 module _ (h : ℕ) (n m : Net) (is : IsMirrored h n m) where
   -- the mirror image of a ride
-  pub ride_reversed : (on off : Whereabouts) → RideBetween n on off → RideBetween m (mirrored_place h off) (mirrored_place h on)
+  pub ride_reversed : (on off : Whereabouts) → RideBetween n on off →
+      RideBetween m (mirrored_place h off) (mirrored_place h on)
   ride_reversed on off r =
       let events : List Event = map (mirrored_event h) r.t.events in
       let first = map_put (mirrored_event h) r.t.events r.j r.first r.ride.from in

@@ -55,7 +55,8 @@ module _ (h : ℕ) where
   mirrored_ends : (trips : List Trip) → IsHorizon h (map (mirrored_trip h) trips)
   mirrored_ends trips =
       All-map (λ (t : Trip). All (λ (e : Event). (e.arrive ≤ h) × (e.depart ≤ h)) t.events) (mirrored_trip h) trips
-      (λ k d l. All-reverse (λ (e : Event). (e.arrive ≤ h) × (e.depart ≤ h)) (map (mirrored_event h) (get_or trips k d).events)
+      (λ k d l. All-reverse (λ (e : Event). (e.arrive ≤ h) × (e.depart ≤ h))
+      (map (mirrored_event h) (get_or trips k d).events)
       (All-map (λ (e : Event). (e.arrive ≤ h) × (e.depart ≤ h)) (mirrored_event h) (get_or trips k d).events
       (λ i x m. (omega arith, omega arith))))
 

@@ -119,11 +119,14 @@ module _ (a b : ℕ) where
   pub between_same : (x : StopNo × ℕ) (row : List (StopNo × ℕ)) → x.0.0 ≡ b →
       reversed_between a b (x ∷ row) ≡ (record { 0 = a }, x.1) ∷ reversed_between a b row
   between_same x row e =
-      ap (λ t. cond t ((record { 0 = a }, x.1) ∷ reversed_between a b row) (reversed_between a b row)) (eq-eqb x.0.0 b e)
+      ap (λ t. cond t ((record { 0 = a }, x.1) ∷ reversed_between a b row) (reversed_between a b row))
+      (eq-eqb x.0.0 b e)
 
-  pub between_other : (x : StopNo × ℕ) (row : List (StopNo × ℕ)) → x.0.0 ≢ b → reversed_between a b (x ∷ row) ≡ reversed_between a b row
+  pub between_other : (x : StopNo × ℕ) (row : List (StopNo × ℕ)) → x.0.0 ≢ b →
+      reversed_between a b (x ∷ row) ≡ reversed_between a b row
   between_other x row e =
-      ap (λ t. cond t ((record { 0 = a }, x.1) ∷ reversed_between a b row) (reversed_between a b row)) (ne_eqb x.0.0 b e)
+      ap (λ t. cond t ((record { 0 = a }, x.1) ∷ reversed_between a b row) (reversed_between a b row))
+      (ne_eqb x.0.0 b e)
 
   -- each footpath from a to b has its reverse in the list, and each footpath in the list comes from one
   between_forth : (row : List (StopNo × ℕ)) (seconds : ℕ) → Has row (record { 0 = b }, seconds) →
@@ -181,7 +184,7 @@ module _ (a b : ℕ) where
         (between_rising (suc x.0.0) row rest r.1 more)
   ]
 
--- the same for the footpaths from all stops
+-- so it is for the footpaths from all stops to b
 pub to_forth : (walks : FootLists) (a b c i seconds : ℕ) (row : List (StopNo × ℕ)) → c ≡ a + i →
     slice_get walks i ≡ Some row → Has row (record { 0 = b }, seconds) →
     Has (reversed_to b a walks) (record { 0 = c }, seconds)

@@ -76,7 +76,9 @@ module _ (stops : ℕ) where
   row_reversed a [] = omega (arith, sum_none (range_with_len 0 stops))
   row_reversed a (x ∷ row) =
       let numbers = range_with_len 0 stops in
-      let each = sum_by-le-sum_by (λ b. length (reversed_between a b (x ∷ row))) (λ b. hit x.0.0 b + length (reversed_between a b row))
+      let each =
+      sum_by-le-sum_by (λ b. length (reversed_between a b (x ∷ row)))
+      (λ b. hit x.0.0 b + length (reversed_between a b row))
       numbers (λ b. between_more a b x row) in
       let both = sum_both (hit x.0.0) (λ b. length (reversed_between a b row)) numbers in
       omega (arith, each, both, hits_once x.0.0 0 stops, row_reversed a row)
@@ -89,5 +91,6 @@ module _ (stops : ℕ) where
       let each = sum_by-le-sum_by (λ b. length (reversed_to b a (row ∷ walks)))
       (λ b. length (reversed_between a b row) + length (reversed_to b (suc a) walks)) numbers
       (λ b. omega (arith, length-append (reversed_between a b row) (reversed_to b (suc a) walks))) in
-      let both = sum_both (λ b. length (reversed_between a b row)) (λ b. length (reversed_to b (suc a) walks)) numbers in
+      let both =
+      sum_both (λ b. length (reversed_between a b row)) (λ b. length (reversed_to b (suc a) walks)) numbers in
       omega (arith, each, both, row_reversed a row, walks_reversed (suc a) walks, sum_by-cons length row walks)

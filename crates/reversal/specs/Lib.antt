@@ -1,2 +1,4 @@
 pub mod Mirror
+pub mod Deadlines
+pub mod ReadOut
 pub mod Laws

@@ -1,5 +1,6 @@
 //! Theorems about mirrored networks and their journeys.
-ghost use Rattle.reversal.specs.Laws.{JourneysReverse, LastDeparturesAreHorizons, MirroredNetworksAreNetworks};
+ghost use Rattle.reversal.specs.Laws.{JourneysReverse, LabelsAreLeastUpTo, LastDeparturesAreHorizons};
+ghost use Rattle.reversal.specs.Laws.{LaterDeadlinesServe, LeastDurationsAreReadOut, MirroredNetworksAreNetworks};
 ghost use Rattle.reversal.specs.Laws.{MirroredNetworksAreUnique, MirroredTwiceIsOriginal};
 
 /// A law: a mirrored network is a network like any other; a network has only one; and mirrored again, it is the
@@ -18,4 +19,16 @@ pub fn mirrored_networks_are_networks()
 /// between the mirrored deadline and the mirrored start.
 pub fn journeys_reverse()
     ensures { JourneysReverse }
+{}
+
+/// A law: searches over the mirrored network, one for each deadline of a destination, give the least durations to it.
+///
+/// - `least`: each duration is the lesser of a walk alone and the seconds until the first deadline that serves.
+/// - `later`: a start that a deadline serves is served by every later deadline, too. So the departures of a window that
+///   are served form a front that only grows.
+/// - `up_to`: the labels of a search are right up to every limit, which is all that `least` asks of them.
+pub fn durations_from_deadlines()
+    ensures least { LeastDurationsAreReadOut }
+    ensures later { LaterDeadlinesServe }
+    ensures up_to { LabelsAreLeastUpTo }
 {}

@@ -1,4 +1,5 @@
-use Rattle.reversal.proofs.MirroredNetworks.{last_departures_are_horizons, mirrored_is_net, mirrored_twice, mirrored_is_unique}
+use Rattle.reversal.proofs.MirroredNetworks.{last_departures_are_horizons, mirrored_is_net}
+use Rattle.reversal.proofs.MirroredNetworks.{mirrored_twice, mirrored_is_unique}
 use Rattle.reversal.proofs.laws.mirrored_networks_are_networks.Goals as goal
 
 pub returns-clause-accepted : goal.returns-clause-accepted

@@ -13,7 +13,8 @@ returns-clause-fault c =
     let stops : n.stops ≡ made.stops = sym c.stops.ensures in
     let trips : map (mirrored_trip h) n.trips ≡ made.trips =
     sym (c.in-Ok.ensures ∙ ap (map (mirrored_trip h)) c.trips.ensures) in
-    let feet : mirrored_feet n.feet ≡ made.feet = sym (c.in_ok-feet.ensures.mirrored ∙ ap mirrored_feet c.feet.ensures) in
+    let feet : mirrored_feet n.feet ≡ made.feet =
+    sym (c.in_ok-feet.ensures.mirrored ∙ ap mirrored_feet c.feet.ensures) in
     let same : mirrored h n ≡ made =
     ap (λ s. record { stops = s; trips = map (mirrored_trip h) n.trips; feet = mirrored_feet n.feet }) stops
     ∙ (ap (λ ts. record { stops = made.stops; trips = ts; feet = mirrored_feet n.feet }) trips

@@ -12,6 +12,7 @@ returns-clause-fault c =
     let changes = c.in-Ok-change_times.changes.items in
     let same : mirrored_feet feet ≡ record { walks = walks; changes = changes } =
     ap₂ (λ ws cs. record { walks = ws; changes = cs }) (sym c.in-Ok.ensures) (sym c.in-Ok-change_times.ensures) in
-    let ok : AreFeet (record { walks = walks; changes = changes }) = subst AreFeet same (are_feet feet c.known.ensures) in
+    let ok : AreFeet (record { walks = walks; changes = changes }) =
+    subst AreFeet same (are_feet feet c.known.ensures) in
     absurd (no_feet_fault c.in-Err.fault c.stops.result (record { walks = walks; changes = changes }) ok
     (ap length c.in-Ok.ensures ∙ (lists_count feet c.known.ensures ∙ sym c.stops.ensures)) c.in-Err.ensures.fault)

@@ -1,0 +1,3 @@
+pub mod CutLabels
+pub mod UntilServed
+pub mod FrontsGrow
