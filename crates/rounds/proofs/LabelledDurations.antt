@@ -19,9 +19,9 @@ use Rattle.timetable.specs.Numbering.{number_in}
 use Rattle.useful_minutes.proofs.FilledLabels.{position_before}
 use Rattle.useful_minutes.specs.Boarding.{IsNear}
 use Rattle.useful_minutes.specs.Counted.{IsCounted, narrow_at}
-use Rattle.useful_minutes.specs.Plan.{IsPlan, SkipsNothing, StandsIn}
+use Rattle.useful_minutes.specs.Plan.{StandsIn}
 use Rattle.useful_minutes.specs.Waits.{IsWalked}
-use Rattle.rounds.proofs.CountedMinutes.{counted_in, counted_since}
+use Rattle.rounds.proofs.CountedMinutes.{at_within, counted_in, counted_since}
 use Rattle.rounds.proofs.DurationsUnique.{durations_unique}
 use Rattle.rounds.proofs.FilledTable.{known_least}
 use Rattle.rounds.proofs.LeastWalks.{IsLeastWalk, known_lowered, least_is_least, lesser_none}
@@ -29,10 +29,12 @@ use Rattle.rounds.specs.Labels.{AreLabelsOf, AreQueryLabels, AreWalksFrom, AreWi
 use Rattle.rounds.specs.Labels.{IsDurationFrom, Represent, labels_of, least_walk, lesser, walk_seconds, walk_stop}
 use Rattle.rounds.specs.Laws.{LabelsRepresentDurations}
 use Rattle.rounds.specs.Query.{IsQueryOf, IsValidQuery}
-use Rattle.rounds.specs.Table.{DurationTable, at, batches_of, known_of, IsLeastOrNone}
+use Rattle.rounds.specs.Skipped.{IsPlanOf}
+use Rattle.rounds.specs.Table.{DurationTable, at, known_of, IsLeastOrNone}
 use Rattle.rounds.specs.Window.{departure, AreDurations}
 use Rattle.rounds.specs.declared.labels.WindowLabels.{WindowLabels}
 use Rattle.rounds.specs.declared.query.Query.{Query}
+use Rattle.rounds.specs.declared.skipped.WindowPlan.{WindowPlan}
 
 -- a walk alone leads to a stop that there is, and takes less than NEVER
 near_in_range : (n : Net) → IsNet n → (origin p seconds : ℕ) → origin < n.stops → IsNear n origin p seconds →
@@ -151,22 +153,20 @@ one_position searched m i j wait other one two = elim (cases_lt i j) [
   ]
 ]
 
-module _ (n : Net) (q : Query) (origin : ℕ) (ok : IsNet n) (good : IsNet q.network.now) (valid : IsValidQuery q)
-    (w : WindowLabels) (labels : AreQueryLabels q w) (positions waits : List ℕ)
-    (plan : IsPlan q.window.minutes (16 * batches_of q.window.minutes) q.searched.now positions waits)
-    (skips : SkipsNothing q.network.now q.origin.0 q.window.first q.window.minutes q.searched.now positions)
+module _ (n : Net) (q : Query) (plan : WindowPlan) (origin : ℕ) (ok : IsNet n) (good : IsNet q.network.now)
+    (valid : IsValidQuery q) (is : IsPlanOf q plan) (w : WindowLabels) (labels : AreQueryLabels q plan w)
     (of : IsQueryOf n origin w.numbers.now q) (start : origin < n.stops) where
   abbrev number : ℕ → ℕ
   number p = slice_index w.numbers.now p
 
   abbrev base_at : ℕ → ℕ
-  base_at m = slice_index w.found.bases.now (slice_index positions m)
+  base_at m = slice_index w.found.bases.now (slice_index plan.positions.now m)
 
   abbrev label_at : ℕ → ℕ → ℕ
-  label_at p m = narrow_at w.found.width w.found.labels.now (number p) (slice_index positions m)
+  label_at p m = narrow_at w.found.width w.found.labels.now (number p) (slice_index plan.positions.now m)
 
   abbrev by_label : ℕ → ℕ → Option ℕ
-  by_label p m = of_label (base_at m) (departure q.window m) (label_at p m)
+  by_label p m = of_label (base_at m) (departure plan.window m) (label_at p m)
 
   abbrev walk_to : ℕ → Option ℕ
   walk_to p = least_walk w.walks.now (number p) (length w.walks.now)
@@ -177,9 +177,9 @@ module _ (n : Net) (q : Query) (origin : ℕ) (ok : IsNet n) (good : IsNet q.net
   abbrev table : DurationTable
   table = record {
     stops = n.stops;
-    minutes = q.window.minutes;
-    durations = map (λ (i : ℕ). entry (i / q.window.minutes) (i % q.window.minutes))
-        (range_with_len 0 (n.stops * q.window.minutes));
+    minutes = plan.window.minutes;
+    durations = map (λ (i : ℕ). entry (i / plan.window.minutes) (i % plan.window.minutes))
+        (range_with_len 0 (n.stops * plan.window.minutes));
   }
 
   short_walks : (i : ℕ) → i < length w.walks.now →
@@ -187,58 +187,59 @@ module _ (n : Net) (q : Query) (origin : ℕ) (ok : IsNet n) (good : IsNet q.net
   short_walks i l = near_in_range q.network.now good q.origin.0 (walk_stop w.walks.now i) (walk_seconds w.walks.now i)
       valid.origin (labels.walks.sound i l)
 
-  at_entry : (p m : ℕ) → p < n.stops → m < q.window.minutes → at table p m ≡ entry p m
+  at_entry : (p m : ℕ) → p < n.stops → m < plan.window.minutes → at table p m ≡ entry p m
   at_entry p m l r =
-      get_or-map-range_with_len (λ (i : ℕ). entry (i / q.window.minutes) (i % q.window.minutes)) 0
-      (n.stops * q.window.minutes) (p * q.window.minutes + m) (p * q.window.minutes + m) None
-      (position_before q.window.minutes p n.stops m l r) (omega arith)
-      ∙ (ap (λ (x : ℕ). entry x ((p * q.window.minutes + m) % q.window.minutes)) (div-mul-add p q.window.minutes m r)
-      ∙ ap (λ (x : ℕ). entry p x) (mod-mul-add p q.window.minutes m r))
+      get_or-map-range_with_len (λ (i : ℕ). entry (i / plan.window.minutes) (i % plan.window.minutes)) 0
+      (n.stops * plan.window.minutes) (p * plan.window.minutes + m) (p * plan.window.minutes + m) None
+      (position_before plan.window.minutes p n.stops m l r) (omega arith)
+      ∙ (ap (λ (x : ℕ). entry x ((p * plan.window.minutes + m) % plan.window.minutes)) (div-mul-add p plan.window.minutes m r)
+      ∙ ap (λ (x : ℕ). entry p x) (mod-mul-add p plan.window.minutes m r))
 
   -- the entry of a stop and a minute is the least duration
-  least_entry : (p m : ℕ) → p < n.stops → m < q.window.minutes →
-      IsLeastOrNone (IsDuration n origin (departure q.window m) q.rides p) (entry p m)
+  least_entry : (p m : ℕ) → p < n.stops → m < plan.window.minutes →
+      IsLeastOrNone (IsDuration n origin (departure plan.window m) q.rides p) (entry p m)
   least_entry p m l r =
-      let stands = plan.each m r in
+      let within = at_within q plan good valid is w.found.width w.found.labels.now w.found.bases.now labels.told
+      (number p) m (let h = of.low p l in omega (arith, h, of.stops)) r in
       let there : number p < q.network.now.stops = (let h = of.low p l in omega (arith, h, of.stops)) in
-      let told = labels.told.each (number p) (slice_index positions m) there (omega arith) stands.within in
-      let since = counted_since q good valid positions waits plan skips w.found.width w.found.labels.now
-      w.found.bases.now labels.told (number p) m there r in
-      let early = labels.told.early (slice_index positions m) (omega arith) stands.within in
+      let told = labels.told.each (number p) (slice_index plan.positions.now m) there (omega arith) within in
+      let since = counted_since q plan good valid is w.found.width w.found.labels.now w.found.bases.now labels.told
+      (number p) m there r in
+      let early = labels.told.early (slice_index plan.positions.now m) (omega arith) within in
       let fits = told.fits in
-      let counted = counted_number (base_at m) (departure q.window m) (label_at p m) since fits early in
-      let known = known_number (base_at m) (departure q.window m) (label_at p m) since fits early in
+      let counted = counted_number (base_at m) (departure plan.window m) (label_at p m) since fits early in
+      let known = known_number (base_at m) (departure plan.window m) (label_at p m) since fits early in
       let with_walks = lowered q.network.now q.origin.0 (number p)
-      (number_of (base_at m) (departure q.window m) (label_at p m)) (by_label p m) w.walks.now known labels.walks
+      (number_of (base_at m) (departure plan.window m) (label_at p m)) (by_label p m) w.walks.now known labels.walks
       (λ i h. (short_walks i h).1) (walk_to p) (least_is_least w.walks.now (number p) (length w.walks.now)) in
-      let least = counted_in q good valid positions waits plan skips w.found.width w.found.labels.now w.found.bases.now
-      labels.told (number p) m there r (number_of (base_at m) (departure q.window m) (label_at p m)) counted with_walks.value
+      let least = counted_in q plan good valid is w.found.width w.found.labels.now w.found.bases.now labels.told
+      (number p) m there r (number_of (base_at m) (departure plan.window m) (label_at p m)) counted with_walks.value
       with_walks.walked in
-      let here = (labels_stay (number_in w.numbers.now) n q.network.now origin (departure q.window m) q.rides p
+      let here = (labels_stay (number_in w.numbers.now) n q.network.now origin (departure plan.window m) q.rides p
       with_walks.value ok of.renumbered start l).1
-      (subst (λ (x : ℕ). IsLeastOrNever (IsDuration q.network.now x (departure q.window m) q.rides (number p))
+      (subst (λ (x : ℕ). IsLeastOrNever (IsDuration q.network.now x (departure plan.window m) q.rides (number p))
       with_walks.value) of.start least) in
-      subst (λ (o : Option ℕ). IsLeastOrNone (IsDuration n origin (departure q.window m) q.rides p) o) with_walks.known
-      (known_least (IsDuration n origin (departure q.window m) q.rides p) with_walks.value here)
+      subst (λ (o : Option ℕ). IsLeastOrNone (IsDuration n origin (departure plan.window m) q.rides p) o) with_walks.known
+      (known_least (IsDuration n origin (departure plan.window m) q.rides p) with_walks.value here)
 
-  pub durations_are : AreDurations n origin q.window q.rides table
+  pub durations_are : AreDurations n origin plan.window q.rides table
   durations_are =
       record {
         size = record {
           size = length-map-range_with_len
-              (λ (i : ℕ). entry (i / q.window.minutes) (i % q.window.minutes)) 0 (n.stops * q.window.minutes);
+              (λ (i : ℕ). entry (i / plan.window.minutes) (i % plan.window.minutes)) 0 (n.stops * plan.window.minutes);
           few_stops = omega (arith, ok.feet.within.walks.stops, ok.in_range.lists);
-          few_minutes = valid.fits.few;
+          few_minutes = is.fits.few;
         };
         stops = refl;
         minutes = refl;
         each = λ p m l r.
-            subst (λ (o : Option ℕ). IsLeastOrNone (IsDuration n origin (departure q.window m) q.rides p) o)
+            subst (λ (o : Option ℕ). IsLeastOrNone (IsDuration n origin (departure plan.window m) q.rides p) o)
             (sym (at_entry p m l r)) (least_entry p m l r);
       }
 
   -- the labels of a stop, side by side
-  label_of_stop : (p j : ℕ) → j < length q.searched.now →
+  label_of_stop : (p j : ℕ) → j < length plan.searched.now →
       slice_index (labels_of w (number p)) j ≡ narrow_at w.found.width w.found.labels.now (number p) j
   label_of_stop p j l =
       get_or-chunk {X = ℕ} (number p * w.found.width) (length w.searched.now) w.found.labels.now j 0
@@ -252,17 +253,17 @@ module _ (n : Net) (q : Query) (origin : ℕ) (ok : IsNet n) (good : IsNet q.net
         by_label = by_label;
         labels = λ p there. record {
           each = λ m j wait l stands.
-              let r : m < q.window.minutes = (let e = labels.minutes in omega (arith, e, l)) in
-              let here : StandsIn q.searched.now m j wait = rw (← labels.searched) stands in
-              let same = one_position q.searched.now m (slice_index positions m) j (slice_index waits m) wait
-              (plan.each m r) here in
+              let r : m < plan.window.minutes = (let e = labels.minutes in omega (arith, e, l)) in
+              let here : StandsIn plan.searched.now m j wait = rw (← labels.searched) stands in
+              let same = one_position plan.searched.now m (slice_index plan.positions.now m) j (slice_index plan.waits.now m) wait
+              (is.plan.each m r) here in
               subst (λ (x : ℕ). IsDurationFrom (slice_index w.found.bases.now j) (w.first + 60 * m) x (by_label p m))
               (sym (label_of_stop p j here.within))
               (subst (λ (x : ℕ). IsDurationFrom (slice_index w.found.bases.now j) (x + 60 * m)
               (narrow_at w.found.width w.found.labels.now (number p) j) (by_label p m)) (sym labels.first)
-              (subst (λ (x : ℕ). IsDurationFrom (slice_index w.found.bases.now x) (departure q.window m)
+              (subst (λ (x : ℕ). IsDurationFrom (slice_index w.found.bases.now x) (departure plan.window m)
               (narrow_at w.found.width w.found.labels.now (number p) x) (by_label p m)) same
-              (is_from (base_at m) (departure q.window m) (label_at p m))));
+              (is_from (base_at m) (departure plan.window m) (label_at p m))));
         };
         durations = at_entry;
       }
@@ -270,20 +271,23 @@ module _ (n : Net) (q : Query) (origin : ℕ) (ok : IsNet n) (good : IsNet q.net
   pub window_labels : AreWindowLabels w
   window_labels =
       let many = ap length labels.searched in
+      let long = is.times.count in
       record {
         positions = record {
-          plan = rw (labels.searched, labels.minutes) valid.searched;
-          few = (let e = labels.minutes in let few = valid.fits.few in omega (arith, e, few));
-          axis = (let e = labels.first in let axis = valid.fits.on_axis 0 valid.fits.some in omega (arith, e, axis));
-          too = labels.many ∙ sym many;
+          plan = rw (labels.searched, labels.minutes) is.plan.are;
+          few = (let e = labels.minutes in let few = is.fits.few in omega (arith, e, few));
+          axis = (let e = labels.first in let axis = is.fits.on_axis 0 is.fits.some in omega (arith, e, axis));
+          too = omega (arith, labels.many, long, many);
           before = λ j l.
-              let b = labels.told.before j (omega arith) (omega (arith, l, many)) in
-              rw (labels.searched, labels.first) b;
+              let b = labels.told.before j (omega arith) (omega (arith, l, many, long)) in
+              let e = is.times.each j (omega (arith, l, many)) in
+              rw (labels.searched, labels.first) (omega (arith, b, e));
           near = λ j l.
-              let b = labels.told.near j (omega arith) (omega (arith, l, many)) in
-              rw (labels.searched, labels.first) b;
+              let b = labels.told.near j (omega arith) (omega (arith, l, many, long)) in
+              let e = is.times.each j (omega (arith, l, many)) in
+              rw (labels.searched, labels.first) (omega (arith, b, e));
         };
-        width = (let wide = labels.wide in omega (arith, wide, many));
+        width = (let wide = labels.wide in omega (arith, wide, many, long));
         space = subst (λ (x : ℕ). (x + 15) * w.found.width + 8 ≤ length w.found.labels.now) (of.stops ∙ sym of.size)
             labels.space;
         few = omega (arith, of.size, ok.feet.within.walks.stops, ok.in_range.lists);
@@ -292,19 +296,20 @@ module _ (n : Net) (q : Query) (origin : ℕ) (ok : IsNet n) (good : IsNet q.net
         seconds = λ i l. (short_walks i l).1;
         since = λ p l. record {
           since = λ j r reached.
-              let within : j < length q.searched.now = omega (arith, r, many) in
+              let within : j < length plan.searched.now = omega (arith, r, many) in
               let there : number p < q.network.now.stops =
               (let h = of.low p (omega (arith, l, of.size)) in omega (arith, h, of.stops)) in
-              let told = labels.told.each (number p) j there (omega arith) within in
+              let told = labels.told.each (number p) j there (omega arith) (omega (arith, within, long)) in
+              let departs = is.times.each j within in
               let label = label_of_stop p j within in
               let after = told.after (λ never. reached (label ∙ never)) in
               let first = labels.first in
               let at = ap (λ (xs : List ℕ). slice_index xs j) labels.searched in
-              omega (arith, after, label, first, at);
+              omega (arith, after, label, first, at, departs);
         };
       }
 
-  pub labels_are : AreLabelsOf n origin q.window q.rides w
+  pub labels_are : AreLabelsOf n origin plan.window q.rides w
   labels_are =
       record {
         are = window_labels;
@@ -314,14 +319,12 @@ module _ (n : Net) (q : Query) (origin : ℕ) (ok : IsNet n) (good : IsNet q.net
       }
 
 -- so do labels that a query found
-pub labels_of_query : {q : Query} (w : WindowLabels) → AreQueryLabels q w → (n : Net) (origin : ℕ) → IsNet n →
-    IsNet q.network.now → IsValidQuery q → (positions waits : List ℕ) →
-    IsPlan q.window.minutes (16 * batches_of q.window.minutes) q.searched.now positions waits →
-    SkipsNothing q.network.now q.origin.0 q.window.first q.window.minutes q.searched.now positions →
+pub labels_of_query : {q : Query} {plan : WindowPlan} (w : WindowLabels) → AreQueryLabels q plan w → (n : Net)
+    (origin : ℕ) → IsNet n → IsNet q.network.now → IsValidQuery q → IsPlanOf q plan →
     (numbers : List ℕ) → w.numbers.now ≡ numbers → IsQueryOf n origin numbers q → origin < n.stops →
-    AreLabelsOf n origin q.window q.rides w
-labels_of_query {q} w labels n origin ok good valid positions waits plan skips numbers same of start =
-    labels_are n q origin ok good valid w labels positions waits plan skips
+    AreLabelsOf n origin plan.window q.rides w
+labels_of_query {q} {plan} w labels n origin ok good valid is numbers same of start =
+    labels_are n q plan origin ok good valid is w labels
     (subst (λ (ns : List ℕ). IsQueryOf n origin ns q) (sym same) of) start
 
 -- labels represent each table of the least durations

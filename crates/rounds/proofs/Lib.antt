@@ -22,6 +22,7 @@ pub mod LineByLine
 pub mod LinesByRank
 pub mod LinesSuffice
 pub mod NoneReached
+pub mod PlannedWindows
 pub mod PlainForms
 pub mod RoundsReach
 pub mod SearchedBatches

@@ -13,6 +13,7 @@ use Rattle.rounds.specs.declared.labels.LabelsOrDurations.TheVariants.{Labels, D
 use Rattle.rounds.specs.declared.labels.WindowLabels.{WindowLabels}
 use Rattle.rounds.specs.declared.query.Query.{Query}
 use Rattle.rounds.specs.declared.search.Search.{Search}
+use Rattle.rounds.specs.declared.skipped.WindowPlan.{WindowPlan}
 use Rattle.rounds.specs.declared.window.TheConstants.{MOST_MINUTES}
 use Rattle.rounds.specs.declared.window.Window.{Window}
 use Rattle.rounds.specs.Arrivals.{AreAllTold, AreToldFrom}
@@ -102,22 +103,22 @@ pub record Represent (w : WindowLabels) (t : DurationTable) : Type 0 where
   pub durations : (p m : ℕ) → p < t.stops → m < t.minutes → at t p m
       ≡ lesser (by_label p m) (least_walk w.walks.now (slice_index w.numbers.now p) (length w.walks.now))
 
--- the labels of a query's searched minutes, from which nothing is missing: they count from a base each, and the walks
--- alone go with them
-pub record AreQueryLabels (q : Query) (w : WindowLabels) : Type 0 where
-  pub searched : w.searched.now ≡ q.searched.now
-  pub first : w.first ≡ q.window.first
-  pub minutes : w.minutes ≡ q.window.minutes
-  pub many : length w.found.bases.now ≡ length q.searched.now
-  pub wide : length q.searched.now ≤ w.found.width
+-- the labels of a query's departures, those of the searched minutes, from which nothing is missing: they count from a
+-- base each, and the walks alone go with them
+pub record AreQueryLabels (q : Query) (p : WindowPlan) (w : WindowLabels) : Type 0 where
+  pub searched : w.searched.now ≡ p.searched.now
+  pub first : w.first ≡ p.window.first
+  pub minutes : w.minutes ≡ p.window.minutes
+  pub many : length w.found.bases.now ≡ length q.times.now
+  pub wide : length q.times.now ≤ w.found.width
   pub space : (q.network.now.stops + 15) * w.found.width + 8 ≤ length w.found.labels.now
   pub told : AreToldFrom q w.found.width w.found.labels.now w.found.bases.now 0
   pub walks : AreWalksFrom q.network.now q.origin.0 w.walks.now
 
--- a search holds the labels of a query, its searched minutes, and the walks alone from its origin
-pub record HasLabels (q : Query) (s : Search) : Type 0 where
+-- a search holds the labels of a query, the searched minutes, and the walks alone from its origin
+pub record HasLabels (q : Query) (p : WindowPlan) (s : Search) : Type 0 where
   pub labels : AreAllTold q s.searched_labels.width s.searched_labels.labels.items s.searched_labels.bases.items
-  pub searched : s.searched_minutes.items ≡ q.searched.now
+  pub searched : s.searched_minutes.items ≡ p.searched.now
   pub walks : AreWalksFrom q.network.now q.origin.0 s.walks.items
 
 -- labels that represent the least durations of journeys of at most k rides

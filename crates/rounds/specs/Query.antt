@@ -1,22 +1,26 @@
 -- Valid queries of a search, and the lengths of its workspace.
 use Rattle.std.specs.Prelude.{◌≡◌, ◌+◌, ℕ, ◌<◌, ◌≤◌, List, length, slice_index}
+use Rattle.timetable.specs.declared.limits.TheConstants.{END_OF_AXIS}
 use Rattle.timetable.specs.Lines.{LineTable, AreLinesOf}
 use Rattle.timetable.specs.Networks.{Net}
 use Rattle.timetable.specs.Numbering.{number_in}
 use Rattle.timetable.specs.Renumbering.{IsRenumbered}
-use Rattle.useful_minutes.specs.Plan.{AreMinutes}
 use Rattle.rounds.specs.declared.query.Query.{Query}
 use Rattle.rounds.specs.declared.workspace.Workspace.{Workspace}
-use Rattle.rounds.specs.Window.{Fits}
 use Rattle.rounds.specs.declared.window.TheConstants.{MOST_RIDES}
 
--- a query that can be searched: the origin is a stop, the window fits, the minutes are in order, the lines are the
--- network's, and rides are within the limit
+-- departures that can be searched: there is one, they ascend strictly, and each is on the axis
+pub record AreDepartures (times : List ℕ) : Type 0 where
+  pub some : 0 < length times
+  pub ascend : (j : ℕ) → j + 1 < length times → slice_index times j < slice_index times (j + 1)
+  pub on_axis : (j : ℕ) → j < length times → slice_index times j < END_OF_AXIS
+
+-- a query that can be searched: the origin is a stop, the departures are in order, the lines are the network's, and
+-- rides are within the limit
 pub record IsValidQuery (q : Query) : Type 0 where
   pub origin : q.origin.0 < q.network.now.stops
-  pub fits : Fits q.window
   pub rides : q.rides ≤ MOST_RIDES
-  pub searched : AreMinutes q.window.minutes q.searched.now
+  pub times : AreDepartures q.times.now
   pub lines : AreLinesOf q.network.now.stops q.network.now.trips q.lines.now
 
 -- a query of this network, with its stops by these numbers, from this origin

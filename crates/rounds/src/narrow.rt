@@ -1,14 +1,13 @@
-//! The searched minutes of a window by narrow labels, which may not tell all arrivals. Each batch takes as many lanes
-//! as it needs: sixteen, thirty-two or forty-eight.
+//! All departures of a query by narrow labels, which may not represent every arrival. Each batch takes as many lanes as
+//! it needs: sixteen, thirty-two or forty-eight.
 ghost use Rattle.std.specs.Prelude.{◌≡◌, ℕ, ◌+◌, ◌*◌, ◌%◌, ◌<◌, ◌≤◌, ◌⊎◌, length, slice_index, IsTrue, IfOk, OnOk};
-ghost use Rattle.timetable.specs.declared.limits.TheConstants.{MOST_FOOT_SECONDS, MOST_STOPS};
+ghost use Rattle.timetable.specs.declared.limits.TheConstants.{END_OF_AXIS, MOST_STOPS};
 ghost use Rattle.trip_lanes.specs.declared.lanes.TheConstants.{LANES as LANES_VALUE};
 ghost use Rattle.useful_minutes.specs.Counted.{narrow_at};
 ghost use Rattle.rounds.specs.Arrivals.{AreAllTold, AreFoundSoFar, HaveRoomFor};
 ghost use Rattle.rounds.specs.Searches.{IsSearch, arrival_in};
-ghost use Rattle.rounds.specs.declared.window.TheConstants.{MOST_MINUTES};
 
-use crate::batches::{Bounds, no_bounds, try_batch};
+use crate::batches::{Bounds, is_in_range, no_bounds, try_batch};
 use crate::query::Query;
 use crate::unreached::LastArrivals;
 use crate::workspace::Workspace;
@@ -48,10 +47,10 @@ impl NarrowWorkspaces {
     }
 }
 
-/// The labels of the searched minutes, of each stop side by side. What they hold when a search begins doesn't matter.
+/// The labels of the departures, of each stop side by side. What they hold when a search begins doesn't matter.
 #[derive(Drop)]
 pub(crate) struct SearchedLabels {
-    /// By when each stop is reached, in seconds from the base of the minute. There is space for fifteen stops more and
+    /// By when each stop is reached, in seconds from the base of the departure. There is space for fifteen stops more and
     /// eight labels after them, because readers take stops in groups of sixteen and labels in blocks of eight.
     pub labels: Vec<u16>,
     /// From when on the label at a position counts, in seconds on the axis.
@@ -76,7 +75,7 @@ impl SearchedLabels {
     /// Makes room for so many labels of each stop, unless there is enough. None is found yet.
     fn fit(&mut self, alloc: Global, stops: usize, width: usize) -> Result<(), AllocError>
         requires stops { stops ≤ MOST_STOPS }
-        requires width { width ≤ 2 * MOST_MINUTES }
+        requires width { width ≤ 2 * END_OF_AXIS }
         ensures room { OnOk result (HaveRoomFor stops width self.new.labels.items self.new.bases.items) }
         ensures width { OnOk result (self.new.width ≡ width) }
         ensures from { OnOk result (self.new.from ≡ width) }
@@ -94,7 +93,7 @@ impl SearchedLabels {
     }
 }
 
-/// Writes the labels of a batch, from its position on, among those of all searched minutes.
+/// Writes the labels of a batch, from its position on, among those of all departures.
 fn write_found<R: NarrowLabels>(
     found: &mut [u16],
     workspace: &Workspace<R>,
@@ -131,8 +130,8 @@ fn write_bases(bases: &mut [u32], from: usize, lanes: usize, base: u32)
     }
 }
 
-/// Finds the labels of the next batch, which ends where those found begin, of as many minutes as there are lanes. Where
-/// labels can't tell all arrivals it gives up, and says so.
+/// Finds the labels of the next batch, which ends where those found begin, of as many departures as there are lanes.
+/// Returns `false` if labels can't represent every arrival.
 fn find_batch<R: NarrowLabels>(
     alloc: Global,
     query: Query<'_>,
@@ -142,7 +141,6 @@ fn find_batch<R: NarrowLabels>(
     found: &mut SearchedLabels,
 ) -> Result<bool, AllocError>
     requires search { IsSearch 65535 query last.old.times.items }
-    requires far { 480 * R.LANES + MOST_FOOT_SECONDS + 1 < R.NEVER }
     requires some { R.LANES ≤ found.old.from }
     requires found { AreFoundSoFar query bounds.old found.old }
     ensures search { OnOk result (IsSearch 65535 query.entry last.new.times.items) }
@@ -152,6 +150,9 @@ fn find_batch<R: NarrowLabels>(
     query.network.known();
     workspace.fit(alloc, query.network.stops(), query.lines)?;
     found.from -= R::LANES;
+    if !is_in_range::<R>(query, found.from) {
+        return Ok(false);
+    }
     let Some(base) = try_batch(alloc, query, found.from, bounds, workspace, last)? else {
         return Ok(false);
     };
@@ -162,8 +163,8 @@ fn find_batch<R: NarrowLabels>(
     Ok(true)
 }
 
-/// Finds the labels of the next batch, in as many lanes as it needs: sixteen, thirty-two or forty-eight minutes are one
-/// batch, and sixty-four are halved; of more, forty-eight are the next.
+/// Finds the labels of the next batch, in as many lanes as it needs: sixteen, thirty-two or forty-eight departures are
+/// one batch, and sixty-four are halved; of more, forty-eight are the next.
 fn find_next(
     alloc: Global,
     query: Query<'_>,
@@ -202,8 +203,8 @@ fn find_next(
     }
 }
 
-/// Finds the labels of each searched minute of a window, batch by batch from the last, each bounded by the one after
-/// it. Where labels can't tell all arrivals it gives up, and says so: what is found is then of no use.
+/// Finds the labels of each departure of a query, batch by batch from the last, each bounded by the one after it.
+/// Returns `false` if labels can't represent every arrival: what is found is then of no use.
 ///
 /// `last` bounds how late somebody may be at each stop. Out of memory is the only error.
 pub(crate) fn run_narrow(
@@ -218,7 +219,7 @@ pub(crate) fn run_narrow(
         AreAllTold query.entry found.new.width found.new.labels.items found.new.bases.items) }
 {
     query.network.known();
-    let width = LANES * ((query.searched.len() + (LANES - 1)) / LANES);
+    let width = LANES * ((query.times.len() + (LANES - 1)) / LANES);
     found.fit(alloc, query.network.stops() as usize, width)?;
     let mut bounds = no_bounds(alloc, query)?;
     while found.from > 0 {

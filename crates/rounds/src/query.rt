@@ -1,8 +1,7 @@
 //! The input of a search.
-use crate::window::Window;
 use timetable::{Lines, Renumbered, StopNo};
 
-/// A search from `origin`, in the searched minutes of `window`, for journeys of at most `rides` rides.
+/// A search from `origin` at each of the departures `times`, for journeys of at most `rides` rides.
 #[derive(Clone, Copy)]
 pub(crate) struct Query<'a> {
     /// The network, with stops by their search numbers.
@@ -10,8 +9,7 @@ pub(crate) struct Query<'a> {
     /// The lines of the network.
     pub lines: &'a Lines,
     pub origin: StopNo,
-    pub window: Window,
-    /// The minutes of the window that are searched.
-    pub searched: &'a [u32],
+    /// The departures in strictly ascending order, in seconds on the axis.
+    pub times: &'a [u32],
     pub rides: u32,
 }

@@ -1,10 +1,12 @@
-//! The minutes of a window that aren't searched: which they are, and the durations of all minutes.
-ghost use Rattle.std.specs.Prelude.{ℕ, ◌*◌, ◌<◌, List, IfOk, OnOk};
-ghost use Rattle.useful_minutes.specs.Plan.{IsPlan, SkipsNothing};
+//! A window of departures: which of its minutes are searched, and the durations of all minutes.
+ghost use Rattle.std.specs.Prelude.{◌≡◌, ℕ, ◌*◌, ◌<◌, IfOk, OnOk};
+ghost use Rattle.useful_minutes.specs.Plan.{AreMinutes, IsPlan, SkipsNothing};
 ghost use Rattle.trip_lanes.specs.declared.lanes.TheConstants.{LANES};
 ghost use Rattle.rounds.specs.Arrivals.{AreAllTold};
-ghost use Rattle.rounds.specs.Batches.{AreWindowDurations, ArePackedDurations};
-ghost use Rattle.rounds.specs.Query.{IsValidQuery};
+ghost use Rattle.rounds.specs.Batches.{AreWindowDurations};
+ghost use Rattle.rounds.specs.Query.{AreDepartures, IsValidQuery};
+ghost use Rattle.rounds.specs.Searches.{HasPackedDurations};
+ghost use Rattle.rounds.specs.Skipped.{AreTimesOf, IsPlanOf};
 ghost use Rattle.rounds.specs.Table.{batches_of};
 ghost use Rattle.rounds.specs.Window.{Fits};
 
@@ -15,6 +17,39 @@ use std::alloc::{AllocError, Global};
 use timetable::{Renumbered, StopNo};
 use trip_lanes::{LANES, Lanes};
 use useful_minutes::{Found, Plan, count_durations, fill_in, plan_for, walk_alone};
+
+/// A window, and how the durations of its minutes follow from those of the searched ones.
+#[derive(Clone, Copy)]
+pub(crate) struct WindowPlan<'a> {
+    pub window: Window,
+    /// The minutes of the window that are searched, in ascending order.
+    pub searched: &'a [u32],
+    /// For each minute the position of the searched minute that stands in for it.
+    pub positions: &'a [u32],
+    /// The seconds from each minute to the one that stands in for it.
+    pub waits: &'a [u32],
+    /// The search number of each stop of the network.
+    pub numbers: &'a [u32],
+}
+
+impl<'a> WindowPlan<'a> {
+    /// The plan of a window, as `useful_minutes` gives it, and the stops' search numbers.
+    pub(crate) fn new(window: Window, found: &'a Plan, numbers: &'a [u32]) -> Self
+        ensures window { result.window ≡ window }
+        ensures searched { result.searched.now ≡ found.now.minutes.items }
+        ensures positions { result.positions.now ≡ found.now.positions.items }
+        ensures waits { result.waits.now ≡ found.now.waits.items }
+        ensures numbers { result.numbers.now ≡ numbers.now }
+    {
+        WindowPlan {
+            window,
+            searched: found.minutes.as_slice(),
+            positions: found.positions.as_slice(),
+            waits: found.waits.as_slice(),
+            numbers,
+        }
+    }
+}
 
 /// Which minutes of a window are searched from an origin, and which of them stands in for each minute.
 pub(crate) fn plan_of(
@@ -41,34 +76,48 @@ pub(crate) fn plan_of(
     )
 }
 
+/// Lists the departures in the searched minutes of a window, in seconds on the axis. Out of memory is the only error.
+pub(crate) fn times_of(
+    alloc: Global,
+    window: Window,
+    searched: &[u32],
+) -> Result<Vec<u32>, AllocError>
+    requires fits { Fits window }
+    requires searched { AreMinutes window.minutes searched.now }
+    ensures times { IfOk result (λ times. AreTimesOf window searched.now times.items) }
+    ensures departures { IfOk result (λ times. AreDepartures times.items) }
+{
+    let mut times = Vec::with_capacity(alloc, searched.len())?;
+    for j in 0..searched.len() {
+        times.push(window.first + 60 * searched[j])?;
+    }
+    Ok(times)
+}
+
 /// Fills in the durations of all minutes of a window, where those of the searched minutes stand first: each is that of
 /// the minute that stands in for it and the wait until then, or that of a walk alone. There is nothing to fill in where
 /// each minute was searched. Out of memory is the only error.
 pub(crate) fn fill_skipped(
     alloc: Global,
     query: Query<'_>,
-    positions: &[u32],
-    waits: &[u32],
+    plan: WindowPlan<'_>,
     labels: &mut [Lanes],
 ) -> Result<(), AllocError>
     requires query { IsValidQuery query }
-    requires plan { IsPlan query.window.minutes (LANES * batches_of query.window.minutes) query.searched.now
-        positions.now waits.now }
-    requires skips { SkipsNothing query.network.now query.origin.0 query.window.first query.window.minutes
-        query.searched.now positions.now }
-    requires packed { ArePackedDurations query.network.now query.origin.0 query.window query.rides query.searched.now
-        labels.old }
-    ensures { OnOk result (AreWindowDurations query.entry.network.now query.entry.origin.0 query.entry.window
+    requires plan { IsPlanOf query plan }
+    requires packed { HasPackedDurations query plan.window.minutes labels.old }
+    ensures { OnOk result (AreWindowDurations query.entry.network.now query.entry.origin.0 plan.entry.window
         query.entry.rides labels.new) }
 {
     query.network.known();
-    let minutes = query.window.minutes as usize;
-    if query.searched.len() == minutes {
+    let minutes = plan.window.minutes as usize;
+    let searched = plan.searched.len();
+    if searched == minutes {
         return Ok(());
     }
     let batches = (minutes + (LANES - 1)) / LANES;
     let stops = query.network.stops() as usize;
-    fill_in(alloc, labels, positions, waits, query.searched.len(), stops)?;
+    fill_in(alloc, labels, plan.positions, plan.waits, searched, stops)?;
     walk_alone(labels, query.network, query.origin, batches, minutes);
     Ok(())
 }
@@ -78,21 +127,18 @@ pub(crate) fn fill_skipped(
 pub(crate) fn count_all(
     alloc: Global,
     query: Query<'_>,
+    plan: WindowPlan<'_>,
     found: &SearchedLabels,
-    positions: &[u32],
 ) -> Result<Vec<Lanes>, AllocError>
     requires query { IsValidQuery query }
-    requires plan { (waits : List ℕ) × IsPlan query.window.minutes (LANES * batches_of query.window.minutes)
-        query.searched.now positions.now waits }
-    requires skips { SkipsNothing query.network.now query.origin.0 query.window.first query.window.minutes
-        query.searched.now positions.now }
+    requires plan { IsPlanOf query plan }
     requires told { AreAllTold query found.now.width found.now.labels.items found.now.bases.items }
-    ensures { IfOk result (λ labels. AreWindowDurations query.entry.network.now query.entry.origin.0 query.entry.window
+    ensures { IfOk result (λ labels. AreWindowDurations query.entry.network.now query.entry.origin.0 plan.entry.window
         query.entry.rides labels.items) }
 {
     query.network.known();
-    let minutes = query.window.minutes;
-    let searched = query.searched.len();
+    let minutes = plan.window.minutes;
+    let searched = query.times.len();
     let bases = found.bases.as_slice();
     let view = Found {
         labels: found.labels.as_slice(),
@@ -100,8 +146,8 @@ pub(crate) fn count_all(
         width: found.width,
     };
     let stops = query.network.stops() as usize;
-    let first = query.window.first;
-    let mut labels = count_durations(alloc, view, positions, first, minutes, stops)?;
+    let first = plan.window.first;
+    let mut labels = count_durations(alloc, view, plan.positions, first, minutes, stops)?;
     if searched < minutes as usize {
         let chunks = (minutes as usize + (LANES - 1)) / LANES;
         walk_alone(

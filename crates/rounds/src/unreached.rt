@@ -3,7 +3,7 @@
 ghost use Rattle.std.specs.Prelude.{◌≡◌, ◌≢◌, ℕ, ◌<◌, ◌≤◌, length, slice_index, All, OnOk};
 ghost use Rattle.timetable.specs.declared.least.TheConstants.{NEVER as NEVER_VALUE};
 ghost use Rattle.trip_lanes.specs.Lane.{lane, labels_in};
-ghost use Rattle.rounds.specs.Batches.{start_at};
+ghost use Rattle.rounds.specs.Batches.{departure_at, start_at};
 ghost use Rattle.rounds.specs.Cut.{cut_net};
 ghost use Rattle.rounds.specs.CappedLabels.{LaneStateTo};
 ghost use Rattle.rounds.specs.Query.{IsValidQuery, IsWorkspaceFor};
@@ -26,7 +26,7 @@ pub(crate) struct LastArrivals {
     pub wide: Workspace<Lanes>,
 }
 
-/// Fills in by when each stop is reached from the first departure of the window, in the first lane.
+/// Fills in by when each stop is reached from the first departure of the query, in the first lane.
 fn run_first(
     alloc: Global,
     query: Query<'_>,
@@ -37,13 +37,13 @@ fn run_first(
     requires workspace { IsWorkspaceFor query.network.now.stops query.lines.now workspace.old }
     ensures workspace { OnOk result (IsWorkspaceFor query.entry.network.now.stops query.entry.lines.now workspace.new) }
     ensures state { OnOk result (LaneStateTo NEVER_VALUE (cut_net 0 NEVER_VALUE query.entry.network.now)
-        (start_at query.entry query.entry.window.first) query.entry.rides
+        (start_at query.entry (departure_at query.entry 0)) query.entry.rides
         (lane 0 (labels_in (λ row. row) workspace.new.ride.items))
         (lane 0 (labels_in (λ row. row) workspace.new.ready.labels.items))) }
 {
     query.network.known();
     let mut rounds = no_times(alloc, query.network.stops() as usize, query.rides)?;
-    let departures = Lanes::minutely(query.window.first, 1);
+    let departures = Lanes::minutely(query.times[0], 1);
     run_bounded(
         query,
         Batch {

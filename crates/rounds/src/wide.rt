@@ -1,4 +1,4 @@
-//! The searched minutes of a window by wide labels, which tell all arrivals.
+//! All departures of a query by wide labels, which represent every arrival.
 ghost use Rattle.std.specs.Prelude.{◌≡◌, ◌≢◌, ℕ, ◌+◌, ◌*◌, ◌<◌, ◌≤◌, [], length, slice_index, slice_index_or, OnOk};
 ghost use Rattle.timetable.specs.declared.least.TheConstants.{NEVER as NEVER_VALUE};
 ghost use Rattle.trip_lanes.specs.Since.{IsSinceTo};
@@ -44,22 +44,24 @@ fn write_batch(
     }
 }
 
-/// Writes the least durations for each searched minute of a window, batch by batch from the last, each bounded by the
-/// one after it. Out of memory is the only error.
+/// Writes the least durations for each departure of a query, batch by batch from the last, each bounded by the one after
+/// it. The rows of a stop have space for `minutes` durations. Out of memory is the only error.
 pub(crate) fn run_window(
     alloc: Global,
     query: Query<'_>,
+    minutes: u32,
     workspace: &mut Workspace<Lanes>,
     labels: &mut [Lanes],
 ) -> Result<(), AllocError>
     requires query { IsValidQuery query }
+    requires few { length query.times.now ≤ minutes }
     requires workspace { IsWorkspaceFor query.network.now.stops query.lines.now workspace.old }
-    requires room { HaveRoom query labels.old }
-    ensures { OnOk result (HasPackedDurations query.entry labels.new) }
+    requires room { HaveRoom query minutes labels.old }
+    ensures { OnOk result (HasPackedDurations query.entry minutes labels.new) }
 {
     query.network.known();
-    let batches = (query.searched.len() + (LANES - 1)) / LANES;
-    let chunks = (query.window.minutes as usize + (LANES - 1)) / LANES;
+    let batches = (query.times.len() + (LANES - 1)) / LANES;
+    let chunks = (minutes as usize + (LANES - 1)) / LANES;
     let mut bounds = no_bounds(alloc, query)?;
     for i in 0..batches {
         let at = batches - 1 - i;

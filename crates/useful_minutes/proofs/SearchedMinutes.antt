@@ -190,20 +190,6 @@ no_sooner minutes searched are x (suc l) within =
       ],
     )
 
--- so what lies within as many positions as there are lanes is not far
-pub not_far : (minutes : ℕ) (searched : List ℕ) → AreMinutes minutes searched → (lanes x l : ℕ) → 16 ≤ lanes →
-    l ≤ lanes → x + l < length searched → (slice_index searched x ≤ slice_index searched (x + l))
-    × (slice_index searched (x + l) ≤ slice_index searched x + 8 * lanes)
-not_far minutes searched are lanes x l many few within =
-    let s = no_sooner minutes searched are x l within in
-    let last = are.within (x + l) within in (
-      omega (arith, s.0),
-      elim s.1 [
-        | inl near ↦ omega (arith, near, few)
-        | inr short ↦ omega (arith, short, last, many)
-      ],
-    )
-
 -- from one lane to the next the position stays, or goes on by one
 pub plan_steps : (minutes lanes : ℕ) (searched positions waits : List ℕ) →
     IsPlan minutes lanes searched positions waits → AreSteps positions

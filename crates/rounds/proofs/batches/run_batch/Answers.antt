@@ -1,4 +1,4 @@
-use Rattle.std.proofs.Common.{◌≡◌, ◌<◌, ◌≤◌, ◌+◌, ◌*◌, ◌⊎◌, inl, inr, ℕ, List, length, slice_index, ap}
+use Rattle.std.proofs.Common.{◌≡◌, ◌<◌, ◌≤◌, ◌+◌, ◌⊎◌, inl, inr, ℕ, List, length, slice_index, ap}
 use Rattle.std.proofs.Common.{arith}
 use Rattle.std.proofs.lemmas.Bool.{cases_lt, lt-ltb}
 use Rattle.timetable.specs.declared.limits.TheConstants.{END_OF_AXIS}
@@ -6,33 +6,29 @@ use Rattle.timetable.specs.declared.least.TheConstants.{NEVER}
 use Rattle.trip_lanes.specs.Lane.{lane, labels_in}
 use Rattle.rounds.specs.Batches.{AreBounds, departure_at}
 use Rattle.rounds.proofs.BoundedStops.{written}
-use Rattle.rounds.proofs.SearchedBatches.{axis, spans, before_next}
+use Rattle.rounds.proofs.SearchedBatches.{before_next, no_sooner, represented}
 use Rattle.rounds.proofs.LabelsOfBatch.{lane_told, lane_dead, times_rebased}
 use Rattle.rounds.proofs.batches.run_batch.Goals as goal
 
-pub overflow_add-first : goal.overflow_add-first
-overflow_add-first g c =
-    let q = c.args.query in
-    let a = axis q.window c.requires.query.fits q.searched.now c.requires.query.searched g.R.LaneLabels.LANES
-    c.args.from g.met.R.LaneLabels.some c.requires.from in
-    omega (arith, a)
+pub base_of-base-requires : goal.base_of-base-requires
+base_of-base-requires g c = c.requires.query.times.on_axis c.args.from c.requires.from
 
-pub base_of-base-requires-clause-first : goal.base_of-base-requires-clause-first
-base_of-base-requires-clause-first g c =
-    let q = c.args.query in
-    axis q.window c.requires.query.fits q.searched.now c.requires.query.searched g.R.LaneLabels.LANES
-    c.args.from g.met.R.LaneLabels.some c.requires.from
+pub departure_labels-departures-requires-clause-range : goal.departure_labels-departures-requires-clause-range
+departure_labels-departures-requires-clause-range g c l h within =
+    let base = c.base_of-base.ensures in
+    let near = represented c.args.query c.requires.query.times g.R.LaneLabels.LANES g.R.LaneLabels.NEVER c.args.from
+    c.base_of-base.result c.requires.range base.narrow base.wide l (omega (arith, h)) within in
+    omega (arith, near)
 
 pub run_bounded-requires-clause-batch : goal.run_bounded-requires-clause-batch
 run_bounded-requires-clause-batch g c =
     let q = c.args.query in
-    let count = length q.searched.now in
+    let count = length q.times.now in
     let lanes = g.R.LaneLabels.LANES in
     let from = c.args.from in
-    let many = g.met.R.LaneLabels.some in
-    let fits = c.requires.query.fits in
-    let are = c.requires.query.searched in
     let base = c.base_of-base.ensures in
+    let near = represented q c.requires.query.times lanes g.R.LaneLabels.NEVER from c.base_of-base.result
+    c.requires.range base.narrow base.wide in
     let later = c.requires.departure in
     record {
       base = base.fits;
@@ -41,8 +37,8 @@ run_bounded-requires-clause-batch g c =
           elim (cases_lt (from + l) count) [
             | inl lt ↦
                 let t = d.used lt in
-                let s = spans q.window fits q.searched.now are lanes from many l (omega (arith, h)) lt in
-                omega (arith, t, s.1, base.span, h)
+                let low = near l (omega (arith, h)) lt in
+                omega (arith, t, low)
             | inr ge ↦ let t = d.unused ge in omega (arith, t)
           ];
       none_later = λ l h.
@@ -52,16 +48,16 @@ run_bounded-requires-clause-batch g c =
                 let e = later.followed more in
                 let lt : from + l < count = omega (arith, h, more) in
                 let t = d.used lt in
-                let s = spans q.window fits q.searched.now are lanes from many l (omega (arith, h)) lt in
-                let next = before_next q.window fits q.searched.now are lanes from many more l h in
-                omega (arith, e, t, s.1, next, base.span, base.no_later, h)
+                let low = near l (omega (arith, h)) lt in
+                let next = before_next q.times.now c.requires.query.times lanes from l h more in
+                omega (arith, e, t, low, next)
             | inr none ↦
                 let e = later.last none in
                 elim (cases_lt (from + l) count) [
                   | inl lt ↦
                       let t = d.used lt in
-                      let s = spans q.window fits q.searched.now are lanes from many l (omega (arith, h)) lt in
-                      omega (arith, t, e, s.1, base.span, base.fits, h)
+                      let low = near l (omega (arith, h)) lt in
+                      omega (arith, t, e, low, base.fits)
                   | inr ge ↦ let t = d.unused ge in omega (arith, t, e, base.fits)
                 ]
           ];
@@ -70,29 +66,29 @@ run_bounded-requires-clause-batch g c =
 pub run_bounded-requires-clause-bounds : goal.run_bounded-requires-clause-bounds
 run_bounded-requires-clause-bounds g c =
     let q = c.args.query in
-    let count = length q.searched.now in
+    let never = g.R.LaneLabels.NEVER in
     let lanes = g.R.LaneLabels.LANES in
     let from = c.args.from in
-    let many = g.met.R.LaneLabels.some in
-    let fits = c.requires.query.fits in
-    let are = c.requires.query.searched in
     let base = c.base_of-base.ensures in
-    let a = axis q.window fits q.searched.now are lanes from many c.requires.from in
+    let near = represented q c.requires.query.times lanes never from c.base_of-base.result c.requires.range base.narrow
+    base.wide in
+    let a = c.requires.query.times.on_axis from c.requires.from in
     let first : ℕ = departure_at q from in
     let time : ℕ = c.args.bounds.now.departure in
-    let later : (time ≡ NEVER) ⊎ ((first ≤ time) × (time ≤ first + 480 * lanes)) =
-    elim (cases_lt (from + lanes) count) [
+    let later : (time ≡ NEVER) ⊎ ((first ≤ time) × (time < c.base_of-base.result + never)) =
+    elim (cases_lt (from + lanes) (length q.times.now)) [
       | inl more ↦
           let e = c.requires.departure.followed more in
-          let s = spans q.window fits q.searched.now are lanes from many lanes (omega arith) more in
-          inr (omega (arith, e, s.0), omega (arith, e, s.1))
+          let s = no_sooner q.times.now c.requires.query.times from lanes more in
+          let low = near lanes (omega arith) more in
+          inr (omega (arith, e, s), omega (arith, e, low))
       | inr none ↦ inl (c.requires.departure.last none)
     ] in
     rw c.as_mut_slice.ensures.value (c.requires.bounds.each c.base_of-base.result (record {
       fits = base.fits;
       before = elim base.before [
         | inl none ↦ inl none
-        | inr l ↦ elim (cases_lt (g.R.LaneLabels.NEVER + END_OF_AXIS) NEVER) [
+        | inr l ↦ elim (cases_lt (never + END_OF_AXIS) NEVER) [
           | inl short ↦ inr (
             elim later [ inl e ↦ omega (arith, l, a, e) | inr e ↦ omega (arith, l, e.0) ],
             short,
@@ -100,22 +96,20 @@ run_bounded-requires-clause-bounds g c =
           | inr long ↦ inl (base.wide long)
         ]
       ];
-      in_range = elim later [ inl e ↦ inl e | inr e ↦ inr (omega (arith, e.1, base.span, base.no_later)) ];
+      in_range = elim later [ inl e ↦ inl e | inr e ↦ inr e.1 ];
     }))
 
 pub returns-clause-arrivals : goal.returns-clause-arrivals
 returns-clause-arrivals g c =
     let q = c.args.query in
     let n = q.network.now in
-    let count = length q.searched.now in
     let lanes = g.R.LaneLabels.LANES in
     let never = g.R.LaneLabels.NEVER in
     let from = c.args.from in
-    let many = g.met.R.LaneLabels.some in
-    let fits = c.requires.query.fits in
-    let are = c.requires.query.searched in
     let base = c.base_of-base.ensures in
-    let a = axis q.window fits q.searched.now are lanes from many c.requires.from in
+    let near = represented q c.requires.query.times lanes never from c.base_of-base.result c.requires.range base.narrow
+    base.wide in
+    let a = c.requires.query.times.on_axis from c.requires.from in
     let ride : ℕ → List ℕ = λ l. lane l (labels_in g.R.LaneLabels.labels c.run_bounded.new.workspace.ride.items) in
     let ready : ℕ → List ℕ = λ l. lane l
     (labels_in g.R.LaneLabels.labels c.run_bounded.new.workspace.ready.labels.items) in
@@ -124,20 +118,18 @@ returns-clause-arrivals g c =
       early = omega (arith, a, base.no_later);
       whole = base.wide;
       departures = c.departure_labels-departures.ensures;
-      near = λ l h within.
-          let s = spans q.window fits q.searched.now are lanes from many l (omega (arith, h)) within in
-          omega (arith, s.1, h, base.span, base.no_later);
+      near = λ l h within. near l (omega (arith, h)) within;
       told = λ l p h within there late.
           let t = (c.departure_labels-departures.ensures l h).used within in
-          let s = spans q.window fits q.searched.now are lanes from many l (omega (arith, h)) within in
+          let s = no_sooner q.times.now c.requires.query.times from l within in
           lane_told q c.known.ensures c.base_of-base.result never (time l) (departure_at q (from + l)) t
           (elim base.before [
             | inl none ↦ inr none
-            | inr before ↦ inl (omega (arith, before, t, s.0))
+            | inr before ↦ inl (omega (arith, before, t, s))
           ]) (ride l) (ready l) (c.run_bounded.ensures.labels l h) p there (omega (arith, base.fits)) late;
       unused = λ l p h past there.
           lane_dead n c.known.ensures c.base_of-base.result never q.origin.0 (time l) q.rides (ride l) (ready l)
-          (omega (arith, base.span)) ((c.departure_labels-departures.ensures l h).unused past)
+          (omega (arith, g.met.R.LaneLabels.room)) ((c.departure_labels-departures.ensures l h).unused past)
           (c.run_bounded.ensures.labels l h) p there;
     }
 
@@ -148,8 +140,7 @@ returns-clause-bounds g c more =
     let never = g.R.LaneLabels.NEVER in
     let from = c.args.from in
     let base = c.base_of-base.ensures in
-    let a = axis q.window c.requires.query.fits q.searched.now c.requires.query.searched lanes from
-    g.met.R.LaneLabels.some c.requires.from in
+    let a = c.requires.query.times.on_axis from c.requires.from in
     let some : 0 < lanes = omega (arith, g.met.R.LaneLabels.some) in
     let no_lane : from + 0 ≡ from = omega arith in
     let head = (c.departure_labels-departures.ensures 0 some).used (omega (arith, no_lane, c.requires.from)) in

@@ -1,14 +1,12 @@
 use Rattle.std.proofs.Common.{◌≡◌, ℕ, ◌≤◌, length, subst, sym, arith}
-use Rattle.useful_minutes.proofs.SearchedMinutes.{few_searched}
 use Rattle.rounds.specs.Arrivals.{AreToldFrom, HaveRoomFor}
+use Rattle.rounds.proofs.SearchedBatches.{few_departures}
 use Rattle.rounds.proofs.narrow.run_narrow.Goals as goal
 
 pub fit-requires-clause-width : goal.fit-requires-clause-width
 fit-requires-clause-width c =
-    let q = c.args.query in
-    let searched = few_searched q.window.minutes q.searched.now c.requires.search.query.searched in
-    let minutes = c.requires.search.query.fits.few in
-    omega (arith, searched, minutes)
+    let few = few_departures c.args.query.times.now c.requires.search.query.times in
+    omega (arith, few)
 
 pub loop-found-init : goal.loop-found-init
 loop-found-init c =
@@ -16,8 +14,8 @@ loop-found-init c =
     let f = c.fit.new.self in
     let size = c.in_ok-fit.ensures.width in
     let none = c.in_ok-fit.ensures.from in
-    let wide : length q.searched.now ≤ f.width = omega (arith, size) in
-    let past : length q.searched.now ≤ f.from = omega (arith, none) in
+    let wide : length q.times.now ≤ f.width = omega (arith, size) in
+    let past : length q.times.now ≤ f.from = omega (arith, none) in
     record {
       search = c.requires.search;
       whole = omega (arith, none);

@@ -25,13 +25,13 @@ are_lanes n m origin w k numbers copy labels ok fits same copied size low is =
 pub new-requires : goal.new-requires
 new-requires c =
     let q = c.args.query in
-    let numbers = c.args.numbers.now in
+    let numbers = c.args.plan.numbers.now in
     let copied : c.in_ok-numbers.numbers.items ≡ numbers =
     c.in_ok-numbers.ensures.items_if_clones_equal (λ y h. search rules) in
     let r = c.requires.query in
-    subst (λ (k : ℕ). AreLanes k q.window.minutes c.in_ok-numbers.numbers.items c.args.durations.items)
+    subst (λ (k : ℕ). AreLanes k c.args.plan.window.minutes c.in_ok-numbers.numbers.items c.args.durations.items)
     (sym c.stops.ensures)
-    (are_lanes c.args.network.now q.network.now q.origin.0 q.window q.rides numbers c.in_ok-numbers.numbers.items
+    (are_lanes c.args.network.now q.network.now q.origin.0 c.args.plan.window q.rides numbers c.in_ok-numbers.numbers.items
     c.args.durations.items c.known.ensures c.requires.fits r.stops copied r.size r.low c.requires.durations)
 
 pub returns : goal.returns
@@ -39,18 +39,18 @@ returns c =
     let q = c.args.query in
     let n = c.args.network.now in
     let m = q.network.now in
-    let numbers = c.args.numbers.now in
+    let numbers = c.args.plan.numbers.now in
     let labels = c.args.durations.items in
     let copied : c.in_ok-numbers.numbers.items ≡ numbers =
     c.in_ok-numbers.ensures.items_if_clones_equal (λ y h. search rules) in
     let r = c.requires.query in
-    let are = are_lanes n m q.origin.0 q.window q.rides numbers numbers labels c.known.ensures c.requires.fits r.stops
+    let are = are_lanes n m q.origin.0 c.args.plan.window q.rides numbers numbers labels c.known.ensures c.requires.fits r.stops
     refl r.size r.low c.requires.durations in
-    let done = filled n m c.args.origin.0 q.window q.rides numbers labels c.known.ensures r.renumbered
+    let done = filled n m c.args.origin.0 c.args.plan.window q.rides numbers labels c.known.ensures r.renumbered
     c.requires.origin r.stops are
-    (subst (λ (x : ℕ). AreWindowDurations m x q.window q.rides labels) r.start c.requires.durations) in
-    let same : c.new.result ≡ table_of n.stops q.window.minutes numbers labels =
+    (subst (λ (x : ℕ). AreWindowDurations m x c.args.plan.window q.rides labels) r.start c.requires.durations) in
+    let same : c.new.result ≡ table_of n.stops c.args.plan.window.minutes numbers labels =
     c.new.ensures
-    ∙ (ap (λ (k : ℕ). table_of k q.window.minutes c.in_ok-numbers.numbers.items labels) c.stops.ensures
-    ∙ ap (λ (ns : List ℕ). table_of n.stops q.window.minutes ns labels) copied) in
-    subst (λ (t : DurationTable). AreDurations n c.args.origin.0 q.window q.rides t) (sym same) done
+    ∙ (ap (λ (k : ℕ). table_of k c.args.plan.window.minutes c.in_ok-numbers.numbers.items labels) c.stops.ensures
+    ∙ ap (λ (ns : List ℕ). table_of n.stops c.args.plan.window.minutes ns labels) copied) in
+    subst (λ (t : DurationTable). AreDurations n c.args.origin.0 c.args.plan.window q.rides t) (sym same) done

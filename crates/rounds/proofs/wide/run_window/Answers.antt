@@ -6,7 +6,6 @@ use Rattle.timetable.specs.Networks.{IsNet}
 use Rattle.timetable.specs.Least.{IsLeastOrNever}
 use Rattle.timetable.specs.Journeys.{IsDuration}
 use Rattle.trip_lanes.specs.Since.{IsSinceTo}
-use Rattle.useful_minutes.proofs.SearchedMinutes.{few_searched}
 use Rattle.rounds.specs.Arrivals.{AreArrivals, IsTold}
 use Rattle.rounds.specs.Batches.{IsBoundingDeparture, departure_at}
 use Rattle.rounds.specs.Query.{IsValidQuery}
@@ -26,22 +25,22 @@ module _ (q : Query) (ok : IsNet q.network.now) (valid : IsValidQuery q) (from :
   no_base = are.whole (omega arith)
 
   -- and tell all arrivals
-  all_told : from + l < length q.searched.now →
+  all_told : from + l < length q.times.now →
       IsTold q NEVER b.base (departure_at q (from + l)) p (arrival_in (λ (row : List ℕ). row) w l p)
   all_told within =
       are.told l p h within there (λ _. none_late_whole q ok valid.origin NEVER b.base (departure_at q (from + l)) p
-      (valid.fits.on_axis (slice_index q.searched.now (from + l)) (valid.searched.within (from + l) within))
+      (valid.times.on_axis (from + l) within)
       (omega arith))
 
   all_fit : arrival_in (λ (row : List ℕ). row) w l p ≤ NEVER
-  all_fit = elim (cases_lt (from + l) (length q.searched.now)) [
+  all_fit = elim (cases_lt (from + l) (length q.times.now)) [
     | inl lt ↦ (all_told lt).fits
     | inr ge ↦ let e = are.unused l p h ge there in omega (arith, e)
   ]
 
   all_since : arrival_in (λ (row : List ℕ). row) w l p ≢ NEVER →
       slice_index b.departures l ≤ arrival_in (λ (row : List ℕ). row) w l p
-  all_since reached = elim (cases_lt (from + l) (length q.searched.now)) [
+  all_since reached = elim (cases_lt (from + l) (length q.times.now)) [
     | inl lt ↦
         let t = (are.departures l h).used lt in
         let after = (all_told lt).after reached in
@@ -50,7 +49,7 @@ module _ (q : Query) (ok : IsNet q.network.now) (valid : IsValidQuery q) (from :
   ]
 
   -- so what counts from the departure is the least duration
-  all_least : from + l < length q.searched.now → (d : ℕ) →
+  all_least : from + l < length q.times.now → (d : ℕ) →
       IsSinceTo NEVER (slice_index b.departures l) (arrival_in (λ (row : List ℕ). row) w l p) d →
       IsLeastOrNever (IsDuration q.network.now q.origin.0 (departure_at q (from + l)) q.rides p) d
   all_least within d since =
@@ -72,21 +71,20 @@ loop-i-init c =
 
 pub write_batch-requires-clause-at : goal.write_batch-requires-clause-at
 write_batch-requires-clause-at c =
-    let q = c.args.query in
-    let few = few_searched q.window.minutes q.searched.now c.requires.query.searched in
+    let few = c.requires.few in
     omega (arith, few, c.loop-i-test.true)
 
 pub write_batch-requires-clause-fits : goal.write_batch-requires-clause-fits
 write_batch-requires-clause-fits c l p h within =
     all_fit c.args.query c.known.ensures c.requires.query
-    (16 * ((length c.args.query.searched.now + 15) / 16 - 1 - c.loop-i.i)) c.run_batch-batch.result
+    (16 * ((length c.args.query.times.now + 15) / 16 - 1 - c.loop-i.i)) c.run_batch-batch.result
     c.run_batch-batch.new.workspace c.run_batch-batch.ensures.arrivals l p h
     (omega (arith, within, c.run_batch-batch.ensures.workspace.ready))
 
 pub write_batch-requires-clause-since : goal.write_batch-requires-clause-since
 write_batch-requires-clause-since c l p h within =
     all_since c.args.query c.known.ensures c.requires.query
-    (16 * ((length c.args.query.searched.now + 15) / 16 - 1 - c.loop-i.i)) c.run_batch-batch.result
+    (16 * ((length c.args.query.times.now + 15) / 16 - 1 - c.loop-i.i)) c.run_batch-batch.result
     c.run_batch-batch.new.workspace c.run_batch-batch.ensures.arrivals l p h
     (omega (arith, within, c.run_batch-batch.ensures.workspace.ready))
 
@@ -94,29 +92,29 @@ pub loop-i-preserved : goal.loop-i-preserved
 loop-i-preserved c =
     let q = c.args.query in
     let n = q.network.now in
-    let count = length q.searched.now in
+    let count = length q.times.now in
     let batches = (count + 15) / 16 in
     let i = c.loop-i.i in
     let at : ℕ = batches - 1 - i in
     let turn = c.loop-i-test.true in
     let old = c.loop-i.invariant in
     let are = c.run_batch-batch.ensures in
-    let chunks = batches_of q.window.minutes in
+    let chunks = batches_of c.args.minutes in
     let new = c.write_batch.new.labels in
     let write = c.write_batch.ensures in
-    let few = few_searched q.window.minutes q.searched.now c.requires.query.searched in
+    let few = c.requires.few in
     let within : (p : ℕ) → p < n.stops → p < length c.run_batch-batch.new.workspace.ready.labels.items =
     λ p there. omega (arith, there, are.workspace.ready) in
     let since : (p j : ℕ) → p < n.stops → at ≡ j / 16 →
     IsSinceTo NEVER (slice_index c.run_batch-batch.result.departures (j % 16))
     (arrival_in (λ (row : List ℕ). row) c.run_batch-batch.new.workspace (j % 16) p)
-    (label_of q.window.minutes new p j) = λ p j there here.
+    (label_of c.args.minutes new p j) = λ p j there here.
     subst (λ (x : ℕ). IsSinceTo NEVER (slice_index c.run_batch-batch.result.departures (j % 16))
     (arrival_in (λ (row : List ℕ). row) c.run_batch-batch.new.workspace (j % 16) p)
     (slice_index (slice_index_or new (p * chunks + x) []) (j % 16))) here
     (write.written (j % 16) p (omega arith) (within p there)) in
     let kept : (p j : ℕ) → j < 16 * chunks → at ≢ j / 16 →
-    label_of q.window.minutes new p j ≡ label_of q.window.minutes c.loop-i.labels p j =
+    label_of c.args.minutes new p j ≡ label_of c.args.minutes c.loop-i.labels p j =
     λ p j l other. ap (λ (row : List ℕ). slice_index row (j % 16))
     (write.kept p (j / 16) (omega (arith, l)) (λ e. other (sym e))) in
     record {
@@ -138,10 +136,10 @@ loop-i-preserved c =
         | inl here ↦
             let place : 16 * at + j % 16 ≡ j = omega (arith, here) in
             subst (λ (x : ℕ). IsLeastOrNever (IsDuration n q.origin.0 (departure_at q x) q.rides p)
-            (label_of q.window.minutes new p j)) place
+            (label_of c.args.minutes new p j)) place
             (all_least q c.known.ensures c.requires.query (16 * at) c.run_batch-batch.result
             c.run_batch-batch.new.workspace are.arrivals (j % 16) p (omega arith) there (omega (arith, place, l))
-            (label_of q.window.minutes new p j) (since p j there here))
+            (label_of c.args.minutes new p j) (since p j there here))
         | inr other ↦
             subst (λ (y : ℕ). IsLeastOrNever (IsDuration n q.origin.0 (departure_at q j) q.rides p) y)
             (sym (kept p j (omega (arith, l, few)) other))

@@ -1,4 +1,5 @@
 use Rattle.std.proofs.Common.{rules, ◌≡◌, arith}
+use Rattle.rounds.specs.Batches.{departure_at}
 use Rattle.rounds.proofs.LastArrivals.{last_from}
 use Rattle.rounds.proofs.search.Search.try_narrow.Goals as goal
 
@@ -15,7 +16,7 @@ run_narrow-requires c =
             let h = c.longest-trips.ensures k d l in
             omega (arith, h, few);
         last_arrivals = record {
-          none_later = rw all (last_from q.network.now c.known.ensures q.origin.0 q.window.first q.rides
+          none_later = rw all (last_from q.network.now c.known.ensures q.origin.0 (departure_at q 0) q.rides
               c.last_arrivals.result.now c.last_arrivals.ensures);
           few = rw all c.last_arrivals.ensures.early;
         };
