@@ -6,7 +6,12 @@ from dataclasses import dataclass
 from summaries import Results, Summary, ratio, sum_of_turns, summary_of
 
 RANGE, TEXTBOOK, TOOLS, TWO_HOURS = "range RAPTOR", "textbook RAPTOR", "ttm-tools", "120 minutes"
+CELLS, MANY_CELLS = "cells and access", "cells and access of eight percentiles"
 Measured = Callable[[Results], Summary | None]
+
+# What cells and access may take, over the search.
+ONE_PERCENTILE = {"region": 0.08, "city, every third trip": 0.08, "city": 0.06, "metropolis": 0.04}
+EIGHT_PERCENTILES = {"region": 0.30, "city, every third trip": 0.28, "city": 0.22, "metropolis": 0.12}
 
 
 @dataclass(frozen=True)
@@ -71,7 +76,7 @@ def over_feeds(above: str, below: str) -> Measured:
 
 def rest_of_rows(results: Results) -> Summary | None:
     """What cells, access and text take, over the search."""
-    rest = (results.turns("rows", "metropolis", "ttm", f"{what}, one day") for what in ("cells and access", "text"))
+    rest = (results.turns("rows", "metropolis", "ttm", f"{what}, one day") for what in (CELLS, "text"))
     return ratio(sum_of_turns(*rest), results.turns("rows", "metropolis", "ttm", "search, one day"))
 
 
@@ -84,6 +89,10 @@ def each_worker(results: Results) -> Summary | None:
 def job_goals() -> Iterator[Goal]:
     cells = "The search became faster than the cells did."
     yield Goal("metropolis: percentiles, access and text, over the search", rest_of_rows, 0.1, why=cells)
+    for what, bounds in {CELLS: ONE_PERCENTILE, MANY_CELLS: EIGHT_PERCENTILES}.items():
+        for feed, bound in bounds.items():
+            measured = over("rows", feed, f"{what}, one day", "search, one day")
+            yield Goal(f"{feed}: {what}, over the search", measured, bound, why=cells)
     days = over("rows", "city", "search, three days", "search, one day")
     yield Goal("city: the search with three service days, over one", days, 1.1)
     busy = "Four searches share the memory's bandwidth and the last cache."

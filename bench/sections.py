@@ -3,7 +3,7 @@
 import textwrap
 from collections.abc import Callable, Iterator, Sequence
 
-from goals import RANGE, TEXTBOOK, TOOLS, TWO_HOURS, faster
+from goals import CELLS, MANY_CELLS, RANGE, TEXTBOOK, TOOLS, TWO_HOURS, faster
 from summaries import Results, Summary, ratio, shown, sum_of_turns
 
 TTM = "ttm"
@@ -80,13 +80,27 @@ def rows_of_study(results: Results) -> Iterator[str]:
     rows = []
     for feed in results.feeds("rows"):
         for days in ("one day", "three days"):
-            names = [f"{what}, {days}" for what in ("search", "cells and access", "text")]
+            names = [f"{what}, {days}" for what in ("search", CELLS, "text")]
             searched, *rest = (results.turns("rows", feed, TTM, name) for name in names)
             if searched:
                 both = ratio(sum_of_turns(*rest), searched)
                 rows.append([feed, days.split()[0], *cells(results, "rows", feed, TTM, names), cell(both)])
     head = ["Network", "Service days", "Search, ms", "Cells and access, ms", "Text, ms", "Both, over the search"]
     yield table(head, rows, numbers=True)
+    yield from cells_over_search(results)
+
+
+def cells_over_search(results: Results) -> Iterator[str]:
+    """Cells and access over the search in each network that was asked for eight percentiles, too."""
+    rows = []
+    for feed in results.feeds("rows"):
+        names = [f"{what}, one day" for what in ("search", CELLS, MANY_CELLS)]
+        searched, one, many = (results.turns("rows", feed, TTM, name) for name in names)
+        if many:
+            rows.append([feed, cell(ratio(one, searched)), cell(ratio(many, searched))])
+    if rows:
+        yield "Cells and access over the search, for one percentile and one limit, and for eight and three:"
+        yield table(["Network", "One and one", "Eight and three"], rows, numbers=True)
 
 
 def jobs(results: Results) -> Iterator[str]:

@@ -10,7 +10,7 @@ import growth
 import result_pages as pages
 import run
 import shared
-from goals import Goal
+from goals import CELLS, MANY_CELLS, Goal
 from parts.search import in_turns, milliseconds
 from record import Recorder, Row, read_results
 from setting import Setting, figures_in
@@ -154,6 +154,27 @@ def test_results_name_the_build_and_the_goals_that_were_missed() -> None:
     assert "| city | 4,936 | 993,164 | 5.00 | 18.0 (15.0 to 20.0) | 3.60 (3.00 to 4.00) | 100 | 20.0 |\n" in page
     assert "Of 7 goals that were measured, the medians miss 1.\n" in page
     assert "| region: times as fast as range RAPTOR for 1 minute: at least 1 | 0.800 |" in page
+
+
+def measured_cells(feed: str, search: float, one: float, many: float) -> list[Row]:
+    """The rows of a feed: the search, and cells and access of one percentile and of eight."""
+    figures = {"search": search, CELLS: one, MANY_CELLS: many, "text": 0.1}
+    return [row for what, figure in figures.items() for row in rows_of("rows", feed, "ttm", f"{what}, one day", figure)]
+
+
+def test_cells_are_compared_with_the_search_in_each_network() -> None:
+    page = pages.page_of(Results([*measured_cells("city", 10, 0.5, 2.5), *measured_cells("region", 2, 0.5, 0.5)]))
+    assert "| Network | One and one | Eight and three |\n|---|---:|---:|\n| city | 0.0500 | 0.250 |\n" in page
+    assert "| region | 0.250 | 0.250 |\n" in page
+    assert "| region: cells and access, over the search: at most 0.08 | 0.250 |" in page
+    assert "| city: cells and access of eight percentiles, over the search: at most 0.22 | 0.250 |" in page
+    assert "| city: cells and access, over the search" not in page
+
+
+def test_a_build_that_was_asked_for_one_percentile_has_no_table_of_eight() -> None:
+    rows = [row for row in measured_cells("city", 10, 0.5, 2.5) if MANY_CELLS not in row.measure]
+    page = pages.page_of(Results(rows))
+    assert "| city | one | 10.0 | 0.500 | 0.100 | 0.0600 |\n" in page and "Eight and three" not in page
 
 
 def test_what_was_not_measured_is_left_out() -> None:

@@ -57,7 +57,7 @@ def answers(setting: Setting, feed: str) -> None:
         ask(conversation, paths[0])
         for turn in setting.each_turn:
             figures = printed([setting.measure, "rows", *setting.words(feed, listed)])
-            row = (figures["rows' durations, us"] + figures["rows' cells and access, us"]) / 1000 / len(paths)
+            row = (figures["rows' search, us"] + figures["rows' cells and access, us"]) / 1000 / len(paths)
             spent = 1000 * sum(seconds(lambda: ask(conversation, path)) for path in paths) / len(paths)
             for name, figure in {"search and cells": row, "an answer": spent}.items():
                 setting.recorder.add("conversation", feed, "ttm", name, figure, "ms", turn=turn)

@@ -1,11 +1,19 @@
 """The time that percentiles, access and text take in addition to the search, and that more service days take."""
 
+from feeds import DENSE, DRAWN, THIRDS
+from goals import CELLS, MANY_CELLS
 from setting import Setting, printed
+
+FIGURES = {  # what is recorded, and the words of the program of crates/measure
+    "search": "rows' search, us",
+    CELLS: "rows' cells and access, us",
+    MANY_CELLS: "rows' cells and access of eight percentiles, us",
+}
 
 
 def measure(setting: Setting) -> None:
-    """Rows of one percentile and one limit of access to all stops, over one service day or three."""
-    for feed in ("city",) if setting.quick else ("city", "metropolis"):
+    """Rows to all stops, over one service day or three: one percentile and one limit of access, or eight and three."""
+    for feed in ("city", "region") if setting.quick else (*DENSE, *THIRDS, "region", *DRAWN):
         words = setting.words(feed, setting.origins(feed, setting.choose(10, 40)))
         for turn in setting.each_turn:
             record(setting, feed, "rows", words, turn)
@@ -16,11 +24,7 @@ def measure(setting: Setting) -> None:
 def record(setting: Setting, feed: str, kind: str, words: list[str], turn: int) -> None:
     """Records what each part of an origin's rows takes."""
     figures, days = printed([setting.measure, kind, *words]), "one day" if kind == "rows" else "three days"
-    named = {
-        "search": figures["rows' durations, us"],
-        "cells and access": figures["rows' cells and access, us"],
-        "text": 1000 * figures["text, ms"],
-    }
-    for what, micros in named.items():
-        millis = micros / 1000 / figures["rows"]
+    micros = {what: figures[printed_as] for what, printed_as in FIGURES.items()}
+    for what, time in {**micros, "text": 1000 * figures["text, ms"]}.items():
+        millis = time / 1000 / figures["rows"]
         setting.recorder.add("rows", feed, "ttm", f"{what}, {days}", millis, "ms", turn=turn)

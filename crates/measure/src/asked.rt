@@ -13,7 +13,7 @@ pub(crate) enum Part {
     Stages,
     /// The least durations of the base network, origin by origin.
     Durations,
-    /// Stage after stage, and first the rows of the base network: their least durations apart from their cells.
+    /// Stage after stage, and first the rows of the base network: their search apart from their cells and access.
     Rows,
     /// The same with one more service day before the date and one after it.
     Days,

@@ -1,10 +1,11 @@
 //! How fast the engine is. Over a feed alone: the `csv` crate's own pass over all records of its files, and then
 //! `gtfs_tables::read_feed` over the same bytes, in one run. Over a study of files: each of its stages, or the least
-//! durations alone, or these apart from cells, on one service day or with those before and after it.
+//! durations alone, or the search apart from cells and access, on one service day or with those before and after it.
 //!
 //! - `reading`: a feed's reading beside `csv_alone`, which is the yardstick.
 //! - `stages`: a study, stage after stage; `tables` and `networks` make two of them, `sizes` says how much was made.
-//! - `origins`: the least durations, origin by origin. `rows`: beside the cells and access of the same rows.
+//! - `origins`: the least durations, origin by origin. `rows`: the search, and then the cells and
+//!   access of the same rows.
 //! - `asked`: what the arguments ask for; `feed_files` and `own_files` hold the files in memory.
 //! - `telling` prints the lines of the report, `figures` does the sums.
 #![tactic(auto)]
