@@ -65,7 +65,7 @@ if [ "$kind" = analysts ]; then
     cp "$room/made/"* "$inside/study/made/"
     cp /etc/resolv.conf "$inside/etc/resolv.conf"
     suggested="python3-matplotlib python3-h5py python3-geopandas python3-jinja2 python3-flask libjs-leaflet"
-    suggested="$suggested python3-scipy python3-pyosmium"
+    suggested="$suggested python3-pyosmium"
     chroot "$inside" sh -c "apt-get update -q && apt-get install -q -y unzip zip $suggested /tmp/*.deb" > "$room/log" 2>&1 \
         || { tail "$room/log" >&2; exit 1; }
     # bash hands files over by /dev/fd, as a machine has it

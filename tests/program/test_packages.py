@@ -188,9 +188,9 @@ def test_control_says_what_is_needed(of: Packages) -> None:
     assert re.fullmatch(r"libc6( \(>= 2\.\d+\))?(, libgcc-s1( \(>= [\d.]+\))?)?", depends), depends
     assert [of.field(package, "Recommends") for package in range(3)] == [""] * 3  # apt would install them
     depends, suggests, about = (of.field(1, name) for name in ("Depends", "Suggests", "Description"))
-    for name in "matplotlib h5py geopandas scipy pyosmium flask jinja2".split():
+    for name in "matplotlib h5py geopandas pyosmium flask jinja2".split():
         assert f"python3-{name}" in suggests and f"python3-{name}" in about and f"python3-{name}" not in depends, name
-    for name in ("ttm (>= ", "python3-numpy (>= 1:1.24)", "python3-pandas (>= 1.5)", "python3-pyproj", "python3-tqdm"):
+    for name in ("ttm (>= ", "python3-numpy (>= 1:1.24)", "python3-pandas (>= 1.5)", "python3-pyproj", "python3-scipy"):
         assert name in depends, depends
 
 

@@ -8,10 +8,13 @@ import subprocess
 from pathlib import Path
 from typing import Any
 
+import numpy as np
 import pytest
 
 from helpers import CALENDAR, METRE, STOP_TIMES, Room, Table, launched
 from ttm_tools.gtfs.stops import read_stops
+from ttm_tools.streets import straight
+from ttm_tools.streets.counting import TooManyWalks
 from ttm_tools.streets.walks import Pace, straight_walks
 
 
@@ -122,6 +125,33 @@ def test_walks_of_the_first_stops_are_those_among_all(room: Room, first: int) ->
     read = read_stops(str(room.folder))
     every, some = (set(straight_walks(read, Pace(300.0), item).rows()) for item in (None, first))
     assert some == {(a, b, seconds) for a, b, seconds in every if int(a) < first or int(b) < first} != set()
+
+
+@pytest.mark.parametrize("at_once", [40, 1_000_000])
+@pytest.mark.parametrize("most", [100, 4_000_000])
+def test_pairs_of_near_points_are_found_whole_or_in_parts(
+    monkeypatch: pytest.MonkeyPatch, most: int, at_once: int
+) -> None:
+    monkeypatch.setattr(straight, "MOST_FOOTPATHS", most)
+    monkeypatch.setattr(straight, "PAIRS_AT_ONCE", at_once)
+    points = np.random.default_rng(3).uniform(0, 1000, (200, 3))
+    near = np.linalg.norm(points[:, None] - points, axis=2) <= 200
+    expected = {(a, b) for a, b in zip(*np.nonzero(near)) if a != b}
+    assert 300 < len(expected) < 4000
+    pairs = [pair for one, other in straight.near_pairs(points, 200) for pair in zip(one, other)]
+    assert len(pairs) == len(expected) / 2 and {*pairs, *((b, a) for a, b in pairs)} == expected
+    some = np.array([7, 3, 150])
+    pairs = [pair for one, other in straight.near_pairs(points, 200, some) for pair in zip(one, other)]
+    assert len(pairs) == len(set(pairs)) and set(pairs) == {(a, b) for a, b in expected if a in some}
+
+
+def test_too_many_walks_are_refused_before_they_are_found(room: Room, monkeypatch: pytest.MonkeyPatch) -> None:
+    monkeypatch.setattr("ttm_tools.streets.counting.MOST_FOOTPATHS", 11)
+    monkeypatch.setattr(straight, "near_pairs", None)
+    room.stops(*((str(number), 0, number) for number in range(4)))  # 12 walks
+    read = read_stops(str(room.folder))
+    with pytest.raises(TooManyWalks, match="more than the 11 walks"):
+        straight_walks(read, Pace(300.0))
 
 
 def test_a_table_of_walks_is_rounded_up_and_counted(room: Room) -> None:

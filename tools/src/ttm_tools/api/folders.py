@@ -8,7 +8,6 @@ from pathlib import Path
 from ..core.cache import cached_entry, key_of
 from ..core.limits import MOST_FOOT_SECONDS
 from ..core.stop_lists import write_stops
-from ..core.tables import write_rows
 from ..gtfs.stops import Stops, read_stops
 from ..places.doors import BEGINS, ENDS, Doors, write_doors, write_unreached
 from ..places.folder import FEED, FOOTPATHS, PointsOptions, make
@@ -126,7 +125,8 @@ def write_folder(folder: Path, feed: PreparedFeed, walking: WalkNetwork, sides: 
     files = [side for side in sides if not side.are_stops]
     if not files:
         folder.mkdir()
-        write_walks(folder / FOOTPATHS, walking.walks(read_stops(str(feed.folder)), None))
+        with open(folder / FOOTPATHS, "wb") as out:
+            walking.walks(read_stops(str(feed.folder)), None).write(out)
     elif walking.streets is not None and len(files) == len(sides) and not feed.scenarios:
         walks = LongWalks(str(feed.folder), points_of(files), walking.streets, walking.pace, NEAR)
         write_doors(folder, walks, walking.merges)
@@ -150,8 +150,3 @@ def write_whole(folder: Path, feed: PreparedFeed, walking: WalkNetwork, sides: S
     limit = int(walking.pace.limit)
     options = PointsOptions(str(feed.folder), str(folder), points_of(files), begins, ends, limit, False, NEAR)
     make(options, walking.walks)
-
-
-def write_walks(path: Path, walks: Walks) -> None:
-    with open(path, "wb") as out:
-        write_rows(out, ["from_stop_id", "to_stop_id", "seconds"], walks.rows())

@@ -71,7 +71,7 @@ def describe(parser: Parser) -> None:
 
 def run(args: argparse.Namespace) -> None:
     refuse_near_alone(args)
-    needs("numpy")
+    needs("numpy", "scipy")
     from ..plans.nearness import new_stops_in, sentences_on_nearer
     from ..places.read import Columns, read_points
     from ..places.folder import FEED, FOOTPATHS, PointsOptions, folder_of

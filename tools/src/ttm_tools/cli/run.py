@@ -69,8 +69,7 @@ def outputs(args: argparse.Namespace) -> list[str]:
 def run(args: argparse.Namespace) -> None:
     refuse_near_alone(args)
     packages = {"matplotlib": not args.no_map, "jinja2": not args.no_page, "osmium": args.streets}
-    packages["scipy"] = args.streets
-    needs("numpy", "pandas", *(name for name, is_used in packages.items() if is_used))
+    needs("numpy", "pandas", "scipy", *(name for name, is_used in packages.items() if is_used))
     from ..engine.arguments import program_at
     from ..web.page.document import leaflet_files
 

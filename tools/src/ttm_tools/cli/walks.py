@@ -56,10 +56,10 @@ def outputs(args: argparse.Namespace) -> list[str]:
     return [file_of(args)]
 
 
-def unlinked(walks: "Walks | None") -> dict[str, list[str]]:
+def unlinked(walks: "Walks") -> dict[str, list[str]]:
     """The stops and points that are far from a street, have none in reach, or no coordinates, for programs."""
     names = {"far_from_street": "far", "without_street": "apart", "without_coordinates": "lost"}
-    return {name: walks.named(which) if walks is not None else [] for name, which in names.items()}
+    return {name: walks.named(which) for name, which in names.items()}
 
 
 def run(args: argparse.Namespace) -> None:
@@ -70,20 +70,23 @@ def run(args: argparse.Namespace) -> None:
         own = "does nothing with --table, whose walks have times of their own"
         refuse_unused(args, own, "limit", "speed", "detour", "near")
     refuse_near_alone(args)
-    needs("numpy")
-    from ..core.tables import write_rows
+    needs("numpy", "scipy")
     from ..gtfs.stops import read_stops
     from ..plans.nearness import new_stops_in, sentences_on_nearer
-    from ..streets.walks import Pace, footpaths_and_walks
+    from ..streets.walks import Pace, footpaths_of
 
     out = file_of(args)
     pace, stops = Pace(args.limit, args.speed, args.detour), read_stops(args.folder)
     new_stops_in(args.folder)  # an error of these is raised before anything is written
-    rows, sentence, found = footpaths_and_walks(stops, args.table, pace, args.streets, args.near)
+    found, sentence = footpaths_of(stops, args.table, pace, args.streets, args.near)
     with output(out) as file:
-        write_rows(file, ["from_stop_id", "to_stop_id", "seconds"], rows)
+        found.write(file)
     say(f"{out}: {sentence}", *sentences_on_nearer(args.folder, out))
     give(
-        args, feed=args.folder, footpaths_file=out, footpaths=len(rows), unreachable={"origins": [], "destinations": []}
+        args,
+        feed=args.folder,
+        footpaths_file=out,
+        footpaths=len(found.seconds),
+        unreachable={"origins": [], "destinations": []},
     )
     give(args, **unlinked(found))

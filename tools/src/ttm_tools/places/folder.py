@@ -276,7 +276,6 @@ def write_files(
     folder: Path, options: PointsOptions, study: PointStudy, walks: Walks, rounded: RoundingCounter
 ) -> None:
     labels, files = study.points.labels, list[tuple[str, list[str], Iterable[Sequence[object]]]]()
-    files.append((FOOTPATHS, ["from_stop_id", "to_stop_id", "seconds"], walks.rows()))
     for column, name in file_names(study.points.columns).items():
         lines = opportunities(options, study, column, rounded)
         files.append((f"opportunities_{name}.csv", ["stop_id", "opportunities"], lines))
@@ -285,6 +284,8 @@ def write_files(
     for name, header, rows in files:
         with open(folder / name, "wb") as out:
             write_rows(out, header, rows)
+    with open(folder / FOOTPATHS, "wb") as out:
+        walks.write(out)
     for name, chosen in (("origins.csv", options.begins), ("destinations.csv", options.ends)):
         with open(folder / name, "wb") as out:
             write_stops(out, study.of_files(chosen))

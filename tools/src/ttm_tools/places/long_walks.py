@@ -12,6 +12,7 @@ import numpy.typing as npt
 
 from ..core.stop_lists import write_stops
 from ..core.tables import write_rows
+from ..gtfs.footpath_file import write_footpaths
 from ..gtfs.footpaths import Footpaths, direct_walks, joined
 from ..gtfs.stops import Stops, read_stops
 from ..gtfs.timetable import Timetable, read_timetable
@@ -23,7 +24,7 @@ from ..streets.table import NONE, WalkTable, street_table
 from ..streets.walks import Pace
 from .folder import FEED, FOOTPATHS, PointStudy, prefixes_of, study_of
 from .read import Points
-from .split import Split, changes_at, refuse_many, split_of, write_feed, write_footpaths
+from .split import Split, changes_at, refuse_many, split_of, write_feed
 
 MANY = 1_000_000  # walks, with which a run takes twice as long as with those that journeys need
 SAMPLE = 64  # stops and origins from which walks are counted
@@ -110,7 +111,9 @@ class LongWalks:
         destinations = [split.twin(name) for name in origins] if same else self.study.of_files([False, True])
         added = points.only(np.tile(np.arange(len(points.identifiers)), 2)) if same else points
         write_feed(folder / FEED, timetable, split, added, [*origins, *destinations])
-        write_footpaths(folder / FOOTPATHS, walks, [*split.alights, *origins], [*split.stops, *destinations])
+        with open(folder / FOOTPATHS, "wb") as out:
+            names = [*split.alights, *origins], [*split.stops, *destinations]
+            write_footpaths(out, (walks.begin, walks.end), walks.seconds, names)
         for name, stops in (("origins.csv", origins), ("destinations.csv", destinations)):
             with open(folder / name, "wb") as out:
                 write_stops(out, stops)

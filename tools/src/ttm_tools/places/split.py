@@ -109,17 +109,6 @@ def forbidden(not_allowed: Mask) -> Column:
     return column_of(["0", "1"], not_allowed.astype(np.int8))
 
 
-def write_footpaths(path: Path, walks: Footpaths, begin_names: Sequence[str], end_names: Sequence[str]) -> None:
-    """Writes a file of footpaths, which begin and end at positions in the order of a table."""
-    columns = {
-        "from_stop_id": column_of(begin_names, walks.begin),
-        "to_stop_id": column_of(end_names, walks.end),
-        "seconds": numbered(walks.seconds, str),
-    }
-    with open(path, "wb") as out:
-        write_table(Table(path.name, columns, np.arange(len(walks.seconds))), out)
-
-
 def refuse_many(path: Path, walks: Sequence[Footpaths]) -> None:
     """Refuses more walks than `ttm` takes."""
     if sum(len(some.seconds) for some in walks) > MOST_FOOTPATHS:

@@ -34,14 +34,18 @@ class WaysFound:
         if self.count * self.directions > 2 * MOST_FOOTPATHS:
             self.all()
 
+    def expect(self, count: int) -> None:
+        """Refuses too many ways before any is taken."""
+        if count * self.directions > MOST_FOOTPATHS:
+            text = f"more than the {MOST_FOOTPATHS:,} walks that ttm takes: use a shorter --limit, or fewer places"
+            raise TooManyWalks(self.path, text, limit=MOST_FOOTPATHS)
+
     def all(self) -> Ways:
         """The shortest way between any two places."""
         none = (np.zeros(0, np.int64), np.zeros(0, np.int64), np.zeros(0))
         shortest = least(*(np.concatenate(columns) for columns in zip(none, *self.ways)))
         self.ways, self.count = [shortest], len(shortest[0])
-        if self.count * self.directions > MOST_FOOTPATHS:
-            text = f"more than the {MOST_FOOTPATHS:,} walks that ttm takes: use a shorter --limit, or fewer places"
-            raise TooManyWalks(self.path, text, limit=MOST_FOOTPATHS)
+        self.expect(self.count)
         return shortest
 
 

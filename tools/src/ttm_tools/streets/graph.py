@@ -14,8 +14,9 @@ import numpy as np
 from ..core.arrays import Floats
 from ..gtfs.columns import is_group_start
 from .counting import Places, least
+from .cubes import ranges
 from .osm import Streets
-from .straight import Pace, distances, points_of, ranges
+from .straight import Pace, distances, points_of
 
 MAX_SEGMENT = 100.0  # metres; edges are indexed in segments no longer than this
 

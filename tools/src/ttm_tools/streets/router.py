@@ -19,9 +19,10 @@ import numpy.typing as npt
 from ..core import progress
 from ..core.arrays import Floats
 from .counting import Ways
+from .cubes import cubes_of
 from .graph import Graph, Snaps, build_graph, matrix_of, snap, subgraph
 from .osm import Flags, Streets
-from .straight import Pace, cubes_of
+from .straight import Pace
 
 MIN_CUBE_SIDE = 300.0  # metres
 MAX_DISTANCES = 20_000_000  # entries of one distance matrix: 160 MB

@@ -6,26 +6,26 @@ detour factor at the walking speed, rounded up to whole seconds. Stops are those
 within one station one walks directly (GTFS reference, stops.txt).
 """
 
-import itertools
+import math
 from dataclasses import dataclass, field
-from typing import Iterator, Mapping
+from typing import BinaryIO, Iterator, Mapping
 
 import numpy as np
 import numpy.typing as npt
 
 from ..core.arrays import Floats
 from ..core.errors import InputError
-from ..core.limits import DETOUR, WALKING_SPEED
+from ..core.limits import DETOUR, MOST_FOOTPATHS, WALKING_SPEED
 from ..core.question import MAX_WALK
 from ..core.tables import RoundingCounter, rows
 from ..core.text import display_text
 from ..gtfs.columns import coded
+from ..gtfs.footpath_file import write_footpaths
 from ..gtfs.stops import EARTH, Stops
 from .counting import Places, Ways, WaysFound
 
-SIDE = 1 << 21  # cubes along an axis
-ROUND = [(x * SIDE + y) * SIDE + z for x, y, z in itertools.product((-1, 0, 1), repeat=3)]  # to those that touch a cube
 PAIRS_AT_ONCE = 1_000_000
+TOLERANCE = 1e-5  # metres: more than what rounding moves, and than what `Pace.metres` adds
 
 
 @dataclass(frozen=True)
@@ -59,7 +59,7 @@ class Walks:
     origins: Places  # places among the stops
     destinations: Places
     seconds: npt.NDArray[np.int64]
-    lost: int  # stops without a place
+    lost: int = 0  # stops without a place
     far: int = 0  # joined to a street that isn't near
     apart: int = 0  # with no street in reach
     unlinked: Mapping[str, Places] = field(default_factory=dict)  # the stops of these counts, by their names
@@ -68,7 +68,12 @@ class Walks:
         """The identifiers of the stops that are lost, far or apart, in the feed's order."""
         return [self.stops[place] for place in self.unlinked.get(which, np.zeros(0, np.int64)).tolist()]
 
+    def write(self, out: BinaryIO) -> None:
+        """Write the footpaths as `ttm` reads them."""
+        write_footpaths(out, (self.origins, self.destinations), self.seconds, (self.stops, self.stops))
+
     def rows(self) -> list[tuple[str, str, int]]:
+        """Return the footpaths, with the identifiers of their stops."""
         ends = zip(self.origins.tolist(), self.destinations.tolist(), self.seconds.tolist())
         return [(self.stops[a], self.stops[b], seconds) for a, b, seconds in ends]
 
@@ -95,60 +100,44 @@ def distances(a: Floats, b: Floats) -> Floats:
     return np.asarray(2 * EARTH * np.arcsin(np.minimum(1.0, chord / (2 * EARTH))))
 
 
-def near_pairs(points: Floats, metres: float) -> Iterator[tuple[Places, Places]]:
-    """Pairs of points that may be within a distance in metres, each once, some at a time, by cubes of that side."""
-    cubes = cubes_of(points, metres)
-    for step in (step for step in ROUND if step >= 0):
-        begin, end = cubes.span(cubes.ordered + step)
-        if step == 0:
-            begin = np.arange(1, len(points) + 1)
-        for a, b in ranges(begin, np.maximum(begin, end)):
-            yield cubes.order[a], cubes.order[b]
+def count_pairs(points: Floats, metres: float) -> int:
+    """Count the pairs of points within a distance over ground, which takes no memory."""
+    from scipy.spatial import cKDTree
+
+    tree = cKDTree(points)
+    chord = 2 * EARTH * math.sin(min(max(metres, 0.0) / (2 * EARTH), math.pi / 2))
+    return int(tree.count_neighbors(tree, chord) - len(points)) // 2
 
 
-def near_some(points: Floats, some: Places, metres: float) -> Iterator[tuple[Places, Places]]:
-    """The same pairs, but those alone with one of some points, and two of these twice; all others would take hours."""
-    cubes = cubes_of(points, metres)
-    for step in ROUND:
-        for a, b in ranges(*cubes.span(cubes.key[some] + step)):
-            yield some[a], cubes.order[b]
+def near_pairs(points: Floats, metres: float, some: Places | None = None) -> Iterator[tuple[Places, Places]]:
+    """Yield the pairs of points within a distance, `PAIRS_AT_ONCE` of them at a time.
 
+    Parameters
+    ----------
+    points
+        Positions, shape (n, 3).
+    metres
+        The distance, through the globe.
+    some
+        If given, pairs have one of these points first, and two of these are in two pairs. Otherwise each pair is
+        yielded once.
+    """
+    from scipy.spatial import cKDTree
 
-@dataclass(frozen=True)
-class Cubes:
-    """Points in cubes of space."""
-
-    key: Places  # of each point the number of its cube
-    order: Places  # the points by these numbers
-    ordered: Places  # the numbers in order
-
-    def span(self, keys: Places) -> tuple[Places, Places]:
-        """Where the points of some cubes begin and end in order."""
-        return np.searchsorted(self.ordered, keys, "left"), np.searchsorted(self.ordered, keys, "right")
-
-    def around(self, key: int) -> Places:
-        """The points in a cube and those that touch it."""
-        begins, ends = self.span(key + np.array(ROUND))
-        return np.concatenate([self.order[begin:end] for begin, end in zip(begins.tolist(), ends.tolist())])
-
-
-def cubes_of(points: Floats, metres: float) -> Cubes:
-    """Points in cubes of a side, at least a metre."""
-    cubes = np.floor(points / max(metres, 1.0)).astype(np.int64)
-    cubes -= cubes.min(axis=0, initial=0) - 1
-    key = (cubes[:, 0] * SIDE + cubes[:, 1]) * SIDE + cubes[:, 2]
-    order = np.argsort(key, kind="stable")
-    return Cubes(key, order, key[order])
-
-
-def ranges(begin: Places, end: Places) -> Iterator[tuple[Places, Places]]:
-    """Each number with all of its range, as two columns, some millions of rows at a time."""
-    counts = end - begin
-    cuts = np.searchsorted(np.cumsum(counts), np.arange(0, int(counts.sum()), PAIRS_AT_ONCE)[1:])
-    for some in np.split(np.arange(len(counts)), cuts):
-        number = np.repeat(some, counts[some])
-        within = np.arange(len(number)) - np.repeat(np.cumsum(counts[some]) - counts[some], counts[some])
-        yield number, begin[number] + within
+    tree = cKDTree(points)
+    if some is None and tree.count_neighbors(tree, metres) - len(points) <= MOST_FOOTPATHS:
+        pairs = tree.query_pairs(metres, output_type="ndarray")
+        for begin in range(0, len(pairs), PAIRS_AT_ONCE):
+            yield pairs[begin : begin + PAIRS_AT_ONCE, 0], pairs[begin : begin + PAIRS_AT_ONCE, 1]
+        return
+    chosen = np.arange(len(points)) if some is None else some
+    counts = np.cumsum(tree.query_ball_point(points[chosen], metres, return_length=True))
+    cuts = np.searchsorted(counts, np.arange(PAIRS_AT_ONCE, counts[-1:].max(initial=0), PAIRS_AT_ONCE))
+    for own in np.split(chosen, cuts):
+        found = cKDTree(points[own]).sparse_distance_matrix(tree, metres, output_type="ndarray")
+        one, other = own[found["i"]], found["j"]
+        once = one < other if some is None else one != other
+        yield one[once], other[once]
 
 
 def doors_of(points: Floats, stations: list[str], entrances: dict[str, Floats]) -> Entrances:
@@ -169,10 +158,10 @@ def ways(points: Floats, stations: list[str], entrances: dict[str, Floats], metr
     """The shortest way between two stops, the lower first, in metres before any detour, where it is at most so long."""
     doors, station = doors_of(points, stations, entrances), coded(stations).codes
     entered = np.array([name in entrances for name in stations], dtype=np.bool_)
-    pairs = near_pairs(doors.point, metres)
-    if found.first is not None:
-        pairs = near_some(doors.point, np.flatnonzero(doors.stop < found.first), metres)
-    for one, other in pairs:
+    some = None if found.first is None else np.flatnonzero(doors.stop < found.first)
+    if some is None and not entered.any():
+        found.expect(count_pairs(doors.point, metres - TOLERANCE))
+    for one, other in near_pairs(doors.point, metres, some):
         a, b = doors.stop[one], doors.stop[other]
         outside = (a != b) & ~(entered[a] & (station[a] == station[b]))
         a, b, one, other = a[outside], b[outside], one[outside], other[outside]
@@ -225,14 +214,15 @@ def straight_walks(stops: Stops, pace: Pace, first: int | None = None) -> Walks:
     return Walks(stops.identifiers, *ends, seconds[order], len(lost), unlinked={"lost": lost})
 
 
-def read_walks(path: str, stops: Stops, rounded: RoundingCounter) -> list[tuple[str, str, int]]:
+def read_walks(path: str, stops: Stops, rounded: RoundingCounter) -> Walks:
     """The footpaths of a table with from_stop_id, to_stop_id and seconds, as an engine of streets writes it."""
-    found = []
+    found = list[tuple[int, int, int]]()
     for number, (a, b, seconds) in rows(path, ["from_stop_id", "to_stop_id", "seconds"]):
         for column, stop in (("from_stop_id", a), ("to_stop_id", b)):
             if stop not in stops.places:
                 raise InputError(
                     path, f"is not a stop of {stops.path}", record=number, column=column, value=display_text(stop)
                 )
-        found.append((a, b, rounded.to_int(seconds, path, number, "seconds", up=True)))
-    return found
+        whole = rounded.to_int(seconds, path, number, "seconds", up=True)
+        found.append((stops.places[a], stops.places[b], whole))
+    return Walks(stops.identifiers, *np.array(found, np.int64).reshape(-1, 3).T)

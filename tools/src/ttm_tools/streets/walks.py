@@ -24,28 +24,17 @@ def walks_of(
     return street_walks(stops, pace, read_streets(streets), near, first)
 
 
-def footpaths_of(
-    stops: Stops, table: str | None, pace: Pace, streets: str | None, near: float
-) -> tuple[list[tuple[str, str, int]], str]:
+def footpaths_of(stops: Stops, table: str | None, pace: Pace, streets: str | None, near: float) -> tuple[Walks, str]:
     """The footpaths of a table, or else the walks between all stops; and what is reported of them."""
-    rows, sentence, _ = footpaths_and_walks(stops, table, pace, streets, near)
-    return rows, sentence
-
-
-def footpaths_and_walks(
-    stops: Stops, table: str | None, pace: Pace, streets: str | None, near: float
-) -> tuple[list[tuple[str, str, int]], str, Walks | None]:
-    """The same, and the walks that were found; none for a table."""
-    found: Walks | None = None
     if table:
         rounded = RoundingCounter()
-        rows = read_walks(table, stops, rounded)
+        found = read_walks(table, stops, rounded)
         sentence = f"{quantity(rounded.count, 'time')} with decimals rounded up"
         note(*([Notice(f"{table}: {sentence}", "rounded", rounded.count)] if rounded.count else []))
     else:
         found = walks_of(stops, pace, streets, near)
-        rows, sentence = found.rows(), summary(found, "stops", near)
-    return rows, f"{quantity(len(rows), 'footpath')}; {sentence}", found
+        sentence = summary(found, "stops", near)
+    return found, f"{quantity(len(found.seconds), 'footpath')}; {sentence}"
 
 
 def summary(walks: Walks, what: str, near: float) -> str:

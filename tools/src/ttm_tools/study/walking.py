@@ -44,9 +44,9 @@ def walks_stage(maker: FeedInputs) -> Stage:
     def make() -> list[str]:
         table, streets = (study.at(named) if named else None for named in (settings.table, settings.streets))
         pace = Pace(study.walk_limit, settings.speed, settings.detour)
-        rows, sentence = footpaths_of(read_stops(feed), table, pace, streets, settings.near)
+        found, sentence = footpaths_of(read_stops(feed), table, pace, streets, settings.near)
         with open(path, "wb") as file:
-            write_rows(file, ["from_stop_id", "to_stop_id", "seconds"], rows)
+            found.write(file)
         nearer = sentences_on_nearer(feed, path, study.run.walk)
         return [f"{FOOTPATHS}: {sentence}", *sentences_on_limits(study), *nearer]
 

@@ -75,10 +75,10 @@ def packages_of(study: Study) -> list[str]:
     """What the results need, so that a lack is reported before the run."""
     settings = study.results
     pictures = [*(["matplotlib"] if settings.maps else []), *(["jinja2"] if settings.page else [])]
-    streets = ["osmium", "scipy"] if study.walks.streets else []
+    streets = ["osmium"] if study.walks.streets else []
     points = study.points
     shapes = ["shapely"] if study.feed.area or points.grid_area or settings.isochrones else []
-    return ["h5py", *pictures, *shapes, *(["geopandas"] if points.grid_area else []), *streets]
+    return ["h5py", "scipy", *pictures, *shapes, *(["geopandas"] if points.grid_area else []), *streets]
 
 
 def refuse_settings(study: Study, inputs: Inputs) -> None:
