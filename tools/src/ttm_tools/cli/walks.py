@@ -71,6 +71,7 @@ def run(args: argparse.Namespace) -> None:
         refuse_unused(args, own, "limit", "speed", "detour", "near")
     refuse_near_alone(args)
     needs("numpy")
+    from ..core.stop_lists import FOOTPATH_COLUMNS
     from ..core.tables import write_rows
     from ..gtfs.stops import read_stops
     from ..plans.nearness import new_stops_in, sentences_on_nearer
@@ -81,7 +82,7 @@ def run(args: argparse.Namespace) -> None:
     new_stops_in(args.folder)  # an error of these is raised before anything is written
     rows, sentence, found = footpaths_and_walks(stops, args.table, pace, args.streets, args.near)
     with output(out) as file:
-        write_rows(file, ["from_stop_id", "to_stop_id", "seconds"], rows)
+        write_rows(file, FOOTPATH_COLUMNS, rows)
     say(f"{out}: {sentence}", *sentences_on_nearer(args.folder, out))
     give(
         args, feed=args.folder, footpaths_file=out, footpaths=len(rows), unreachable={"origins": [], "destinations": []}

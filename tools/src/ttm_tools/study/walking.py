@@ -3,6 +3,7 @@
 from dataclasses import replace
 from typing import Protocol
 
+from ..core.stop_lists import FOOTPATH_COLUMNS
 from ..core.tables import write_rows
 from ..core.text import quantity, short_number
 from ..gtfs.stops import read_stops
@@ -46,7 +47,7 @@ def walks_stage(maker: FeedInputs) -> Stage:
         pace = Pace(study.walk_limit, settings.speed, settings.detour)
         rows, sentence = footpaths_of(read_stops(feed), table, pace, streets, settings.near)
         with open(path, "wb") as file:
-            write_rows(file, ["from_stop_id", "to_stop_id", "seconds"], rows)
+            write_rows(file, FOOTPATH_COLUMNS, rows)
         nearer = sentences_on_nearer(feed, path, study.run.walk)
         return [f"{FOOTPATHS}: {sentence}", *sentences_on_limits(study), *nearer]
 

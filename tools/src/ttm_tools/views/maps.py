@@ -11,9 +11,9 @@ from ..core.text import display_text, quantity, rounded
 from ..gtfs.projection import Projection
 from ..gtfs.stops import Stops
 from ..matrices import Matrix
-from ..web.page.lines import DrawnLines
 from . import drawing, map_content
 from .classes import BANDS
+from .drawn_lines import DrawnLines
 from .isochrone_map import draw_bands
 from .isochrones import AreaGround, Walking
 from .lines import Planned, lines_of_edits, lines_of_plan

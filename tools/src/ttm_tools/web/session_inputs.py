@@ -8,6 +8,7 @@ from pathlib import Path
 from ..core.errors import ArgumentError
 from ..core.files import copy_file, writing_to
 from ..core.folders import scratch
+from ..core.stop_lists import FOOTPATH_COLUMNS
 from ..core.tables import write_rows
 from ..core.text import quantity
 from ..gtfs.stops import Stops, read_stops
@@ -15,7 +16,7 @@ from ..places import folder as points_folder, grid
 from ..places.folder import PointsOptions
 from ..streets.walks import NEAR, Pace, Walks, summary, walks_of
 from .options import ExploreOptions
-from .point import FEED, HEADER, Point, WALKS, Walk, laid_out
+from .point import FEED, Point, WALKS, Walk, laid_out
 
 CELLS = "cells"
 
@@ -37,7 +38,7 @@ def with_walks(options: ExploreOptions, room: Path) -> tuple[ExploreOptions, lis
     walks = walks_of(read_stops(options.feed), Pace(options.walk), options.streets)
     path = room / WALKS
     with open(path, "wb") as file:
-        write_rows(file, HEADER, walks.rows())
+        write_rows(file, FOOTPATH_COLUMNS, walks.rows())
     return replace(options, footpaths=str(path)), [
         f"{quantity(len(walks.seconds), 'walk')}; {summary(walks, 'stops', NEAR)}"
     ]
