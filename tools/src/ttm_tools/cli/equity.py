@@ -68,7 +68,7 @@ def run(args: argparse.Namespace) -> None:
     if args.measure and args.picture:
         raise ArgumentError("--picture does not go with --measure")
     needs("numpy", *(["matplotlib"] if args.picture else []))
-    from ..matrices.beside import labels_of
+    from ..matrices.joined import labels_of
     from ..api.access_files import read_access
     from ..measures.access_table import beside, sentences_on_lost
     from ..api.count_files import read_counts
