@@ -56,8 +56,6 @@ EXCEPTIONS = {
     "compat": ("matrices", "plans"),
     "compat.r5py": ("gtfs", "places", "streets"),
     "places.selection": ("matrices",),
-    "views.lines": ("web",),
-    "views.maps": ("web",),
     "web.from_study": ("study",),
     "web.live_network": ("compat",),
 }

@@ -8,7 +8,7 @@ import pytest
 
 from helpers import TOWN, Town, read, town_matrix
 from ttm_tools.matrices import open_matrix
-from ttm_tools.matrices.chosen import MatrixSubset
+from ttm_tools.matrices.selections import MatrixSubset
 
 
 def points(town: Town) -> str:

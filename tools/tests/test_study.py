@@ -29,7 +29,7 @@ from ttm_tools.study.settings import PartSettings
 from ttm_tools.study.stages import Folder
 from ttm_tools.study.study_file import read_study
 from ttm_tools.study.template import template
-from ttm_tools.study.ttm import toolchain_of, version_of
+from ttm_tools.engine.version import toolchain_of, version_of
 from ttm_tools.study.work import make_study
 
 for _package in ("h5py", "pandas", "matplotlib"):

@@ -6,7 +6,7 @@ from pathlib import Path
 import pytest
 
 from helpers import TOWN, Cell, Town, read, town_matrix
-from ttm_tools.matrices.beside import labels_of
+from ttm_tools.matrices.joined import labels_of
 
 OLD, NEW = {"base": TOWN["base"]}, {"base": TOWN["cut"]}  # both under the name base
 PAIRS = ["A,D,cut off,2400,,", "A,C,slower,900,1900,1000", "D,B,new,,1700,", "D,A,faster,1500,1400,-100"]

@@ -15,7 +15,7 @@ from ..core.errors import InputError
 from ..core.folders import scratch
 from ..core.progress import reported
 from ..core.reading import regular
-from ..core.scenarios import BASE, TODAY
+from ..core.scenarios import BASE, TODAY, scenario_name
 from ..core.tables import RoundingCounter
 from ..core.text import display_text
 from ..core.times import minutes_of
@@ -81,7 +81,7 @@ def all_found(
 def scenarios_of(files: Sequence[Pathlike]) -> dict[str, str | None]:
     """The file of each scenario, none for the base; which is left out where scenarios are those of a plan."""
     paths: dict[str, str | None] = {BASE: None}
-    paths |= {Path(path).name.removesuffix(".csv"): str(path) for path in files}
+    paths |= {scenario_name(path): str(path) for path in files}
     return {name: path for name, path in paths.items() if name != BASE or TODAY not in paths}
 
 

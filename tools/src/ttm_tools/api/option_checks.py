@@ -11,6 +11,7 @@ from collections.abc import Iterator
 
 from ..core.folders import scratch
 from ..core.tables import RoundingCounter
+from ..core.times import as_minute
 from ..engine.arguments import EngineArguments, Pathlike, program_at
 from ..engine.conversation import Conversation
 from ..engine.inputs import write_inputs
@@ -49,17 +50,12 @@ def checked_options(
         for (options, every_found), pair in zip(every, pairs):
             for found in every_found:
                 for option in found.options:
-                    at = as_minute(option.departure - DAY * options.back)
+                    at = as_minute((option.departure - DAY * options.back) // 60)
                     if at not in matrices:
                         matrices[at] = matrix_at(conversation, at, folder)
                     cells = cells_of(matrices[at], [found.name], EVERY, [pair])
                     refuse_difference(found.name, option.seconds, cells[pair][found.name], *pair, f" at {at}")
             yield options, every_found
-
-
-def as_minute(seconds: int) -> str:
-    """A departure, as `ttm` reads it."""
-    return f"{seconds // 3600:02}:{seconds // 60 % 60:02}"
 
 
 def matrix_at(conversation: Conversation, at: str, folder: Path) -> Matrix:

@@ -2,7 +2,7 @@ import argparse
 
 from ..core.errors import ArgumentError, needs
 from ..core.files import output
-from ..core.ranges import Range
+from ..core.question import PERCENTILES
 from ..views.picture_files import write_picture
 from .options import Parser, decimals
 
@@ -24,7 +24,7 @@ def describe(parser: Parser) -> None:
     what = "where bands begin, ascending: opportunities, or minutes for a table of the nearest"
     parser.add_numbers("--bands", what, decimals("", 0, 1e15), without="an error")
     parser.add_text("--opportunity", "NAME", "the opportunity to count", without="all")
-    parser.add_number("--percentile", "the percentile to count", Range("percent", 1, 100), without="all")
+    parser.add_number("--percentile", "the percentile to count", PERCENTILES.allowed, without="all")
     what = "the cutoff to count, or the number of nearest opportunities"
     parser.add_number("--cutoff", what, decimals("", 0, 1e15), without="all")
     parser.add_form()

@@ -4,7 +4,7 @@ from typing import TYPE_CHECKING, Sequence
 from ..core.console import say
 from ..core.errors import ArgumentError, InputError, needs
 from ..core.files import output
-from ..core.ranges import Range
+from ..core.question import PERCENTILES
 from ..core.text import first_few, quantity
 from ..measures.registry import FAIRNESS
 from ..views.picture_files import write_picture
@@ -43,7 +43,7 @@ def describe(parser: Parser) -> None:
     parser.add_argument("access", metavar="ACCESS", help="a table of ttm-tools access in its long form")
     parser.add_people()
     parser.add_text("--opportunity", "NAME", "the opportunity to measure", without="all")
-    parser.add_number("--percentile", "the percentile to measure", Range("percent", 1, 100), without="all")
+    parser.add_number("--percentile", "the percentile to measure", PERCENTILES.allowed, without="all")
     parser.add_number("--cutoff", "the cutoff to measure", decimals("minutes", 0, 1e15), without="all")
     parser.add_base()
     what = "the loss, in percent of the base's access, from which people count as losers"
@@ -68,7 +68,7 @@ def run(args: argparse.Namespace) -> None:
     if args.measure and args.picture:
         raise ArgumentError("--picture does not go with --measure")
     needs("numpy", *(["matplotlib"] if args.picture else []))
-    from ..matrices.beside import labels_of
+    from ..matrices.joined import labels_of
     from ..api.access_files import read_access
     from ..measures.access_table import beside, sentences_on_lost
     from ..api.count_files import read_counts

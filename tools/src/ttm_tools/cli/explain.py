@@ -3,7 +3,7 @@ from typing import TYPE_CHECKING, Iterable, Iterator
 
 from ..core.errors import ArgumentError, InputError, needs
 from ..core.files import output
-from ..core.ranges import Range
+from ..core.question import PERCENTILES
 from ..views.picture_files import write_picture
 from .machine import add_json, give, is_json
 from .options import Parser
@@ -41,7 +41,7 @@ def describe(parser: Parser) -> None:
     parser.add_day("the day of the departures")
     parser.add_window()
     parser.add_journeys()
-    parser.add_number("--share", "the percentile of the departures", Range("percent", 1, 100), default=50)
+    parser.add_number("--share", "the percentile of the departures", PERCENTILES.allowed, default=50)
     parser.add_days_that_count()
     parser.add_text("--footpaths", "FILE", "walks in addition to those of the feed", without="there are none")
     what = "a matrix that has the travel time, instead of a run of ttm"

@@ -10,6 +10,7 @@ from ..core.console import say
 from ..core.errors import needs
 from ..core.files import output, require_empty
 from ..core.limits import MOST_WORKERS
+from ..core.question import PERCENTILES
 from ..core.ranges import Range
 from ..core.shipped import LEAFLET
 from ..core.text import quantity
@@ -34,7 +35,7 @@ FILES = ("origins", "destinations", "opportunities")
 def describe(parser: Parser) -> None:
     parser.add_day("the day", without="a weekday with the most trips")
     parser.add_window("", "08:00", "08:59")
-    parser.add_numbers("--share", "the percentiles, ascending, between commas", Range("percent", 1, 100), "50")
+    parser.add_numbers("--share", "the percentiles, ascending, between commas", PERCENTILES.allowed, "50")
     parser.add_cutoffs("the limits of access, ascending, between commas", 0, 10000, "30")
     parser.add_journeys()
     parser.add_days_that_count()

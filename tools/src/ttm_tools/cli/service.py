@@ -97,10 +97,8 @@ def rows_of(args: argparse.Namespace, day: "Day", groups: "Groups") -> list[dict
 
 def day_of(args: argparse.Namespace) -> "Day":
     """What runs in each scenario: in the feed as it is, unless it is that of a plan, and in each file."""
-    from pathlib import Path
-
     from ..gtfs.stops import read_stops
-    from ..matrices import BASE, TODAY
+    from ..core.scenarios import BASE, TODAY, scenario_name
     from ..api.service_runs import running_on, straight_lengths
     from ..measures.service import periods_of
     from ..gtfs.timetable import read_edits, read_timetable
@@ -108,7 +106,7 @@ def day_of(args: argparse.Namespace) -> "Day":
     from ..api.service import Day
 
     files = args.scenarios or files_in_order(args.feed)
-    names = [Path(path).name.removesuffix(".csv") for path in files]
+    names = [scenario_name(path) for path in files]
     if len(set(names)) < len(names) or BASE in names:
         twice = next(name for place, name in enumerate(names) if name in (BASE, *names[:place]))
         fault = InputError(", ".join(files), "two scenario files have the same name, or one is called base")

@@ -1,10 +1,12 @@
-"""Files that list stops: CSV with the column `stop_id`."""
+"""Files that list stops, and the columns of files of walks between them."""
 
 from typing import BinaryIO, Sequence
 
 from .errors import InputError
 from .tables import rows, write_rows
 from .text import display_text
+
+FOOTPATH_COLUMNS = ("from_stop_id", "to_stop_id", "seconds")
 
 
 def origins_in(path: str) -> list[str]:

@@ -12,6 +12,7 @@ from typing import Collection, Sequence
 UNPRINTABLE = {"Cc", "Cf", "Zl", "Zp"}  # Unicode categories: control, format, line and paragraph separators
 MARKUP = "\\`*_[]|~"
 LEFT_OUT = ", and are left out"
+NOISE = 1e-13  # smaller numbers are differences of equal ones
 KEEP_E = ("ouses", "auses", "fuses", "muses", "cuses")  # houses, causes, excuses; else campuses, viruses
 
 
@@ -55,6 +56,23 @@ def short_number(number: float) -> str:
     if math.isnan(number):
         return ""
     return str(int(number)) if math.isfinite(number) and number == int(number) else repr(number)
+
+
+def decimal(number: float, decimals: int = 6) -> str:
+    """Return a number to this many decimals, without needless zeros; "" for NaN."""
+    if math.isnan(number):
+        return ""
+    return str(int(number)) if number == int(number) else f"{number:.{decimals}f}".rstrip("0").rstrip(".")
+
+
+def significant(number: float) -> str:
+    """Return a number to four decimals, or below 0.01 to four significant digits; "" for NaN."""
+    if math.isnan(number):
+        return ""
+    size = abs(number)
+    decimals = 4 if size >= 0.01 or size < NOISE else 3 - math.floor(math.log10(size))
+    text = f"{number:.{decimals}f}".rstrip("0").rstrip(".")
+    return "0" if text == "-0" else text
 
 
 def rounded(number: float, decimals: int) -> str:

@@ -7,6 +7,7 @@ from typing import Any
 import numpy as np
 
 from ..core.scaling import scale_of, times
+from ..core.stop_lists import FOOTPATH_COLUMNS
 from ..core.tables import RoundingCounter, number_of, write_rows
 from .arguments import Pathlike
 
@@ -14,7 +15,7 @@ COLUMNS = {  # of the files, by option
     "origins": ["stop_id"],
     "destinations": ["stop_id"],
     "opportunities": ["stop_id", "opportunities"],
-    "footpaths": ["from_stop_id", "to_stop_id", "seconds"],
+    "footpaths": list(FOOTPATH_COLUMNS),
 }
 
 

@@ -6,6 +6,7 @@ from typing import Mapping, Sequence
 import numpy as np
 
 from ..core.arrays import Mask, Whole
+from ..core.stop_lists import FOOTPATH_COLUMNS
 from .columns import Column, is_group_start, texts_of, values_of
 from .feeds import used_transfers
 from .fields import number
@@ -48,8 +49,9 @@ def direct_walks(timetable: Timetable, footpaths: str | None, limit: int) -> tup
     table.keep(used_transfers(table))
     stated = [stated_walks(table["from_stop_id"], table["to_stop_id"], table["min_transfer_time"], ends)]
     if footpaths is not None:
-        read = columns(footpaths, ("from_stop_id", "to_stop_id", "seconds"))
-        stated.append(stated_walks(read["from_stop_id"], read["to_stop_id"], read["seconds"], ends))
+        read = columns(footpaths, FOOTPATH_COLUMNS)
+        begins, targets, seconds = (read[name] for name in FOOTPATH_COLUMNS)
+        stated.append(stated_walks(begins, targets, seconds, ends))
     every = joined(stated)
     direct, _ = least(every.of((every.begin != every.end) & (every.seconds <= limit)), count)
     return direct, change_times(table, ends, count)

@@ -8,11 +8,11 @@ from ..core.arrays import Seconds, Sums
 from ..core.reading import as_one_line, regular
 from ..core.scenarios import BASE, TODAY
 from .base import Matrix, Pair, Share, has_all, lacking, pair_of
-from .beside import JoinedMatrix
-from .capped import capped
 from .csv_matrix import CsvMatrix
+from .joined import JoinedMatrix
 from .layout import layout_of
 from .omx import OpenMatrix, is_open_matrix, write_open_matrix
+from .selections import capped
 
 __all__ = [
     "BASE",

@@ -23,10 +23,11 @@ from ..matrices import Matrix as Store, Seconds, Share, Sums
 from ..matrices.layout import MatrixLayout
 from ..measures.opportunities import Counts
 from ..places.read import Points
+from ..views.drawn_lines import NONE, LineChange
 from ..web.page import sources
 from ..web.page.content import MOST_CELLS, Content, PageOptions, content_with, ground_of
 from ..web.page.document import Frame, leaflet_files, write_page
-from ..web.page.lines import NONE, LineChange, Lines
+from ..web.page.lines import Lines
 from ..web.page.make import MINUTES, rows_stated
 from ..web.page.settings import PageSettings
 from .frame_points import joined, points_of, renamed

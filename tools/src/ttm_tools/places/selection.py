@@ -8,7 +8,7 @@ import numpy as np
 from ..core.errors import InputError
 from ..gtfs.stops import Stops, read_stops
 from ..matrices import Matrix
-from ..matrices.chosen import MatrixSubset
+from ..matrices.selections import MatrixSubset
 from .areas import areas_beside
 from .folder import POINTS
 from .read import Points, read_points

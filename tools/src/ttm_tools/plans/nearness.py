@@ -4,6 +4,7 @@ import os
 from typing import Iterator
 
 from ..core.notices import Notice
+from ..core.stop_lists import FOOTPATH_COLUMNS
 from ..core.tables import rows
 from ..core.text import display_text, quantity
 from ..gtfs.nearest import reached_from
@@ -23,7 +24,7 @@ def sentences_on_nearer(folder: str, footpaths: str, walk: int = 0) -> Iterator[
     stops = read_stops(folder)
     new = {stops.places[name] for name in names if name in stops.places}
     walks: Leaving = {}
-    for _, (origin, target, text) in rows(footpaths, ["from_stop_id", "to_stop_id", "seconds"]):
+    for _, (origin, target, text) in rows(footpaths, FOOTPATH_COLUMNS):
         walks.setdefault(stops.places[origin], []).append((stops.places[target], int(text)))
     found = nearer(walks, new, walk)
     if found:

@@ -9,7 +9,7 @@ from pathlib import Path
 from ..core.errors import InputError
 from ..core.files import atomic_folder, copy_file
 from ..core.reading import inside
-from ..core.scenarios import BASE, TODAY, base_of
+from ..core.scenarios import BASE, TODAY, base_of, scenario_name
 from ..core.stop_lists import origins_in, write_stops
 from ..core.text import quantity
 from ..engine.arguments import EngineArguments
@@ -30,7 +30,7 @@ from .counted import (
     people_stage,
     scale_in,
 )
-from .run import dates_of, days_of, name_of, run_of, shown_names
+from .run import dates_of, days_of, run_of, shown_names
 from .settings import Study
 from .sources import Sources
 from .stages import Folder, Record, Stage, room
@@ -67,7 +67,7 @@ class Inputs:
     @property
     def edits(self) -> dict[str, str]:
         """The scenario files by the names of their scenarios."""
-        return {name_of(path): path for path in self.scenarios}
+        return {scenario_name(path): path for path in self.scenarios}
 
     def outputs_of(self, stage: str) -> dict[str, str]:
         """The sums of the files that a stage made, where there was one."""
@@ -189,9 +189,9 @@ def make_inputs(study: Study, folder: Folder, program: str) -> Inputs:
     maker.do(origins_stage(maker))
     maker.files["origins"] = ORIGINS
     maker.counts()
-    base = base_of(list(map(name_of, scenarios)))
+    base = base_of(list(map(scenario_name, scenarios)))
     shown_as = shown_names([*map(maker.at, scenarios)], study.results.csv) if base == TODAY else {}
-    own = [path for path in scenarios if shown_as.get(name_of(path)) != BASE]
+    own = [path for path in scenarios if shown_as.get(scenario_name(path)) != BASE]
     run = replace(run_of(study, maker.feed, maker.files, own), program=program)
     known = (maker.destinations(), maker.records, maker.sources, folder.path)
     return Inputs(run, base, tuple(scenarios), shown_as, *known)

@@ -12,7 +12,7 @@ from ..core.files import output, remove
 from ..core.text import quantity
 from ..core.threads import map_in_order
 from ..matrices import Matrix, Seconds, Share, Sums, write_open_matrix
-from ..matrices.chosen import MatrixSubset
+from ..matrices.selections import MatrixSubset
 from ..matrices.csv_matrix import CsvMatrix
 from ..core.scaling import unscaled
 from ..matrices.parts import PartMatrix, write_whole

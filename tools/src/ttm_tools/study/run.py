@@ -2,27 +2,21 @@
 
 import datetime
 import itertools
-from pathlib import Path
 from typing import Any, Sequence
 
-from ..core.scenarios import BASE
+from ..core.scenarios import BASE, scenario_name
 from ..core.tables import records
 from ..core.times import day_of
 from ..engine.arguments import EngineArguments
 from .settings import Study
 
 
-def name_of(path: str) -> str:
-    """The scenario of a scenario file."""
-    return Path(path).name.removesuffix(".csv")
-
-
 def shown_names(scenarios: Sequence[str], runs_all: bool) -> dict[str, str]:
     """What each scenario of a plan is called in the run: by its name, or `base` for one that takes out nothing of the
     feed, which has the trips of all; but for that `base` isn't shown.
     """
-    names = {name_of(path): name_of(path) for path in scenarios}
-    whole = [name_of(path) for path in scenarios if len(list(itertools.islice(records(path), 2))) < 2]
+    names = {scenario_name(path): scenario_name(path) for path in scenarios}
+    whole = [scenario_name(path) for path in scenarios if len(list(itertools.islice(records(path), 2))) < 2]
     return names if runs_all or not whole else {**names, whole[0]: BASE}
 
 

@@ -1,19 +1,17 @@
-"""Runs of `ttm` for a study: the program and its version, reports, and runs of parts."""
+"""Runs of `ttm` for a study: the program, reports, and runs of parts."""
 
 import os
 import re
 import shutil
-import subprocess
 import time
 from dataclasses import dataclass, replace
 from pathlib import Path
 from typing import Any
 
-from ..core.console import one_line
 from ..core.files import aside_name, remove
 from ..engine.arguments import EngineArguments, program_at
 from ..engine.process import EngineProcess
-from ..engine.refusals import EngineError, error_line
+from ..engine.refusals import error_line
 from .stages import fsync
 
 FACT = re.compile(r"ttm: (?P<name>[^:]+(?:: [^:]+)?): (?P<value>[0-9]+)")
@@ -24,23 +22,6 @@ def found_program() -> str:
     """The path of `ttm`, which holds from any folder."""
     found = program_at(None)
     return os.path.abspath(shutil.which(found) or found)
-
-
-def version_of(program: str) -> list[str]:
-    """What is known of a program: its version and, of a package's, the line of the toolchain that proved it."""
-    ran = subprocess.run([program, "--version"], capture_output=True, text=True)
-    if ran.returncode != 0:
-        raise EngineError(one_line(ran.stderr), ran.returncode)
-    return [*ran.stdout.splitlines()[:1], *toolchain_of(program)]
-
-
-def toolchain_of(program: str) -> list[str]:
-    """The line of the toolchain in the file `PROVED` of a program's package; none if there is no such file."""
-    share = Path(program).resolve().parent.parent / "share"
-    for file in (share / "doc/ttm/PROVED", share / "ttm/PROVED"):
-        if file.is_file():
-            return [line for line in file.read_text().splitlines() if line.startswith("proved with ")][:1]
-    return []
 
 
 def with_origins(run: EngineArguments, origins: str, threads: int) -> EngineArguments:

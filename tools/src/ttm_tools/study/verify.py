@@ -19,6 +19,7 @@ from ..core.stop_lists import origins_in, write_stops
 from ..core.text import display_text, first_few, quantity
 from ..engine.arguments import EngineArguments
 from ..engine.process import EngineProcess
+from ..engine.version import version_of
 from ..matrices import Matrix, open_matrix
 from ..matrices.csv_matrix import CsvMatrix
 from ..matrices.parts import parts_of
@@ -27,7 +28,7 @@ from .joining import CSV, MATRIX
 from .notes import NOTES, read_notes
 from .parts import PARTS
 from .stages import Folder, LOCK, RECORDS, locked_folder, room
-from .ttm import found_program, version_of
+from .ttm import found_program
 from .work import sweep
 
 OF_ALL = 10  # one in this many rows is computed again

@@ -10,6 +10,7 @@ from ..core.filenames import sentences_on_names
 from ..core.files import remove, sha256_of_file
 from ..core.locks import is_locked, lock_file
 from ..core.shipped import LEAFLET
+from ..engine.version import version_of
 from ..gtfs.stops import read_stops
 from ..matrices import BASE, TODAY, open_matrix
 from ..web.page.document import leaflet_files
@@ -25,7 +26,7 @@ from .results.registry import make_results
 from .results.tables import StudyMatrix, names_of_scenarios
 from .settings import Study
 from .stages import Folder, RECORDS, Record, Stage, locked_folder, log, refuse_folder, room
-from .ttm import found_program, version_of
+from .ttm import found_program
 from .walking import with_grid
 from .windows import Machine, make_windows, matrix_stage
 

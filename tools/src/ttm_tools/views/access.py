@@ -9,7 +9,7 @@ import numpy as np
 from ..core.arrays import Floats
 from ..core.errors import InputError
 from ..core.tables import write_rows
-from ..core.text import display_text
+from ..core.text import decimal, display_text
 from ..matrices import Matrix, Share
 
 LONG, WIDE = "long", "wide"
@@ -49,13 +49,6 @@ def measured(
 ) -> Measured:
     origins = origins_of(matrix, scenario)
     return Measured(scenario, origins, list(shares), np.stack([measure(scenario, share) for share in shares]))
-
-
-def decimal(number: float, decimals: int = 6) -> str:
-    """A number without needless zeros, to the nearest millionth or so; nothing for NaN."""
-    if np.isnan(number):
-        return ""
-    return str(int(number)) if number == int(number) else f"{number:.{decimals}f}".rstrip("0").rstrip(".")
 
 
 def write_access(

@@ -6,13 +6,11 @@ from typing import Any, BinaryIO, Iterator, Sequence
 from ..core.arrays import Floats
 from ..core.columns import BANDS, BANDS_OF_NEAREST, names_of
 from ..core.errors import InputError
-from ..core.text import display_text, first_few
+from ..core.text import decimal, display_text, first_few, significant
 from ..measures.access_table import AccessKind, AccessTable, by_group
 from ..measures.bands import with_at_least, within_minutes
 from ..measures.opportunities import Counts
-from .access import decimal
 from .classes import TOKENS, from_near
-from .equity import significant
 from .tables import write_table
 from .texts import figure_with, without_mathtext
 

@@ -9,7 +9,7 @@ import numpy.typing as npt
 from ..core.columns import compared
 from ..core.lines import Numerals, Texts, field, fields_as_texts, join_lines, texts_of
 from ..core.tables import write_rows
-from ..core.text import display_text, quantity, rounded
+from ..core.text import decimal, display_text, quantity, rounded
 from ..gtfs.stops import Stops
 from ..matrices import Pair, Sums
 from ..measures.comparison import (
@@ -22,7 +22,6 @@ from ..measures.comparison import (
     sides_of,
     sorted_origins,
 )
-from .access import decimal
 
 LINES_AT_ONCE = 200_000
 

@@ -1,6 +1,5 @@
 """What is shown of equity: a table, as CSV or Markdown, and a picture of Lorenz curves and of changes by tenths."""
 
-import math
 from dataclasses import astuple, dataclass
 from typing import Any, BinaryIO, Callable, Iterable, Iterator, Sequence
 
@@ -9,7 +8,7 @@ import numpy as np
 from ..core.arrays import Floats
 from ..core.columns import OF_PEOPLE, OF_PEOPLE_NEAREST, names_of
 from ..core.errors import InputError
-from ..core.text import display_text, first_few
+from ..core.text import display_text, first_few, significant
 from ..measures.access_table import AccessKind, AccessTable, by_group
 from ..measures.columns import header
 from ..measures.equity import Equity, TENTHS, changes_by_tenth, equity, lorenz
@@ -20,7 +19,6 @@ from .texts import figure_with, without_mathtext
 
 COLOURS = ("#000000", "#0072b2", "#d55e00", "#009e73", "#cc79a7", "#e69f00", "#56b4e9")  # after Okabe and Ito
 HIGH = 0.72  # of the picture
-NOISE = 1e-13  # smaller numbers are differences of equal ones
 Line = tuple[AccessKind, str, str, Equity | Nearness]  # group and scenario are the texts
 
 
@@ -63,16 +61,6 @@ def measured(table: AccessTable, people: Counts, options: EquityOptions) -> Iter
     for kind, group, numbers, weights in by_group(table, options.kinds, people):
         for place, scenario in enumerate(table.scenarios):
             yield kind, group, scenario, measure(numbers[base], numbers[place], weights, options.percent)
-
-
-def significant(number: float) -> str:
-    """Return a number to four decimals, or below 0.01 to four significant digits; nothing for NaN."""
-    if np.isnan(number):
-        return ""
-    size = abs(number)
-    decimals = 4 if size >= 0.01 or size < NOISE else 3 - math.floor(math.log10(size))
-    text = f"{number:.{decimals}f}".rstrip("0").rstrip(".")
-    return "0" if text == "-0" else text
 
 
 def rows_of(lines: Iterable[Line]) -> list[list[str]]:

@@ -6,11 +6,11 @@ from typing import BinaryIO, Iterator, Sequence
 from ..core.arrays import Floats
 from ..core.columns import OF_PEOPLE, names_of
 from ..core.errors import InputError
+from ..core.text import significant
 from ..measures.access_table import AccessKind, AccessTable, by_group
 from ..measures.inequality import Concentration, Poverty, Theil, theil_of_all
 from ..measures.opportunities import Counts
 from ..measures.registry import FAIRNESS
-from .equity import significant
 from .tables import write_table
 
 THEIL, ALL_GROUPS = "theil", "all groups"

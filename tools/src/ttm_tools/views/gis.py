@@ -20,13 +20,12 @@ from ..core.errors import InputError, needs
 from ..core.files import atomic_path
 from ..core.reading import as_one_line
 from ..core.tables import with_gaps
-from ..core.text import display_text, quantity
+from ..core.text import decimal, display_text, quantity
 from ..gtfs.stops import Stops
 from ..matrices import Matrix, Share
 from ..measures.access import nearest
 from ..measures.opportunities import Counts
 from ..places.areas import geometry_of, squares_of
-from .access import decimal
 
 LAYER = "stops"
 

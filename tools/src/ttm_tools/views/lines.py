@@ -6,9 +6,9 @@ import os
 from dataclasses import dataclass
 from typing import Sequence
 
-from ..core.scenarios import TODAY
+from ..core.scenarios import TODAY, scenario_name
 from ..gtfs.shapes import pieces
-from ..web.page.lines import DrawnLines, name_of, on_grid, plan_files
+from .drawn_lines import DrawnLines, on_grid, plan_files
 from .map_lines import MapLines, running, styled
 
 
@@ -25,7 +25,7 @@ def planned_of(folder: str, edits: Sequence[str], base: str, scenario: str, lose
     """The files of today and of a scenario of a plan, those that are named or those in the feed's folder that
     `ttm-tools scenarios` wrote; none where these aren't there.
     """
-    files = plan_files(folder, (base, scenario)) | {name_of(path): path for path in edits}
+    files = plan_files(folder, (base, scenario)) | {scenario_name(path): path for path in edits}
     is_plan = base == TODAY and os.path.isfile(files[base]) and os.path.isfile(files[scenario])
     return Planned(files[base], files[scenario], loses) if is_plan else None
 
@@ -44,7 +44,7 @@ def lines_of_edits(drawn: DrawnLines, edits: Sequence[str], base: str | None) ->
     lines = [running(pieces(drawn.points))]
     if not edits:
         return lines
-    gone, new = changed_trips({name_of(path): drawn.removed(path) for path in edits}, base)
+    gone, new = changed_trips({scenario_name(path): drawn.removed(path) for path in edits}, base)
     for kind, chosen in (("taken", gone), ("added", new)):
         found = drawn.pieces(chosen)
         lines += [styled(kind, found)] if len(found) or kind == "taken" and not new else []

@@ -14,10 +14,9 @@ from ..core.errors import InputError, MissingDependencyError
 from ..core.files import atomic_path
 from ..core.lines import Numerals, Texts, field, fields_as_texts, join_lines, texts_of
 from ..core.tables import with_gaps
-from ..core.text import display_text
+from ..core.text import decimal, display_text
 from ..gtfs.stops import Stops
 from ..matrices import Matrix, Seconds, Share, lacking
-from .access import decimal
 
 CELLS_AT_ONCE = 1_000_000
 MEDIAN = 50  # percent

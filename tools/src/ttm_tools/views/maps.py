@@ -12,9 +12,9 @@ from ..gtfs.projection import Projection
 from ..gtfs.stops import Stops
 from ..ground.contents import Ground
 from ..matrices import Matrix
-from ..web.page.lines import DrawnLines
 from . import drawing, map_content
 from .classes import BANDS
+from .drawn_lines import DrawnLines
 from .isochrone_map import Bands, draw_bands
 from .isochrones import AreaGround, Walking
 from .lines import Planned, lines_of_edits, lines_of_plan

@@ -7,12 +7,11 @@ from dataclasses import dataclass
 import numpy as np
 
 from ..core.arrays import Floats
-from ..core.text import display_text, singular
+from ..core.text import decimal, display_text, singular
 from ..gtfs.stops import Stops
 from ..matrices import Matrix, Share, pair_of
 from ..measures.access import nearest
 from . import map_content
-from .access import decimal
 from .classes import MINUTES, MINUTES_OF_CHANGE
 from .map_content import Picture, PictureOptions
 

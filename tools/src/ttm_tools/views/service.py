@@ -9,11 +9,10 @@ from ..api.service import Day, Groups, ServiceLine
 from ..core.columns import SERVICE, SERVICE_OF_STOPS, names_of
 from ..core.notices import Notice
 from ..core.tables import write_rows
-from ..core.text import display_text, quantity, rounded
+from ..core.text import display_text, quantity, rounded, significant
 from ..core.times import as_clock
 from ..measures.columns import header
 from ..measures.service import Period, Service, departures_by_stop, service_of
-from .equity import significant
 
 SINGULAR = {"departures": "departure", "vehicles at once": "vehicle at once"}
 

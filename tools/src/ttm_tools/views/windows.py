@@ -11,6 +11,7 @@ import numpy as np
 
 from ..core.arrays import Floats
 from ..core.text import display_text
+from ..core.times import minutes_of
 from ..gtfs.projection import Projection
 from ..gtfs.stops import Stops
 from ..measures.equity import TENTHS, mean, people_in_slice
@@ -38,7 +39,7 @@ class WindowColumn:
     @property
     def span(self) -> tuple[float, float]:
         """Where it begins and ends, in hours."""
-        begin, end = (int(clock[:2]) + int(clock[3:]) / 60 for clock in (self.first, self.last))
+        begin, end = (minutes_of(clock) / 60 for clock in (self.first, self.last))
         return begin, end + 1 / 60  # the last minute counts
 
 

@@ -6,6 +6,7 @@ from typing import Any, Sequence
 
 from ..core.errors import ArgumentError
 from ..core.text import display_text
+from ..core.times import minutes_of
 from ..engine.arguments import EngineArguments
 from ..gtfs.timetable import DAY, Runs, Timetable, read_edits, runs_of
 from ..journeys.found import ExplainOptions, Found, calls_of_ride, describe_question, found_by, refuse_difference
@@ -29,7 +30,7 @@ class JourneyQuestion:
     @property
     def minutes(self) -> range:
         """The departures, in minutes since midnight."""
-        first, last = (60 * int(text[:2]) + int(text[3:]) for text in self.window)
+        first, last = map(minutes_of, self.window)
         return range(first, last + 1)
 
 

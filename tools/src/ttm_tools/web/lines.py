@@ -16,7 +16,8 @@ from ..plans.new_records import OwnTrip
 from ..plans.shapes import NAME as SHAPES, Shapes
 from ..plans.state import State
 from ..plans.writing import Written
-from .page.lines import LineChange, Lines, NONE, OnGrid, Pieces, STRAIGHT, change_of, in_degrees, page_lines
+from ..views.drawn_lines import LineChange, NONE, OnGrid, Pieces
+from .page.lines import Lines, STRAIGHT, change_of, in_degrees, page_lines
 
 Course = tuple[Floats, Floats]  # latitudes and longitudes of the points of a line, one after another
 UNCHANGED = LineChange(NONE, NONE, NONE)

@@ -10,12 +10,12 @@ import numpy.typing as npt
 from ..compat.network import Network
 from ..compat.v2 import matrix
 from ..core.files import remove
-from ..core.scenarios import BASE, TODAY
+from ..core.scenarios import BASE, TODAY, scenario_name
 from ..gtfs.timetable import Timetable
 from ..matrices.result import Result
+from ..views.drawn_lines import LineChange
 from .lines import UNCHANGED
 from .options import ExploreOptions
-from .page.lines import LineChange
 from .point import Point, Walk, laid_out
 from .question import Question
 
@@ -40,7 +40,7 @@ class Plan:
     @property
     def scenarios(self) -> list[str]:
         """Those that are shown, the one first with which others are compared."""
-        names = [Path(path).name.removesuffix(".csv") for path in self.files]
+        names = [scenario_name(path) for path in self.files]
         return [TODAY, *(name for name in names if name != TODAY)] if names else [BASE]
 
     def name_of(self, scenario: str) -> str:

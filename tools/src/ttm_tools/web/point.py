@@ -10,6 +10,7 @@ from pathlib import Path
 
 import numpy as np
 
+from ..core.stop_lists import FOOTPATH_COLUMNS
 from ..core.tables import column_positions, records, write_rows
 from ..gtfs.stops import Stops, read_stops
 from ..places.folder import spread, stops_with
@@ -19,7 +20,6 @@ from ..streets.straight import distances, points_of, straight_walks
 from ..streets.walks import NEAR, Pace
 
 NAME, FEED, WALKS = "point", "feed", "footpaths.csv"
-HEADER = ["from_stop_id", "to_stop_id", "seconds"]
 Walk = tuple[str, int]  # a stop, and seconds
 
 
@@ -110,10 +110,11 @@ def laid_out(folder: Path, feed: str, footpaths: str | None, point: Point, walks
 
 def write_walks(path: Path, footpaths: str | None, name: str, walks: list[Walk]) -> None:
     """The walks of a file, and those from the point."""
-    lines = iter([(1, HEADER)]) if footpaths is None else records(footpaths)
-    _, header = next(lines, (1, HEADER))
-    places = column_positions(header, footpaths or path, HEADER)
-    chosen = [places[column] for column in HEADER]
+    columns = list(FOOTPATH_COLUMNS)
+    lines = iter([(1, columns)]) if footpaths is None else records(footpaths)
+    _, header = next(lines, (1, columns))
+    places = column_positions(header, footpaths or path, columns)
+    chosen = [places[column] for column in columns]
     own = (spread([name, stop, str(seconds)], chosen, len(header)) for stop, seconds in walks)
     with open(path, "wb") as out:
         write_rows(out, header, itertools.chain((fields for _, fields in lines), own))

@@ -14,9 +14,10 @@ from ...core.errors import InputError
 from ...core.files import remove
 from ...core.stop_lists import origins_in
 from ...engine.arguments import EngineArguments, program_at
+from ...engine.version import version_of
 from ..parts import FIRST, PARTS, Part, parts_for
 from ..stages import Folder, PACKAGE, TASK, as_text, facts_in, write_durably
-from ..ttm import Running, facts_of, found_program, version_of, with_origins
+from ..ttm import Running, facts_of, found_program, with_origins
 
 SCRIPT = f"{PARTS}/one_part.sh"
 

@@ -4,9 +4,8 @@ from typing import Any, Sequence
 
 from ...api.count_files import columns_of
 from ...core.files import output
-from ...core.text import display_text, quantity
+from ...core.text import decimal, display_text, quantity
 from ...places.folder import POINTS
-from ...views.access import decimal
 from ...web.page.make import page_of
 from ...web.page.settings import PageSettings
 from ..counted import COUNTED, PEOPLE

@@ -11,7 +11,7 @@ from ...api.count_files import columns_of, read_counts
 from ...core.arrays import Floats
 from ...core.filenames import file_names
 from ...core.files import atomic_folder, output
-from ...core.text import display_text
+from ...core.text import decimal, display_text
 from ...gtfs.stops import Stops
 from ...matrices import Matrix, capped, open_matrix, pair_of
 from ...measures.access import Decay, access, nearest
@@ -20,7 +20,7 @@ from ...measures.comparison import compare
 from ...measures.opportunities import Counts
 from ...places.selection import select_points
 from ...views import bands, equity, tables
-from ...views.access import ACCESS, Form, Measured, NEAREST, decimal, measured, write_access
+from ...views.access import ACCESS, Form, Measured, NEAREST, measured, write_access
 from ...views.differences import summary, write_origins, write_pairs
 from ...views.picture_files import write_picture
 from ..counted import COUNTED, PEOPLE

@@ -8,11 +8,11 @@ import numpy as np
 from ...core.arrays import Floats
 from ...core.columns import WINDOWS as WINDOW_COLUMNS, WINDOW_CHANGES, names_of
 from ...core.tables import write_rows
+from ...core.text import significant
 from ...measures.access_table import AccessKind, AccessTable
 from ...measures.comparison import Sides, sides_of
 from ...measures.equity import mean
 from ...measures.opportunities import Counts
-from ...views.equity import significant
 from ..settings import DayWindow
 
 

@@ -12,11 +12,11 @@ from ...core.columns import WINDOWS as WINDOW_COLUMNS, names_of
 from ...core.filenames import file_names
 from ...core.files import atomic_folder, output
 from ...core.tables import records as records_in, write_rows
-from ...core.text import display_text, quantity
+from ...core.text import decimal, display_text, quantity
 from ...measures.access_table import AccessKind, AccessTable
 from ...measures.opportunities import Counts
 from ...views import equity
-from ...views.access import ACCESS, Measured, NEAREST, decimal, long_rows
+from ...views.access import ACCESS, Measured, NEAREST, long_rows
 from ...views.picture_files import write_picture
 from ...views.windows import FigureLabels, WindowColumn, figure_by_time, figure_of_heat, figure_of_maps
 from ..counted import COUNTED, PEOPLE

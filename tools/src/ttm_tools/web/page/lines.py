@@ -2,34 +2,20 @@
 
 import os
 from dataclasses import dataclass
-from functools import cached_property
 from typing import Sequence
 
 import numpy as np
-import numpy.typing as npt
 
 from ...core.errors import InputError
-from ...core.scenarios import TODAY
+from ...core.scenarios import TODAY, scenario_name
 from ...core.text import display_text
 from ...gtfs.projection import Projection
-from ...gtfs.shapes import GRID, Trips, lines_of, pieces, read_trips, removed_trips
-from ...gtfs.stops import Stops, has_file
+from ...gtfs.shapes import GRID, pieces
+from ...gtfs.stops import Stops
+from ...views.drawn_lines import DrawnLines, LineChange, OnGrid, Pieces, on_grid, plan_files
 from .places import MICRO
 
-OnGrid = npt.NDArray[np.int32]  # x, y of both ends, on the grid
-Pieces = npt.NDArray[np.int32]  # latitude, longitude of both ends, in millionths of a degree
-NONE = np.zeros((0, 4), np.int32)
 STRAIGHT = "Lines are drawn straight from stop to stop."
-OF_PLANS = "scenarios"  # the folder in a feed's folder where ttm-tools scenarios writes scenario files
-
-
-@dataclass(frozen=True)
-class LineChange:
-    """Pieces that differ in a scenario from the base; where trips go and others come, they are changed."""
-
-    taken: Pieces
-    changed: Pieces
-    added: Pieces
 
 
 @dataclass(frozen=True)
@@ -41,45 +27,10 @@ class Lines:
     source: str
 
 
-class DrawnLines:
-    """The lines of a feed, by the trips that run along them."""
-
-    def __init__(self, folder: str, stops: Stops, projection: Projection) -> None:
-        self.folder = folder
-        self.points = lines_of(folder, stops, projection)
-        self.shaped = has_file(folder, "shapes.txt")  # whether the lines are those of shapes
-
-    @cached_property
-    def trips(self) -> Trips:
-        return read_trips(self.folder, self.shaped)
-
-    def removed(self, edits: str) -> set[str]:
-        return removed_trips(self.trips, edits)
-
-    def pieces(self, trips: set[str]) -> OnGrid:
-        """Where some trips run, on the grid."""
-        return pieces(self.points.of_lines(self.trips.lines(trips, self.shaped))) if trips else NONE
-
-
-def on_grid(before: OnGrid, after: OnGrid) -> LineChange:
-    """What is another where trips ran along some pieces of the grid and others run along these."""
-    both = among(after, before)
-    return LineChange(before[~among(before, after)], after[both], after[~both])
-
-
 def change_of(before: OnGrid, after: OnGrid, projection: Projection) -> LineChange:
     """The same in degrees."""
     found = on_grid(before, after)
     return LineChange(*(in_degrees(some, projection) for some in (found.taken, found.changed, found.added)))
-
-
-def name_of(edits: str) -> str:
-    return os.path.basename(edits).removesuffix(".csv")
-
-
-def plan_files(folder: str, scenarios: Sequence[str]) -> dict[str, str]:
-    """Where `ttm-tools scenarios` writes the scenario files of a plan in a feed's folder, by the scenarios."""
-    return {name: os.path.join(folder, OF_PLANS, f"{name}.csv") for name in scenarios}
 
 
 def scenario_files(folder: str, scenarios: Sequence[str], edits: Sequence[str]) -> dict[str, str]:
@@ -87,7 +38,7 @@ def scenario_files(folder: str, scenarios: Sequence[str], edits: Sequence[str]) 
     beside = plan_files(folder, scenarios if scenarios[0] == TODAY else ())
     files = {name: path for name, path in beside.items() if os.path.isfile(path)}
     for path in edits:
-        name = name_of(path)
+        name = scenario_name(path)
         if name not in scenarios:
             raise InputError(
                 path, f"no scenario {display_text(name)} on the page; it has {', '.join(map(display_text, scenarios))}"
@@ -110,14 +61,6 @@ def page_lines(folder: str, stops: Stops, scenarios: Sequence[str], files: dict[
     changes = [change_of(drawn.pieces(own - base), drawn.pieces(base - own), projection) for own in each]
     source = "Lines are those of shapes.txt." if drawn.shaped else STRAIGHT
     return Lines(in_degrees(running, projection), changes, source)
-
-
-def among(some: OnGrid, others: OnGrid) -> npt.NDArray[np.bool_]:
-    """Which of some rows are among others."""
-    whole = np.dtype((np.void, 4 * some.dtype.itemsize))
-    first, second = (np.ascontiguousarray(table).view(whole).ravel() for table in (some, others))
-    found: npt.NDArray[np.bool_] = np.isin(first, second)
-    return found
 
 
 def in_degrees(found: OnGrid, projection: Projection) -> Pieces:
