@@ -348,10 +348,38 @@ def test_a_saved_study_computes_the_same_numbers(served: Explored, browser: Brow
             assert own[place] == ("" if time_there != time_there else str(int(time_there)))
 
 
+SAVED = """
+const texts = window.texts = [], old = CanvasRenderingContext2D.prototype.fillText;
+CanvasRenderingContext2D.prototype.fillText = function (text, ...more) { texts.push(text); old.call(this, text, ...more); };
+const picture = await createImageBitmap(await keep.picture()), canvas = document.createElement("canvas");
+CanvasRenderingContext2D.prototype.fillText = old;
+Object.assign(canvas, { width: picture.width, height: picture.height });
+const pen = canvas.getContext("2d"), box = page.map.getContainer().getBoundingClientRect();
+pen.drawImage(picture, 0, 0);
+const above = 16 + 28 + 20 * 2 + 8;
+const colours = ["B", "C"].map((stop) => {
+  const at = page.pixelOf(head.identifiers.indexOf(stop));
+  const [red, green, blue] = pen.getImageData(Math.round(2 * at.x), Math.round(2 * (above + at.y)), 1, 1).data;
+  return "#" + [red, green, blue].map((it) => it.toString(16).padStart(2, "0")).join("");
+});
+return [picture.width, picture.height, box.width, box.height, ...colours];
+"""
+
+
 def test_a_picture_and_numbers_are_kept(served: Explored, browser: Browser) -> None:
     browser.click("A")
-    kept = browser.awaited("const it = await keep.picture(); return [it.type, it.size];")
-    assert kept[0] == "image/png" and kept[1] > 5000
+    wide, high, map_wide, map_high, *colours = browser.awaited(SAVED)
+    assert (wide, high > 2 * map_high + 200) == (2 * map_wide, True)
+    at = {stop: browser.colour(stop) for stop in "BC"}
+    assert dict(zip("BC", colours)) == at and at["B"] != at["C"]
+    title, drawn, when, *key = browser.run("return texts")
+    assert title == "321 jobs within 30 min of Alpha"
+    assert drawn == "Travel times from Alpha (A) · of 4,321 (7\u202f%) · 4 of 4 places reached"
+    assert when == "Mon 4 May 2026, 08:00–08:09 · Usual journey (half of departures)"
+    north = [text for text in key if text == "N"]
+    assert north and any(text.endswith((" km", " m")) for text in key)
+    assert [text for text in key if text.startswith(("up to 10 min  ", "11 to 20 min  ", "where vehicles run"))]
+    assert key[-1].startswith("Explore: village · Lines are ")
     rows = browser.run("return keep.numbers()").splitlines()
     assert rows[0] == 'stop_id,name,"base p10","base p25","base p50","base p75","base p90"'
     assert '"B","Beta",300,420,540,720,780' in rows

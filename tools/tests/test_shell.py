@@ -140,8 +140,8 @@ def test_back_and_forward_lead_from_choice_to_choice(served: Explored, browser: 
 
 def test_the_map_by_keys(served: Explored, browser: Browser) -> None:
     begin(browser, served, DESKTOP)
-    middle = "[numbers.places[2 * arguments[0]] / 1e6, numbers.places[2 * arguments[0] + 1] / 1e6]"
-    centre = f"page.map.setView({middle}, page.map.getZoom(), {{ animate: false }});"
+    where = "[numbers.places[2 * arguments[0]] / 1e6, numbers.places[2 * arguments[0] + 1] / 1e6]"
+    centre = f"page.map.setView({where}, page.map.getZoom(), {{ animate: false }});"
     for identifier, key, found in (("B", ENTER, "state.place"), ("D", "e", "journey.end")):
         place = browser.run("return head.identifiers.indexOf(arguments[0])", identifier)
         browser.run(centre + "element('map').focus({ focusVisible: true })", place)

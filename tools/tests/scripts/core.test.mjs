@@ -5,6 +5,7 @@ import { readFileSync } from "node:fs";
 import { test } from "node:test";
 import * as classes from "../../src/ttm_tools/web/assets/core/classes.js";
 import { NEVER } from "../../src/ttm_tools/web/assets/core/constants.js";
+import { flowed, scaleOf } from "../../src/ttm_tools/web/assets/core/flow.js";
 import * as format from "../../src/ttm_tools/web/assets/core/format.js";
 import * as geometry from "../../src/ttm_tools/web/assets/core/geometry.js";
 import { binsOf, weightsOf } from "../../src/ttm_tools/web/assets/core/histogram.js";
@@ -96,4 +97,17 @@ test("a point is within a ring, and not in its hole", () => {
 
 test("names are searched without capitals and accents", () => {
   assert.equal(plain("Béta ÖST"), "beta ost");
+});
+
+test("items are in rows that are no wider than they may be", () => {
+  const found = flowed([{ wide: 40 }, { wide: 40 }, { wide: 90 }, { wide: 200 }], 100, 10);
+  assert.deepEqual(found.placed.map(({ x, row }) => [x, row]), [[0, 0], [50, 0], [0, 1], [0, 2]]);
+  assert.equal(found.rows, 3);
+  assert.deepEqual(flowed([], 100, 10), { placed: [], rows: 0 });
+});
+
+test("a scale has the greatest round length that fits", () => {
+  assert.deepEqual(scaleOf(11, 120), { length: 1000, label: "1 km" });
+  assert.deepEqual(scaleOf(5, 120), { length: 500, label: "500 m" });
+  assert.deepEqual(scaleOf(20, 120), { length: 2000, label: "2 km" });
 });

@@ -1,12 +1,13 @@
 // Saves the picture, the numbers, and a study that computes all of it.
 
+import { shareTold } from "../core/format.js";
 import { answerOf, asker, live, tellFault } from "./live.js";
 import { point } from "./point.js";
 import { additions, head, numbers } from "../page/data.js";
 import { element, fill, made } from "../ui/elements.js";
+import { download, pictureOf } from "../ui/picture.js";
 import { state } from "../ui/state.js";
 
-const KEY_WIDE = 260; // pixels of the key next to the picture
 const keep = {
   page: null,
 
@@ -24,40 +25,10 @@ const keep = {
   controls() {},
   show() {},
 
-  /** The map with its key, as it is shown. */
-  async picture() {
-    const box = this.page.map.getContainer().getBoundingClientRect(), made = document.createElement("canvas");
-    made.width = Math.round(box.width) + KEY_WIDE;
-    made.height = Math.round(box.height);
-    const pen = made.getContext("2d");
-    pen.fillStyle = "#ffffff";
-    pen.fillRect(0, 0, made.width, made.height);
-    pen.save();
-    pen.beginPath();
-    pen.rect(0, 0, box.width, box.height);
-    pen.clip();
-    for (const canvas of this.page.map.getContainer().querySelectorAll("canvas")) {
-      const own = canvas.getBoundingClientRect();
-      pen.drawImage(canvas, own.left - box.left, own.top - box.top, own.width, own.height);
-    }
-    pen.restore();
-    this.paintKey(pen, box.width + 12, made.height);
-    return new Promise((resolve) => made.toBlob(resolve, "image/png"));
-  },
-
-  paintKey(pen, left, high) {
-    pen.fillStyle = "#1c1c1c";
-    pen.font = "bold 15px sans-serif";
-    pen.fillText(element("heading").textContent, left, 24, KEY_WIDE - 20);
-    pen.font = "13px sans-serif";
-    pen.fillText(`${live.first} to ${live.last}, percentile ${head.shares[state.share]}`, left, 44, KEY_WIDE - 20);
-    [...document.querySelectorAll("#key li")].forEach((it, place) => {
-      const [swatch, label, count] = it.children, y = 66 + 22 * place;
-      if (y < high - 10) {
-        pen.drawImage(swatch, left, y - 13, 18, 18);
-        pen.fillText(`${label.textContent}: ${count.textContent}`, left + 26, y, KEY_WIDE - 46);
-      }
-    });
+  /** The map with its title and key, as it is shown. */
+  picture() {
+    const when = `${element("date-told").textContent}, ${live.first}–${live.last}`;
+    return pictureOf(this.page, `${when} · ${shareTold(head.shares[state.share])}`);
   },
 
   /** A line for each place: its identifier, name, and seconds of each scenario and percentile. */
@@ -82,12 +53,5 @@ const keep = {
     fill("kept", "Saved. To compute all of it, run: ", made("code", command));
   },
 };
-
-/** Has the browser keep a file. */
-function download(name, blob) {
-  const link = made("a", "", { download: name, href: URL.createObjectURL(blob) });
-  link.click();
-  setTimeout(() => URL.revokeObjectURL(link.href), 10000);
-}
 
 additions.push(keep);

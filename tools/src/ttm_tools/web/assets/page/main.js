@@ -2,6 +2,7 @@
 
 import "./cells.js";
 import "./bands.js";
+import "./kept.js";
 import { begin } from "../ui/begin.js";
 import { element } from "../ui/elements.js";
 

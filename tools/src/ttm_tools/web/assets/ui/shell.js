@@ -86,6 +86,13 @@ function addPanels() {
   }).observe(element("stage"));
 }
 
+/** Shows the map's focus and its cross to those who use the keyboard, not after a click. */
+function addFocus() {
+  const map = element("map");
+  map.addEventListener("pointerdown", () => { map.dataset.pointed = "1"; }, true);
+  document.addEventListener("keydown", () => { delete map.dataset.pointed; }, true);
+}
+
 /** A menu closes where something else is clicked on, and by Escape. */
 function addMenus() {
   const menus = [...document.querySelectorAll("details.menu")].map((it) => /** @type {HTMLDetailsElement} */ (it));
@@ -129,6 +136,7 @@ function addKeys() {
 }
 
 export function addShell() {
+  addFocus();
   addPanels();
   addMenus();
   addKeys();
