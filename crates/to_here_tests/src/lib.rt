@@ -2,7 +2,7 @@
 //!
 //! - `mirrored_networks`: mirrored networks by hand (over `small_networks`).
 //! - `deadlines`: the deadlines of a destination, walks alone, and the read-out of one start.
-//! - `fronts`: the durations of a window by hand, from labels.
+//! - `fronts`: the durations of a window by hand, from labels. `rows`: those of several origins.
 //! - `searches`: the durations to a destination, by searches from its deadlines and by searches from each origin.
 #![tactic(auto)]
 
@@ -12,6 +12,8 @@ mod deadlines;
 mod fronts;
 #[cfg(test)]
 mod mirrored_networks;
+#[cfg(test)]
+mod rows;
 #[cfg(test)]
 mod searches;
 #[cfg(test)]
