@@ -1,3 +1,4 @@
 pub mod CutLabels
 pub mod UntilServed
 pub mod FrontsGrow
+pub mod RowFinished

@@ -1,7 +1,6 @@
 -- Which labels searches from the deadlines have to give, when they may stop, and which durations follow.
 -- Letters: h horizon, n network, w window, m its departure, k rides at most, p destination.
 use Rattle.std.specs.Prelude.{◌≡◌, ◌⊎◌, ℕ, ◌+◌, ◌-◌, ◌<◌, ◌≤◌, List, min, slice_index}
-use Rattle.timetable.specs.declared.limits.TheConstants.{END_OF_AXIS}
 use Rattle.timetable.specs.Least.{IsLeastOrNever}
 use Rattle.timetable.specs.Journeys.{IsDuration}
 use Rattle.timetable.specs.Networks.{Net, IsNet}
@@ -11,9 +10,9 @@ use Rattle.rounds.specs.Cut.{cut_net}
 use Rattle.rounds.specs.State.{arrival}
 use Rattle.rounds.specs.Window.{departure}
 use Rattle.reversal.specs.Deadlines.{IsDeadline, IsWalkAlone}
-use Rattle.reversal.specs.Mirror.{IsHorizon, IsMirrored}
-use Rattle.reversal.specs.ReadOut.{AreSearched, IsDeadlineLabel, IsEnough}
+use Rattle.reversal.specs.ReadOut.{IsDeadlineLabel}
 use Rattle.to_here.specs.Front.{IsFront, IsFrontOf}
+use Rattle.to_here.specs.Searched.{AreEnough, AreSearchedFor}
 
 -- a law: let the labels of a search from p count from a base, up to a cap past the mirrored first start. Then the
 -- seconds from the mirrored deadline to an origin's label are a label of the deadline; if the label is the cap, any
@@ -27,22 +26,6 @@ CutLabelsSuffice =
     (arrival ride ready origin < cap → label + since ≡ arrival ride ready origin) →
     (arrival ride ready origin ≡ cap → cap ≤ label + since) →
     IsDeadlineLabel h mirrored first p k origin time label
-
--- the deadlines of p were searched over the mirrored network, for an origin and the departures of a window; `through`
--- is the time up to which all were
-pub record AreSearchedFor (h : ℕ) (n mirrored : Net) (w : Window) (through p k origin : ℕ) (times labels : List ℕ) :
-    Type 0 where
-  pub net : IsNet n
-  pub axis : h < END_OF_AXIS
-  pub horizon : IsHorizon h n.trips
-  pub mirror : IsMirrored h n mirrored
-  pub departures : (m : ℕ) → m < w.minutes → departure w m ≤ h
-  pub searched : AreSearched h n mirrored w.first through p k origin times labels
-
--- they are enough for each departure
-abbrev pub AreEnough : ℕ → Net → Net → Window → ℕ → ℕ → ℕ → ℕ → List ℕ → List ℕ → Type 0
-AreEnough h n mirrored w through p k origin times labels =
-    (m : ℕ) → m < w.minutes → IsEnough h n mirrored w.first through p k origin (departure w m) times labels
 
 -- a law: once enough deadlines were searched, the least duration of each departure is the lesser of its duration in the
 -- front and a walk alone

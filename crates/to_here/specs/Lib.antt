@@ -1,2 +1,4 @@
 pub mod Front
+pub mod Searched
+pub mod Row
 pub mod Laws

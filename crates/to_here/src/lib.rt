@@ -1,9 +1,9 @@
 //! The durations from every origin to one destination, for each departure of a window.
 //!
 //! `reversal` builds the mirrored network and lists the deadlines of a destination. A search over the mirrored network
-//! gives each deadline a label for each origin. This crate turns the labels into durations: [`advance`] takes the
-//! labels of a slice of deadlines, however they were searched, and [`fronts_give_durations`] states that the durations
-//! are those of the definition.
+//! gives each deadline a label for each origin. This crate turns the labels into durations: [`advance_row`] takes the
+//! labels of a slice of deadlines, however they were searched, and [`finish_row`] promises the durations of the
+//! definition.
 //!
 //! # Terms
 //!
@@ -16,13 +16,17 @@
 //!
 //! # Modules, in reading order
 //!
-//! - `front`: [`front_of`], [`no_durations`], [`advance`] and [`lower_to_walk`], for one origin.
+//! - `row`: all origins. [`begin_row`], then [`advance_row`] for slices of deadlines until [`is_row_full`], then
+//!   [`finish_row`], whose contract says that the durations are the least ones.
+//! - `front`: one origin, by [`front_of`], [`no_durations`], [`advance`] and [`lower_to_walk`].
 //! - `laws`: [`fronts_give_durations`]; [`full_fronts_are_enough`], when a search may stop; and [`cut_labels_suffice`],
 //!   which labels a search has to give.
 #![tactic(auto)]
 
 mod front;
 mod laws;
+mod row;
 
 pub use front::{advance, front_of, lower_to_walk, no_durations};
 pub use laws::{cut_labels_suffice, fronts_give_durations, full_fronts_are_enough};
+pub use row::{OriginDurations, advance_row, begin_row, finish_row, is_row_full, last_fronts};
