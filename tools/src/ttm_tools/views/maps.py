@@ -8,6 +8,7 @@ import numpy as np
 from ..core.console import say
 from ..core.errors import InputError
 from ..core.text import display_text, quantity, rounded
+from ..core.walking import Walking
 from ..gtfs.projection import Projection
 from ..gtfs.stops import Stops
 from ..matrices import Matrix
@@ -15,7 +16,7 @@ from ..web.page.lines import DrawnLines
 from . import drawing, map_content
 from .classes import BANDS
 from .isochrone_map import draw_bands
-from .isochrones import AreaGround, Walking
+from .isochrones import AreaGround
 from .lines import Planned, lines_of_edits, lines_of_plan
 from .map_content import Picture, PictureOptions
 from .map_lines import MapLines

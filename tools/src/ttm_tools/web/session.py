@@ -11,6 +11,7 @@ from typing import Any, Iterator
 from ..matrices.result import Result
 from ..core.errors import ArgumentError, InputError
 from ..gtfs.feeds import refuse_planned
+from ..core.walking import Walking
 from ..gtfs.stops import Stops, read_stops
 from ..measures.opportunities import Counts, read_counts
 from ..plans.base import Base, read_taken_base
@@ -19,7 +20,6 @@ from ..places.selection import points_in, with_points
 from ..places.read import read_points
 from .page.content import Ground
 from .page.places import in_order
-from ..streets.walks import Pace
 from ..streets.osm import Streets, read_streets
 from . import planning
 from .changes import Namer, Values
@@ -151,7 +151,7 @@ class Exploration:
 
     def walks_from(self, plan: Plan, point: Point) -> list[Walk]:
         """The walks from a point to the stops of a network."""
-        return walks_from(point, read_stops(plan.folder), Pace(plan.walk), self.streets)
+        return walks_from(point, read_stops(plan.folder), Walking(max_seconds=plan.walk), self.streets)
 
     def change(self, tab: str, actions: list[Values], walk: int) -> dict[str, Any]:
         """Begins the network of a tab's changes; the one that the tab has answers until then."""

@@ -52,7 +52,7 @@ def walked(network: TransportNetwork, task: RegionalTask, origins: FramePlaces, 
         points_of(places.latitudes[places.placed], places.longitudes[places.placed])
         for places in (origins, destinations)
     )
-    found = Router(network.streets, np.concatenate([begins, ends]), task.pace(), NEAR).seconds(len(begins))
+    found = Router(network.streets, np.concatenate([begins, ends]), task.walking(), NEAR).seconds(len(begins))
     if origins is destinations:
         np.fill_diagonal(found, 0)
     return found
@@ -84,24 +84,24 @@ def doors_of(
 ) -> Doors:
     """The folder of these places, made once. A warning names the places without a stop in reach."""
     files = [origins] if origins is destinations else [origins, destinations]
-    pace, merges = task.pace(), task.max_time_walking >= task.max_time
+    walking, merges = task.walking(), task.max_time_walking >= task.max_time
     key = key_of(
         "doors and places out of reach",
         feed.key,
         network.streets_key,
-        pace,
+        walking,
         merges,
         NEAR,
         *[places.content() for places in files],
     )
 
     def make(folder: Path) -> None:
-        walks = LongWalks(feed.folder, [places.points() for places in files], network.streets, pace, NEAR)
+        walks = LongWalks(feed.folder, [places.points() for places in files], network.streets, walking, NEAR)
         with named_limits(task, files[-1]):
             write_doors(folder / "doors", walks, merges)
         write_unreached(folder / "doors")
 
-    doors = Doors(cached_entry("doors", key, make) / "doors", key, int(pace.limit))
+    doors = Doors(cached_entry("doors", key, make) / "doors", key, int(walking.max_seconds))
     for places, file in zip(files, (BEGINS, ENDS)):
         warn_of_unreached(places, doors.unreached(file))
     return doors if doors.direct is None else replace(doors, walk=MOST_FOOT_SECONDS)
@@ -122,7 +122,7 @@ def named_limits(task: RegionalTask, places: FramePlaces) -> Iterator[None]:
     try:
         yield
     except TooManyWalks:
-        limit = datetime.timedelta(seconds=task.pace().limit)
+        limit = datetime.timedelta(seconds=task.walking().max_seconds)
         what = f"{limit} gives more than the {MOST_FOOTPATHS:,} walks that ttm takes"
         raise NotAvailable("max_time_walking", what, "use less, such as 20 minutes, or fewer places") from None
     except TooManyPlaces as fault:

@@ -64,7 +64,9 @@ def ridden(
     found = ItinerarySearch(places, window, expected, task.max_time)
     numbers = [dict(zip(places.placed.tolist(), own)) for places, own in zip(ends, doors.ends)]
     options = {(one, other): found.between(numbers[0][one], numbers[1][other]) for one, other in pairs}
-    drawn, named = LegDrawing(found, (network.streets, NEAR), task.pace()), LegRows(places.timetable, network.feed_name)
+    drawn, named = LegDrawing(found, (network.streets, NEAR), task.walking()), LegRows(
+        places.timetable, network.feed_name
+    )
     drawn.walk_along([leg for journeys in options.values() for journey in journeys for leg in journey.legs])
     for (one, other), journeys in options.items():
         ids = {"from_id": ends[0].identifiers[one], "to_id": ends[1].identifiers[other]}
@@ -78,7 +80,7 @@ def walked(
 ) -> Iterator[Row]:
     """The walk of each pair, where there is one."""
     begins, others = (points_of(np.nan_to_num(places.latitudes), np.nan_to_num(places.longitudes)) for places in ends)
-    router = Router(network.streets, np.concatenate([begins, others]), task.pace(), NEAR)
+    router = Router(network.streets, np.concatenate([begins, others]), task.walking(), NEAR)
     seconds = router.seconds(len(begins))
     for one, other in pairs:
         same = ends[0] is ends[1] and one == other

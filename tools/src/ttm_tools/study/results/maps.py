@@ -10,10 +10,11 @@ from typing import Any, Sequence
 from ...core.filenames import file_names
 from ...core.files import atomic_folder, output
 from ...core.text import quantity
+from ...core.walking import Walking
 from ...measures.opportunities import columns_of
 from ...places.selection import points_in
 from ...views import isochrones
-from ...views.isochrones import AreaGround, Walking
+from ...views.isochrones import AreaGround
 from ...views.lines import planned_of
 from ...views.map_content import PictureOptions
 from ...views.maps import Areas, Sheet, figure_of, figure_of_isochrones, picture_of
@@ -84,7 +85,7 @@ def maps_stages(whole: StudyMatrix, known: Records) -> list[Stage]:
     facts: dict[str, Any] = {**whole.depends, "words": options, "run": inputs.sums}
     facts["counted"] = inputs.outputs_of("counted") if settings.nearest else {}
     if settings.isochrones:
-        facts["isochrones"] = [settings.isochrones, settings.isochrone_bands, study.pace]
+        facts["isochrones"] = [settings.isochrones, settings.isochrone_bands, study.walk_facts]
     streets = [study.walks.streets] if settings.isochrones else []
     return [Sources(study.at, streets).stage("maps", facts, [MAPS], make)]
 
@@ -129,10 +130,9 @@ def ground_for(whole: StudyMatrix) -> tuple[AreaGround, Walking]:
     """Where the places of the matrix lie, and how one walks on from them."""
     study, (matrix, stops) = whole.study, whole.open()
     there = stops.of(matrix.stops)
-    walking = Walking(study.walks.speed, study.walks.detour, study.walk_limit)
     streets = study.at(study.walks.streets) if study.walks.streets else None
     points = points_in(whole.at(whole.inputs.feed))
-    return isochrones.ground_on_foot(there, points, walking, streets, study.walks.near), walking
+    return isochrones.ground_on_foot(there, points, study.walking, streets, study.walks.near), study.walking
 
 
 def areas_stages(whole: StudyMatrix, known: Records) -> list[Stage]:
@@ -154,6 +154,6 @@ def areas_stages(whole: StudyMatrix, known: Records) -> list[Stage]:
                 isochrones.write_geojson(file, found, origin)
         return [f"{AREAS}: {quantity(len(names), 'file')}"]
 
-    options = [list(settings.isochrones), list(settings.isochrone_bands), study.pace]
+    options = [list(settings.isochrones), list(settings.isochrone_bands), study.walk_facts]
     facts = {**whole.depends, "words": options, "counted": inputs.outputs_of("counted")}
     return [Sources(study.at, [study.walks.streets]).stage(AREAS, facts, [AREAS], make)]
