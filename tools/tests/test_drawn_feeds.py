@@ -13,8 +13,9 @@ import pytest
 
 from drawn_feeds import FIRST, TABLES, Row, contents, rows_of, runs_on, seconds_of, write_drawn_feed
 from helpers import METRE, Room
+from ttm_tools.core.walking import Walking
 from ttm_tools.gtfs.stops import read_stops
-from ttm_tools.streets.walks import Pace, straight_walks
+from ttm_tools.streets.walks import straight_walks
 
 GLOBE = 180 / (math.pi * METRE)  # metres from its middle
 
@@ -209,7 +210,7 @@ def test_drawn_walks_are_those_of_plain_loops(room: Room, seed: int) -> None:
         (one["stop_id"], other["stop_id"]): math.ceil(round(walk_of(one, other, doors) * detour / speed, 6))
         for one, other in itertools.permutations(platforms, 2)
     }
-    found = straight_walks(read_stops(str(room.folder)), Pace(limit, speed, detour)).rows()
+    found = straight_walks(read_stops(str(room.folder)), Walking(3.6 * speed, detour, limit)).rows()
     assert {(one, other): seconds for one, other, seconds in found} == {
         pair: seconds for pair, seconds in wanted.items() if seconds <= limit
     }

@@ -89,7 +89,7 @@ def rows_in(path: Path) -> list[Row]:
 
 
 def wanted_walks(stops: Sequence[Row], files: Sequence[DrawnFile], limit: int) -> dict[tuple[str, str], int]:
-    """Seconds between all stops and points with a place: 1.3 times the way at 1.33 metres a second, rounded up."""
+    """Seconds between all stops and points with a place: 1.3 times the way at 4.8 km/h, rounded up."""
     doors = dict[str, list[tuple[float, float]]]()
     for row in stops:
         if row["location_type"] == "2":
@@ -100,7 +100,7 @@ def wanted_walks(stops: Sequence[Row], files: Sequence[DrawnFile], limit: int) -
             name = file.prefix + row["id"]
             ends[name] = {"stop_lat": row["lat"], "stop_lon": row["lon"], "parent_station": ""}
     walks = {
-        (one, other): math.ceil(round(walk_of(ends[one], ends[other], doors) * 1.3 / 1.33, 6))
+        (one, other): math.ceil(round(walk_of(ends[one], ends[other], doors) * 1.3 / (4.8 / 3.6), 6))
         for one, other in itertools.permutations(ends, 2)
     }
     return {pair: seconds for pair, seconds in walks.items() if seconds <= limit}

@@ -54,7 +54,7 @@ def rows_of(path: str | None) -> list[dict[str, str]]:
 
 
 def test_cells_lie_wherever_one_walks_to_a_stop(tmp_path: Path) -> None:
-    """In ten minutes one walks 798 metres, 613 as the crow flies: so far is the middle of each cell from a stop."""
+    """In ten minutes one walks 800 metres, 615 as the crow flies: so far is the middle of each cell from a stop."""
     options, sentences = with_generated(replace(options_for(tmp_path), grid=400.0), tmp_path)
     cells = rows_of(f"{options.feed}/points.csv")
     assert sentences[0] == f"{len(cells)} cells of 400 metres" and (options.name, options.most_walk) == ("village", 600)
@@ -63,13 +63,13 @@ def test_cells_lie_wherever_one_walks_to_a_stop(tmp_path: Path) -> None:
         away = [((float(cell["lat"]) - 47.0) / METRE, (float(cell["lon"]) - east) / METRE * 0.682) for east in (8.0,)]
         metres = (away[0][0] ** 2 + away[0][1] ** 2) ** 0.5
         found = seconds.get((cell["id"], "A"))
-        assert (found is None) == (metres > 613.8)
-        assert found is None or abs(found - metres * 1.3 / 1.33) < 2
+        assert (found is None) == (metres > 615.38)
+        assert found is None or abs(found - metres * 1.3 / (4 / 3)) < 2
     assert len([1 for one, other in seconds if other == "A"]) in range(5, 10)  # about 7.4 cells of 0.16 km² each
 
 
 def test_walks_go_along_streets(tmp_path: Path) -> None:
-    """900 metres along two streets take 677 seconds; the straight line would be shorter."""
+    """900 metres along two streets take 675 seconds; the straight line would be shorter."""
     feed = village(tmp_path)
     stop = f"E,Epsilon,{47.0 + 500 * METRE},{8.0 + 400 * METRE / 0.682}\n"
     (feed / "stops.txt").write_text((feed / "stops.txt").read_text() + stop)
@@ -78,7 +78,7 @@ def test_walks_go_along_streets(tmp_path: Path) -> None:
     options, sentences = with_generated(given, tmp_path)
     walks = [list(row.values()) for row in rows_of(options.footpaths)]
     assert [row[:2] for row in walks] == [["A", "E"], ["E", "A"]]
-    assert all(abs(int(row[2]) - 677) <= 1 for row in walks)
+    assert all(abs(int(row[2]) - 675) <= 1 for row in walks)
     assert options.feed == str(feed) and sentences[0].startswith("2 walks; ")
 
 

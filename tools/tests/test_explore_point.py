@@ -20,7 +20,7 @@ pytest.importorskip("jinja2")
 pytest.importorskip("pandas")
 
 from ttm_tools.gtfs.stops import read_stops  # noqa: E402
-from ttm_tools.streets.walks import Pace  # noqa: E402
+from ttm_tools.core.walking import Walking  # noqa: E402
 from ttm_tools.web.point import Point, streets_around, walks_from  # noqa: E402
 
 TIMES = "times?first=08:00&last=08:00&trips=4&tab=a&turn=1&version=1"
@@ -39,11 +39,11 @@ def north_of_alpha(metres: float) -> Point:
 
 
 def test_walks_by_straight_lines(tmp_path: Path) -> None:
-    """300 metres are 390 of way, 294 seconds at 1.33 metres a second; in ten minutes one comes 613 metres far."""
+    """300 metres are 390 of way, 293 seconds at 4.8 km/h; in ten minutes you get 615 metres far."""
     stops = read_stops(str(village(tmp_path)))
-    assert walks_from(north_of_alpha(300), stops, Pace(600), None) == [("A", 294)]
-    assert walks_from(north_of_alpha(613), stops, Pace(600), None) == [("A", 600)]
-    assert walks_from(north_of_alpha(615), stops, Pace(600), None) == []
+    assert walks_from(north_of_alpha(300), stops, Walking(max_seconds=600), None) == [("A", 293)]
+    assert walks_from(north_of_alpha(615), stops, Walking(max_seconds=600), None) == [("A", 600)]
+    assert walks_from(north_of_alpha(617), stops, Walking(max_seconds=600), None) == []
 
 
 def test_walks_by_entrances(tmp_path: Path) -> None:
@@ -54,8 +54,8 @@ def test_walks_by_entrances(tmp_path: Path) -> None:
         "\n".join(["stop_id,stop_name,stop_lat,stop_lon,location_type,parent_station", *rows, ""])
     )
     stops = read_stops(str(feed))
-    assert walks_from(north_of_alpha(300), stops, Pace(600), None) == [("A", 294)]
-    assert walks_from(north_of_alpha(-100), stops, Pace(600), None) == [("A", 489)]  # 300 metres, and 200 back
+    assert walks_from(north_of_alpha(300), stops, Walking(max_seconds=600), None) == [("A", 293)]
+    assert walks_from(north_of_alpha(-100), stops, Walking(max_seconds=600), None) == [("A", 488)]  # 300, and 200 back
 
 
 def test_walks_along_streets(tmp_path: Path) -> None:
@@ -67,9 +67,9 @@ def test_walks_along_streets(tmp_path: Path) -> None:
     (feed / "stops.txt").write_text((feed / "stops.txt").read_text() + stop)
     pytest.importorskip("osmium")
     streets, stops = read_streets(write_streets(tmp_path)), read_stops(str(feed))
-    found = dict(walks_from(north_of_alpha(100), stops, Pace(700), streets))
-    assert set(found) == {"A", "E"} and found["A"] == 76 and abs(found["E"] - 602) <= 1
-    assert dict(walks_from(north_of_alpha(100), stops, Pace(600), streets)) == {"A": 76}
+    found = dict(walks_from(north_of_alpha(100), stops, Walking(max_seconds=700), streets))
+    assert set(found) == {"A", "E"} and found["A"] == 76 and abs(found["E"] - 600) <= 1
+    assert dict(walks_from(north_of_alpha(100), stops, Walking(max_seconds=590), streets)) == {"A": 76}
 
 
 def test_only_streets_around_are_looked_at(tmp_path: Path) -> None:

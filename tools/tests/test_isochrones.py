@@ -159,16 +159,17 @@ def test_one_walks_on_along_streets(town: Town) -> None:
 
 def test_from_the_place_where_most_is_left_one_comes_furthest() -> None:
     pytest.importorskip("scipy")
+    from ttm_tools.core.walking import Walking
     from ttm_tools.streets.osm import Streets
     from ttm_tools.streets.router import Router
-    from ttm_tools.streets.straight import Pace, points_of
+    from ttm_tools.streets.straight import points_of
     from ttm_tools.streets.strips import pieces
 
     # a street of two pieces of 1,000 m along the equator, a way for both directions, with places at 0, 300 and 1,000 m
     ways = (np.array([0, 1]), np.array([1, 2]), np.array([True, True]), np.array([True, True]))
     streets = Streets("", np.zeros(3), np.array([0.0, 1000, 2000]) * METRE, *ways)
     places = np.array([0.0, 300, 1000]) * METRE
-    router = Router(streets, points_of(np.array([0.0, 0, 10 * METRE]), places), Pace(600, 1, 1), 100)
+    router = Router(streets, points_of(np.array([0.0, 0, 10 * METRE]), places), Walking(3.6, 1, 600), 100)
     found = pieces(router, np.array([400.0, 50, -1])) / METRE
     # 400 m from the first; the second, of which 50 m were left, adds nothing, since the first leaves 100 m there
     assert (found[:, [0, 2]].min(), round(found[:, [0, 2]].max(), 3)) == (0, 400)

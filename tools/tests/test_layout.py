@@ -60,8 +60,8 @@ EXCEPTIONS = {
     "web.live_network": ("compat",),
 }
 
-LIMITS = {65_535, 4_000_000, 8_000_000, 1 << 32, (1 << 32) - 1, (1 << 24) - 1, 7_200, 604_799, 1.33}
-LIMITS_IN_TEXT = re.compile(r"\b(65[,_]?535|4[,_]?294[,_]?967[,_]?29[56]|[48],000,000|7[,_]?200|1\.33)\b")
+LIMITS = {65_535, 4_000_000, 8_000_000, 1 << 32, (1 << 32) - 1, (1 << 24) - 1, 7_200, 604_799}
+LIMITS_IN_TEXT = re.compile(r"\b(65[,_]?535|4[,_]?294[,_]?967[,_]?29[56]|[48],000,000|7[,_]?200)\b")
 MINUTES = "[0-5][0-9]"  # in a pattern of clock times
 
 
@@ -187,7 +187,7 @@ def test_limits_and_clock_times_are_in_one_place_each() -> None:
     found = {(name, value) for name, path in modules().items() for value in constants(path) if states_a_limit(value)}
     elsewhere = {(name, value) for name, value in found if name not in ("core.limits", "core.times")}
     assert elsewhere == set()
-    assert {value for name, value in found if name == "core.limits"} >= {65_535, 7_200, 1.33}
+    assert {value for name, value in found if name == "core.limits"} >= {65_535, 7_200}
     assert any(name == "core.times" for name, _ in found)
 
 

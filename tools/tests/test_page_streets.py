@@ -13,9 +13,10 @@ from streets import write_osm
 from test_isochrones import crossroads
 from test_page import page
 from ttm_tools.gtfs.stops import read_stops
+from ttm_tools.core.walking import Walking
 from ttm_tools.streets.osm import read_streets
 from ttm_tools.streets.router import Router
-from ttm_tools.streets.walks import Pace, points_of
+from ttm_tools.streets.walks import points_of
 from ttm_tools.web.page import make
 
 for package in ("jinja2", "osmium", "scipy"):
@@ -97,13 +98,13 @@ def test_what_is_left_at_each_node_is_that_of_isochrones(town: Town, browser: Br
     opened(browser, page(town, "--streets", path, "--walk", "900"), "minutes=30")
     ours = "Array.from(bands.areas.leftOf(current.now, head.walk, arguments[0]))"
     nodes = np.array(browser.run("return Array.from(bands.areas.streets.points)")).reshape(-1, 2)
-    stops, pace = read_stops(town.feed).of(list("ABCD")), Pace(900)
-    router = Router(read_streets(path), points_of(stops.latitudes, stops.longitudes), pace, 100)
+    stops, walking = read_stops(town.feed).of(list("ABCD")), Walking(max_seconds=900)
+    router = Router(read_streets(path), points_of(stops.latitudes, stops.longitudes), walking, 100)
     longitudes = nodes[:, 0] / 256 * 360 - 180
     latitudes = np.degrees(2 * np.arctan(np.exp(np.pi * (1 - nodes[:, 1] / 128))) - np.pi / 2)
     for end in (10, 20, 30):
         minutes = np.array([np.inf if time == "" else -(-int(time) // 60) for time in times["base"]["A"]])
-        metres = np.minimum(60 * (end - minutes), 900) * pace.speed
+        metres = np.minimum(60 * (end - minutes), 900) * walking.speed
         wanted = np.maximum(router.within(np.where(minutes < end, metres, -1.0)), 0)
         found = np.array(browser.run(f"return {ours}", end))
         far = (router.degrees[:, 1, None] - latitudes) ** 2 + (router.degrees[:, 0, None] - longitudes) ** 2

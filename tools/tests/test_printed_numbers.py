@@ -266,7 +266,7 @@ def check_areas(checked: Checked) -> None:
     for (scenario, minutes), properties in found.items():
         row = checked.matrix.cells[scenario, SHARE][AREA_ORIGIN]
         near = [stop for stop in STOPS if (time := row[stop]) is not None and time <= 60 * minutes]
-        radii = {stop: min(60 * minutes - (row[stop] or 0), 600) * 1.33 / 1.3 for stop in near}
+        radii = {stop: min(60 * minutes - (row[stop] or 0), 600) * (4 / 3) / 1.3 for stop in near}
         area = circles_area([(*checked.drawn.places[stop], radii[stop]) for stop in near], 10) / 1e6
         assert properties["square_km"] == pytest.approx(area, rel=0.01)
         counts = {name: sum(of[stop] for stop in near) for name, of in checked.drawn.counts.items()}

@@ -181,3 +181,25 @@ def test_drawn_isochrones_have_the_area_of_their_circles(room: Room, seed: int) 
     corners = math.sin(2 * math.pi / 48) / (2 * math.pi / 48)  # a circle has 48 corners
     wanted = sum(math.pi * (seconds / 1000) ** 2 for seconds in left) * corners
     assert area["properties"]["square_km"] == pytest.approx(wanted, rel=1e-6, abs=1e-4)
+
+
+@pytest.mark.parametrize("latitude, longitude", [(0.0, 0.1), (60.0, 5.9)])  # far from the middle of their UTM zones
+def test_squares_along_streets_have_the_areas_of_the_ellipsoid(latitude: float, longitude: float) -> None:
+    for package in ("geopandas", "pyproj"):
+        pytest.importorskip(package)
+    import geopandas
+    from pyproj import Geod
+    from ttm_tools.places.street_grid import StreetGrid
+    from ttm_tools.streets.osm import Streets
+
+    every = np.ones(1, np.bool_)
+    ends = np.array([latitude, latitude]), np.array([longitude, longitude + 0.01])
+    streets = Streets("", *ends, np.array([0]), np.array([1]), every, every)
+    grid = StreetGrid(streets, (np.array([latitude]), np.array([longitude])), 100)
+    count = len(grid.cells)
+    area = grid.within(np.zeros((1, count)), 0)
+    assert count > 5 and area.area == pytest.approx(count * 100**2)
+    (degrees,) = geopandas.GeoSeries([area], crs=grid.crs).to_crs(4326)
+    on_ellipsoid = abs(Geod(ellps="WGS84").geometry_area_perimeter(degrees)[0])
+    assert on_ellipsoid == pytest.approx(count * 100**2, rel=2e-5)
+    assert grid.within(np.full((1, count), np.nan), 60).is_empty

@@ -6,6 +6,7 @@ from dataclasses import fields
 
 import pytest
 
+from ttm_tools.api.asking import walking_of
 from ttm_tools.core.errors import ArgumentError
 from ttm_tools.core.question import (
     DAYS_AFTER,
@@ -16,7 +17,6 @@ from ttm_tools.core.question import (
     Question,
     travel_seconds,
     walk_seconds,
-    walking_speed,
     window_of,
 )
 from ttm_tools.core.times import as_duration, duration_seconds
@@ -72,7 +72,7 @@ def test_a_departure_and_a_window_are_taken_as_r5py_and_r5r_take_them() -> None:
 
 def test_numbers_are_in_their_units() -> None:
     question = MORNING.replace(max_walk="15 min", max_travel="90 min", walking_kmh=3.6)
-    assert (walk_seconds(question), travel_seconds(question), walking_speed(question)) == (900, 5400, 1.0)
+    assert (walk_seconds(question), travel_seconds(question), walking_of(question).speed) == (900, 5400, 1.0)
     assert travel_seconds(MORNING) is None
 
 

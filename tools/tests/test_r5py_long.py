@@ -29,7 +29,7 @@ from ttm_tools.places.read import Points  # noqa: E402
 from ttm_tools.streets.needed import needed_walks  # noqa: E402
 from ttm_tools.streets.osm import read_streets  # noqa: E402
 from ttm_tools.streets.table import NONE, WalkTable  # noqa: E402
-from ttm_tools.streets.walks import Pace  # noqa: E402
+from ttm_tools.core.walking import Walking  # noqa: E402
 
 DATE = datetime.date(2026, 5, 4)
 BEGIN = datetime.datetime(2026, 5, 4, 7, 30)
@@ -112,7 +112,7 @@ def test_a_split_feed_has_the_durations_of_all_walks(room: Room, seed: int, long
     files = [points_at(name, [draw_place(drawn) for _ in range(5)]) for name in ("from", "to")]
     walk = WALK if longest == WALK else 1200
     for same in (False, True):
-        walks = LongWalks(feed, files[: 2 - same], streets, Pace(walk, 0.5, 1.3), 1600.0)
+        walks = LongWalks(feed, files[: 2 - same], streets, Walking(1.8, 1.3, walk), 1600.0)
         every, split = room.folder / f"every{same}", room.folder / f"split{same}"
         write_whole(every, walks)
         walks.write(split, merges=walk >= longest)

@@ -11,9 +11,10 @@ import pytest
 
 from helpers import METRE, Room
 from streets import Way, write_osm
+from ttm_tools.core.walking import Walking
 from ttm_tools.streets.osm import directions_of, is_walked, read_streets
 from ttm_tools.streets.router import Endpoints, Router
-from ttm_tools.streets.straight import Pace, points_of
+from ttm_tools.streets.straight import points_of
 
 pytest.importorskip("osmium")
 pytest.importorskip("scipy")
@@ -228,7 +229,7 @@ def drawn_router(room: Room, draw: np.random.Generator, places: int) -> Router:
                 ways.append(([node, other], STREET | ({"oneway:foot": "yes"} if draw.random() < 0.4 else {})))
     streets = read_streets(write_osm(room.folder / "drawn.osm", nodes, ways))
     north, east = draw.uniform(0, 700, (2, places)) * METRE
-    return Router(streets, points_of(north, 1 + east), Pace(500, 1.3, 1.2), 20)
+    return Router(streets, points_of(north, 1 + east), Walking(4.68, 1.2, 500), 20)
 
 
 @pytest.mark.parametrize("seed", range(4))
@@ -250,7 +251,7 @@ def test_the_methods_of_a_router_agree(room: Room, seed: int) -> None:
             if np.isnan(seconds[origin, end - origins]):
                 assert not length <= router.limit and after[end] < 0
                 continue
-            assert seconds[origin, end - origins] == router.pace.along_streets.seconds(np.array(length))
+            assert seconds[origin, end - origins] == router.walking.seconds(np.array(length))
             assert metres[origin, end] == pytest.approx(length) == pytest.approx(router.limit - after[end])
             steps = np.linalg.norm(np.diff(line, axis=0), axis=1)
             on_street = steps[1:-1].sum() + router.approaches[[origin, end]].sum()

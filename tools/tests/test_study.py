@@ -310,9 +310,9 @@ def test_verification_finds_a_row_that_ttm_does_not_compute(place: Place) -> Non
     make_study(read_study(place.lay_out(NO_MAPS)), place.folder / "nine", ExecutorOptions(2))
     notes = json.loads((place.folder / "nine/study.json").read_text())
     text = (place.folder / "nine/matrix.csv").read_text()
-    assert "base,S0,25,1008,1008,0,435," in text  # tenths of a job: the jobs have decimals
+    assert "base,S0,25,1008,1008,0,434," in text  # tenths of a job: the jobs have decimals
     (place.folder / "nine/matrix.csv").write_text(
-        text.replace("base,S0,25,1008,1008,0,435,", "base,S0,25,1008,1008,0,436,")
+        text.replace("base,S0,25,1008,1008,0,434,", "base,S0,25,1008,1008,0,436,")
     )
     notes["stages"]["matrix"]["files"]["matrix.csv"] = sha256_of_file(place.folder / "nine/matrix.csv")
     (place.folder / "nine/study.json").write_text(json.dumps(notes))

@@ -1,6 +1,6 @@
 """Measures of a study beside access: the nearest, people by band, a greatest travel time; by hand on nine stops.
 
-The stops lie 444.8 m apart, 435 seconds of walking, and every second one has a school. A bus goes along: it leaves S0
+The stops lie 444.8 m apart, 434 seconds of walking, and every second one has a school. A bus goes along: it leaves S0
 at 08:00, S2 at 08:06, and takes three minutes to each next stop. Of the departures from 08:00 to 08:04 three of five
 get from S2 to S3 in 420 seconds or less (08:02 to 08:04); from all other stops the median is the walk.
 """
@@ -25,11 +25,12 @@ def test_the_nearest_and_bands_of_people_by_hand(place: Place) -> None:  # noqa:
     assert place.ran("study", path)[2] == 0
     kind = {"scenario": "base", "opportunity": "schools", "percentile": "50", "nearest": "1"}
     found = [row for row in table(place, "nearest.csv") if kind.items() <= row.items()]
-    assert [item["seconds"] for item in found] == ["435", "0", "420", "0", "435", "0", "435", "0", "435"]
+    assert [item["seconds"] for item in found] == ["434", "0", "420", "0", "434", "0", "434", "0", "434"]
     (people,) = [row for row in table(place, "equity_nearest.csv") if kind.items() <= row.items()]
-    # people are 1, 3, 5, 7, 9 at the stops without a school, and 20 of 45 at those with one: 23 need up to 7 minutes
-    assert people["mean_minutes"] == f"{(22 * 7.25 + 3 * 7) / 45:.4f}" and people["reached_percent"] == "100"
-    assert (people["median_minutes"], people["nine_tenths_minutes"]) == ("7", "7.25")
+    # people are 1, 3, 5, 7, 9 at the stops without a school, and 20 of 45 at those with one: 22 need 434 s, 3 need 420:
+    # (22 * 434 / 60 + 3 * 7) / 45
+    assert people["mean_minutes"] == "4.003" and people["reached_percent"] == "100"
+    assert (people["median_minutes"], people["nine_tenths_minutes"]) == ("7", "7.2333")
     bands = [row for row in table(place, "bands_nearest.csv") if kind.items() <= row.items()]
     assert [(band["within_minutes"], band["people"], band["percent"]) for band in bands] == [
         ("5", "20", "44.4444"),
@@ -72,8 +73,8 @@ def test_areas_are_written_for_each_named_place(place: Place) -> None:  # noqa: 
     }
     # within 10 minutes one walks from S4 to S3 and S5, which have a school each
     assert (result["base", 10]["reached"], result["base", 10]["schools"], result["base", 5]["reached"]) == (3, 2, 1)
-    # in five minutes one gets 300 s * 1.33 / 1.3 as the crow flies
-    assert result["cut", 5]["square_km"] == pytest.approx(3.1326 * (0.3 * 1.33 / 1.3) ** 2, rel=1e-3)
+    # in five minutes one gets 300 s * 4 / 3 m/s / 1.3 as the crow flies
+    assert result["cut", 5]["square_km"] == pytest.approx(3.1326 * (0.3 * 4 / 3 / 1.3) ** 2, rel=1e-3)
     assert "isochrones" in Path(place.path("nine/report.md")).read_text()
     maps = {f"isochrones_{name}.png" for name in ("S0", "S4", "S0_cut", "S4_cut")}
     assert maps < {path.name for path in Path(place.path("nine/maps")).iterdir()}

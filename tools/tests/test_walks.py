@@ -13,13 +13,14 @@ import pytest
 
 from helpers import CALENDAR, METRE, STOP_TIMES, Room, Table, launched
 from ttm_tools.gtfs.stops import read_stops
+from ttm_tools.core.walking import Walking
 from ttm_tools.streets import straight
 from ttm_tools.streets.counting import TooManyWalks
-from ttm_tools.streets.walks import Pace, straight_walks
+from ttm_tools.streets.walks import straight_walks
 
 
 def found(room: Room, limit: float = 600, speed: float = 1.0, detour: float = 1.0) -> dict[tuple[str, str], int]:
-    result = straight_walks(read_stops(str(room.folder)), Pace(limit, speed, detour))
+    result = straight_walks(read_stops(str(room.folder)), Walking(3.6 * speed, detour, limit))
     return {(a, b): seconds for a, b, seconds in result.rows()}
 
 
@@ -123,8 +124,15 @@ def test_walks_of_the_first_stops_are_those_among_all(room: Room, first: int) ->
     stops = [[str(n), *[draw.uniform(-900, 900) for _ in "ne"], 0, draw.choice(["", f"s{n % 9}"])] for n in range(300)]
     room.stops(*stops, *stations, *doors)
     read = read_stops(str(room.folder))
-    every, some = (set(straight_walks(read, Pace(300.0), item).rows()) for item in (None, first))
+    every, some = (set(straight_walks(read, Walking(max_seconds=300.0), item).rows()) for item in (None, first))
     assert some == {(a, b, seconds) for a, b, seconds in every if int(a) < first or int(b) < first} != set()
+
+
+@pytest.mark.parametrize("words, seconds", [([], 975), (["--kmh", "3.6"], 1300), (["--speed", "1"], 1300)])
+def test_the_speed_is_in_kilometres_an_hour_or_metres_a_second(room: Room, words: list[str], seconds: int) -> None:
+    room.stops(("A", 0, 0), ("B", 999.9, 0))
+    assert room.ran("walks", "--limit", "2000", *words, str(room.folder))[2] == 0
+    assert (room.folder / "footpaths.csv").read_text().splitlines()[1] == f"A,B,{seconds}"
 
 
 @pytest.mark.parametrize("at_once", [40, 1_000_000])
@@ -151,7 +159,7 @@ def test_too_many_walks_are_refused_before_they_are_found(room: Room, monkeypatc
     room.stops(*((str(number), 0, number) for number in range(4)))  # 12 walks
     read = read_stops(str(room.folder))
     with pytest.raises(TooManyWalks, match="more than the 11 walks"):
-        straight_walks(read, Pace(300.0))
+        straight_walks(read, Walking(max_seconds=300.0))
 
 
 def test_a_table_of_walks_is_rounded_up_and_counted(room: Room) -> None:

@@ -12,15 +12,15 @@ import numpy.typing as npt
 from ..core.limits import MOST_WORKERS
 from ..core.logs import logger
 from ..core.notes import Note
-from ..core.question import Question, travel_seconds, walk_seconds, walking_speed, window_of
+from ..core.question import Question, travel_seconds, walk_seconds, window_of
 from ..core.scenarios import BASE, TODAY
 from ..core.settings import Progress, settings
 from ..core.tables import rows, write_rows
 from ..core.text import display_text, first_few, quantity
 from ..core.threads import processors
+from ..core.walking import Walking
 from ..engine.network import EngineNetwork, NetworkFiles
 from ..matrices import open_matrix
-from ..streets.walks import Pace
 from .engines import NetworkState
 from .executors import in_parts
 from .folders import PlacesFolder, WalkNetwork, folder_of
@@ -109,13 +109,13 @@ def folder_for(state: NetworkState, request: Request) -> PlacesFolder:
     question, streets = request.question, state.streets
     walk, travel = walk_seconds(question), travel_seconds(question)
     merges = travel is not None and walk >= travel
-    walking = WalkNetwork(streets[0] if streets else None, streets[1] if streets else "", pace_of(question), merges)
-    return folder_of(state.feed, walking, request.sides)
+    network = WalkNetwork(streets[0] if streets else None, streets[1] if streets else "", walking_of(question), merges)
+    return folder_of(state.feed, network, request.sides)
 
 
-def pace_of(question: Question) -> Pace:
+def walking_of(question: Question) -> Walking:
     """Return how far and how fast travellers walk."""
-    return Pace(float(max(1, walk_seconds(question))), walking_speed(question), question.detour)
+    return Walking(question.walking_kmh, question.detour, float(max(1, walk_seconds(question))))
 
 
 def answer_span(state: NetworkState, request: Request, span: range) -> tuple[Arrays, tuple[str, ...]]:

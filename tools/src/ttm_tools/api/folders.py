@@ -8,6 +8,7 @@ from pathlib import Path
 from ..core.cache import cached_entry, key_of
 from ..core.limits import MOST_FOOT_SECONDS
 from ..core.stop_lists import write_stops
+from ..core.walking import Walking
 from ..gtfs.stops import Stops, read_stops
 from ..places.doors import BEGINS, ENDS, Doors, write_doors, write_unreached
 from ..places.folder import FEED, FOOTPATHS, PointsOptions, make
@@ -17,7 +18,7 @@ from ..streets.osm import Streets
 from ..streets.router import Endpoints
 from ..streets.straight import straight_walks
 from ..streets.street_walks import street_walks
-from ..streets.walks import Pace, Walks
+from ..streets.walks import Walks
 from .frames import GivenPlaces
 
 NEAR = 1600.0  # metres to a street that are walked as they are: R5's radius of links
@@ -59,7 +60,7 @@ class WalkNetwork:
         The streets; without them, walks are straight lines with a detour.
     key
         The checksum of the file of streets.
-    pace
+    walking
         The longest walk, speed and detour.
     merges
         Whether no journey takes longer than the longest walk, so that walks alone are found apart from the engine.
@@ -67,14 +68,14 @@ class WalkNetwork:
 
     streets: Streets | None
     key: str
-    pace: Pace
+    walking: Walking
     merges: bool = False
 
     def walks(self, stops: Stops, first: int | None, only: Endpoints | None = None) -> Walks:
         """Return the walks between all stops, or between the `first` ones and all."""
         if self.streets is None:
-            return straight_walks(stops, self.pace, first)
-        return street_walks(stops, self.pace, self.streets, NEAR, first, only)
+            return straight_walks(stops, self.walking, first)
+        return street_walks(stops, self.walking, self.streets, NEAR, first, only)
 
 
 @dataclass(frozen=True)
@@ -98,7 +99,7 @@ class PlacesFolder(Doors):
         return self.feed.scenario_files
 
 
-def folder_of(feed: PreparedFeed, walking: WalkNetwork, sides: Sequence[GivenPlaces]) -> PlacesFolder:
+def folder_of(feed: PreparedFeed, network: WalkNetwork, sides: Sequence[GivenPlaces]) -> PlacesFolder:
     """Return the folder for origins and destinations, from the cache if it was written before.
 
     Parameters
@@ -112,26 +113,26 @@ def folder_of(feed: PreparedFeed, walking: WalkNetwork, sides: Sequence[GivenPla
         There are more walks or places than the engine takes.
     """
     content = [side.content() + str(side.stops).encode() for side in sides]
-    key = key_of("places", feed.key, feed.scenarios, walking.key, walking.pace, walking.merges, NEAR, *content)
-    writer = partial(write_folder, feed=feed, walking=walking, sides=sides)
+    key = key_of("places", feed.key, feed.scenarios, network.key, network.walking, network.merges, NEAR, *content)
+    writer = partial(write_folder, feed=feed, network=network, sides=sides)
     folder = cached_entry("places", key, lambda entry: writer(entry / "places")) / "places"
     own = feed if all(side.are_stops for side in sides) else replace(feed, folder=folder / FEED)
-    found = PlacesFolder(folder, key, int(walking.pace.limit), own)
+    found = PlacesFolder(folder, key, int(network.walking.max_seconds), own)
     return found if found.direct is None else replace(found, walk=MOST_FOOT_SECONDS)
 
 
-def write_folder(folder: Path, feed: PreparedFeed, walking: WalkNetwork, sides: Sequence[GivenPlaces]) -> None:
+def write_folder(folder: Path, feed: PreparedFeed, network: WalkNetwork, sides: Sequence[GivenPlaces]) -> None:
     """Write the folder of some places."""
     files = [side for side in sides if not side.are_stops]
     if not files:
         folder.mkdir()
         with open(folder / FOOTPATHS, "wb") as out:
-            walking.walks(read_stops(str(feed.folder)), None).write(out)
-    elif walking.streets is not None and len(files) == len(sides) and not feed.scenarios:
-        walks = LongWalks(str(feed.folder), points_of(files), walking.streets, walking.pace, NEAR)
-        write_doors(folder, walks, walking.merges)
+            network.walks(read_stops(str(feed.folder)), None).write(out)
+    elif network.streets is not None and len(files) == len(sides) and not feed.scenarios:
+        walks = LongWalks(str(feed.folder), points_of(files), network.streets, network.walking, NEAR)
+        write_doors(folder, walks, network.merges)
     else:
-        write_whole(folder, feed, walking, sides)
+        write_whole(folder, feed, network, sides)
     for name, side in zip((BEGINS, ENDS), (sides[0], sides[-1])):
         if side.are_stops:
             with open(folder / name, "wb") as out:
@@ -143,10 +144,10 @@ def points_of(files: Sequence[GivenPlaces]) -> list[Points]:
     return [side.points() for side in files]
 
 
-def write_whole(folder: Path, feed: PreparedFeed, walking: WalkNetwork, sides: Sequence[GivenPlaces]) -> None:
+def write_whole(folder: Path, feed: PreparedFeed, network: WalkNetwork, sides: Sequence[GivenPlaces]) -> None:
     """Write the folder with all walks between places and stops."""
     files = [side for side in sides if not side.are_stops]
     begins, ends = [side is sides[0] for side in files], [side is sides[-1] for side in files]
-    limit = int(walking.pace.limit)
+    limit = int(network.walking.max_seconds)
     options = PointsOptions(str(feed.folder), str(folder), points_of(files), begins, ends, limit, False, NEAR)
-    make(options, walking.walks)
+    make(options, network.walks)

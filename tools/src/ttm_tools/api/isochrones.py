@@ -38,7 +38,8 @@ def isochrone_frame(
     if state.streets is None:
         raise ArgumentError("isochrones need streets; give open_network a file of OpenStreetMap")
     frame = request.origins.frame
-    grid = StreetGrid(state.streets[0], frame.estimate_utm_crs(), cell_m)
+    origins = request.origins.latitudes, request.origins.longitudes
+    grid = StreetGrid(state.streets[0], origins, cell_m)
     asked = replace(request, destinations=grid_places(grid), same=False, question=within(request.question, limits[0]))
     reply = answer(state, asked, progress)
     rows = list[dict[str, Any]]()
@@ -71,12 +72,11 @@ def areas_of(
     grid: StreetGrid, origins: list[Any], seconds: npt.NDArray[np.float32], limit: float, dissolve: bool
 ) -> Iterator[tuple[Any, MultiPolygon]]:
     """Yield the area of each origin, or that of all of them."""
-    with np.errstate(invalid="ignore"):
-        if dissolve:
-            yield None, parts_of(grid.area((seconds <= limit).any(axis=0)))
-            return
-        for origin, row in zip(origins, seconds):
-            yield origin, parts_of(grid.area(row <= limit))
+    if dissolve:
+        yield None, parts_of(grid.within(seconds, limit))
+        return
+    for origin, row in zip(origins, seconds):
+        yield origin, parts_of(grid.within(row[None], limit))
 
 
 def parts_of(area: Any) -> MultiPolygon:

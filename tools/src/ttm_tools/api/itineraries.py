@@ -27,9 +27,9 @@ from .asking import (
     folder_for,
     notes_of_unreached,
     notes_of_warnings,
-    pace_of,
     scenario_files,
     tuple_of_unreached,
+    walking_of,
 )
 from .engines import NetworkState
 from .folders import NEAR, PlacesFolder
@@ -169,7 +169,7 @@ def rows_of(task: ItineraryTask, scenario: str, pairs: list[tuple[int, int]], tr
         journeys[one, other] = search.between(begins[one], ends[other])
         tracker.advance(1)
     streets = task.state.streets
-    drawing = LegDrawing(search, (streets[0], NEAR) if streets else None, pace_of(task.request.question))
+    drawing = LegDrawing(search, (streets[0], NEAR) if streets else None, walking_of(task.request.question))
     drawing.walk_along([leg for some in journeys.values() for journey in some for leg in journey.legs])
     named = RouteNames(str(task.folder.feed.folder), task.request.scenarios)
     identifiers = task.request.origins.identifiers, task.request.destinations.identifiers

@@ -9,9 +9,9 @@ from typing import TYPE_CHECKING, Any, Callable, Iterable, Sequence
 
 from ..core.console import say
 from ..core.errors import ArgumentError, InputError
-from ..core.limits import DETOUR, MOST_NUMBER, WALKING_SPEED
+from ..core.limits import MOST_NUMBER
 from ..core.notices import Notice
-from ..core.question import DAYS_AFTER, DAYS_BEFORE, MAX_RIDES, MAX_WALK, PERCENTILES, Setting
+from ..core.question import DAYS_AFTER, DAYS_BEFORE, MAX_RIDES, MAX_WALK, PERCENTILES, Setting, WALKING, WAY
 from ..core.ranges import NotInRange, Range
 from ..core.text import first_few
 from ..core.times import DATES_ALLOWED, day_of, is_minute
@@ -22,7 +22,8 @@ if TYPE_CHECKING:
     from ..core.arrays import Floats
     from ..gtfs.stops import Stops
     from ..matrices import Matrix
-    from ..views.isochrones import AreaGround, Walking
+    from ..core.walking import Walking
+    from ..views.isochrones import AreaGround
 
 
 decimals = functools.partial(Range, whole=False)
@@ -220,10 +221,12 @@ class Parser(argparse.ArgumentParser):
         self.add_number("--near", "the greatest distance of a stop from a way", decimals("metres", 0, 10000), 100)
 
     def add_ways(self, there: str, streets: str, without: str) -> None:
-        self.add_number("--speed", f"the walking speed{there}", decimals("m/s", 0.01, 100), WALKING_SPEED)
-        self.add_number(
-            "--detour", "length of a walk, as a multiple of the straight line", decimals("", 1, 100), DETOUR
-        )
+        self.add_setting(WALKING, f"the walking speed{there}")
+        speed = decimals("m/s", 0.01, 100)
+        how: dict[str, Any] = {"type": reader_of(lambda text: 3.6 * speed.read(text)), "metavar": metavar_of(speed)}
+        what = f"the same in metres a second: {speed}"
+        self.add("--speed", what=what, default=argparse.SUPPRESS, without="--kmh", dest="kmh", **how)
+        self.add_setting(WAY, "length of a walk, as a multiple of the straight line")
         self.add_text("--streets", "FILE", streets, without=without)
 
     def add_people(self) -> None:
@@ -269,9 +272,10 @@ def column_of(
 def ground_of(args: argparse.Namespace, stops: "Stops") -> "tuple[AreaGround, Walking]":
     """Where stops or points lie, and how one walks on from them."""
     from ..places.selection import points_in
-    from ..views.isochrones import Walking, ground_on_foot
+    from ..core.walking import Walking
+    from ..views.isochrones import ground_on_foot
 
-    walking = Walking(args.speed, args.detour, args.walk)
+    walking = Walking(args.kmh, args.detour, args.walk)
     points = args.points or points_in(args.feed)
     return ground_on_foot(stops, points, walking, args.streets, args.near), walking
 

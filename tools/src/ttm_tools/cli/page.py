@@ -71,14 +71,16 @@ def run(args: argparse.Namespace) -> None:
     if args.nearest and not args.opportunities:
         raise ArgumentError("--nearest needs --opportunities")
     needs("numpy", "pandas", "jinja2", *(["osmium", "scipy"] if args.streets else []))
+    from ..core.walking import Walking
     from ..web.page.document import leaflet_files
     from ..web.page.make import page_of, tell
     from ..web.page.settings import PageSettings
 
     leaflet_files(args.leaflet)
     matrix = opened(args)
-    names = [name for name in PageSettings.__dataclass_fields__ if name != "within"]
-    settings = PageSettings(**{name: getattr(args, OPTION_NAMES.get(name, name)) for name in names})
+    names = PageSettings.__dataclass_fields__.keys() - {"within", "walking"}
+    own = {name: getattr(args, OPTION_NAMES.get(name, name)) for name in names}
+    settings = PageSettings(**own, walking=Walking(args.kmh, args.detour, args.walk))
     scenarios_of(matrix, args.scenario)  # says which of them is left out
     page = page_of(matrix, settings)
     with output(args.out) as file:

@@ -14,7 +14,7 @@ from .walks import unlinked
 
 if TYPE_CHECKING:
     from ..places.read import Points
-    from ..streets.walks import Pace
+    from ..core.walking import Walking
 
 SUMMARY = "a feed for journeys from door to door: points as stops, and the walks to them"
 HELP = f"""\
@@ -75,14 +75,15 @@ def run(args: argparse.Namespace) -> None:
     from ..plans.nearness import new_stops_in, sentences_on_nearer
     from ..places.read import Columns, read_points
     from ..places.folder import FEED, FOOTPATHS, PointsOptions, folder_of
-    from ..streets.walks import Pace, walks_of
+    from ..core.walking import Walking
+    from ..streets.walks import walks_of
 
     files = list(dict.fromkeys([*args.points, *args.origins, *args.destinations]))
     begins = [path in args.points or path in args.origins for path in files]
     ends = [path in args.points or path in args.destinations for path in files]
     if args.grid is None and (args.area or args.people):
         raise ArgumentError("--area and --people need --grid").noting(column="--grid")
-    pace = Pace(args.limit, args.speed, args.detour)
+    walking = Walking(args.kmh, args.detour, args.limit)
     if args.grid is not None:
         if args.origins and args.destinations:
             fault = ArgumentError(
@@ -97,11 +98,11 @@ def run(args: argparse.Namespace) -> None:
     called = Columns(args.id, args.lat, args.lon)
     points = [read_points(path, called) for path in files]
     if args.grid is not None:
-        cells, sentences = grid_of(args, pace)
+        cells, sentences = grid_of(args, walking)
         points.append(cells)
         say(*sentences)
     options = PointsOptions(args.feed, args.out, points, begins, ends, args.limit, args.leave_out, args.near)
-    made = folder_of(options, lambda stops, first: walks_of(stops, pace, args.streets, args.near, first))
+    made = folder_of(options, lambda stops, first: walks_of(stops, walking, args.streets, args.near, first))
     say(*made.lines)
     feed, footpaths = f"{args.out}/{FEED}", f"{args.out}/{FOOTPATHS}"
     say(*sentences_on_nearer(feed, footpaths, args.limit))
@@ -109,13 +110,17 @@ def run(args: argparse.Namespace) -> None:
     give(args, points=len(made.study.points.identifiers), unreachable=made.unreached, **unlinked(made.walks))
 
 
-def grid_of(args: argparse.Namespace, pace: "Pace") -> "tuple[Points, list[str]]":
+def grid_of(args: argparse.Namespace, walking: "Walking") -> "tuple[Points, list[str]]":
     """The cells of a grid, and what is reported of them."""
     from ..gtfs.stops import read_stops
     from ..places import grid
 
     stops = read_stops(args.feed)
-    cells = grid.grid_over(args.area, args.grid) if args.area else grid.grid_near(stops, args.grid, pace.metres)
+    cells = (
+        grid.grid_over(args.area, args.grid)
+        if args.area
+        else grid.grid_near(stops, args.grid, walking.max_straight_metres)
+    )
     filled = grid.filled(cells, args.people)
     count = f"{quantity(len(filled.points.identifiers), 'cell')} of {args.grid:g} metres"
     return filled.points, [count, *filled.sentences]

@@ -13,7 +13,7 @@ from ..core.limits import MOST_WORKERS
 from ..core.question import PERCENTILES
 from ..core.ranges import Range
 from ..core.shipped import LEAFLET
-from ..core.text import quantity
+from ..core.text import quantity, short_number
 from ..core.threads import processors
 from .options import Parser
 from .unused import refuse_near_alone
@@ -105,7 +105,7 @@ def prepare(args: argparse.Namespace, feed: Path) -> None:
     """Write the feed, and the walks between its stops."""
     flags = {"--repair": not args.no_repair, "--allow-loss": args.allow_loss}
     carry_out("prepare", [*(flag for flag, is_set in flags.items() if is_set), "--out", str(feed), *args.feeds])
-    pace = ["--limit", f"{max(1, args.walk):g}", "--speed", f"{args.speed:g}", "--detour", f"{args.detour:g}"]
+    pace = ["--limit", f"{max(1, args.walk):g}", "--kmh", short_number(args.kmh), "--detour", f"{args.detour:g}"]
     streets = ["--streets", args.streets, "--near", f"{args.near:g}"] if args.streets else []
     carry_out("walks", [*pace, *streets, str(feed)])
 

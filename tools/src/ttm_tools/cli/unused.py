@@ -6,7 +6,7 @@ from ..core.errors import ArgumentError
 from .options import Parser
 
 
-WALKING = ("walk", "speed", "detour", "streets", "near")
+WALKING = ("walk", "kmh", "detour", "streets", "near")
 
 
 def refuse_unused(args: argparse.Namespace, why: str, *names: str) -> None:

@@ -68,17 +68,18 @@ def run(args: argparse.Namespace) -> None:
         raise fault.noting(column="--table", value=args.table)
     if args.table:
         own = "does nothing with --table, whose walks have times of their own"
-        refuse_unused(args, own, "limit", "speed", "detour", "near")
+        refuse_unused(args, own, "limit", "kmh", "detour", "near")
     refuse_near_alone(args)
     needs("numpy", "scipy")
     from ..gtfs.stops import read_stops
     from ..plans.nearness import new_stops_in, sentences_on_nearer
-    from ..streets.walks import Pace, footpaths_of
+    from ..core.walking import Walking
+    from ..streets.walks import footpaths_of
 
     out = file_of(args)
-    pace, stops = Pace(args.limit, args.speed, args.detour), read_stops(args.folder)
+    walking, stops = Walking(args.kmh, args.detour, args.limit), read_stops(args.folder)
     new_stops_in(args.folder)  # an error of these is raised before anything is written
-    found, sentence = footpaths_of(stops, args.table, pace, args.streets, args.near)
+    found, sentence = footpaths_of(stops, args.table, walking, args.streets, args.near)
     with output(out) as file:
         found.write(file)
     say(f"{out}: {sentence}", *sentences_on_nearer(args.folder, out))

@@ -26,6 +26,5 @@ MOST_JSON = 200_000_000
 MOST_CUTOFF_MINUTES = 10_000
 MOST_PORT = 65_535
 
-WALKING_SPEED = 1.33  # metres a second
-WALKING_KMH = 4.8  # of a `Question`, kilometres an hour
+WALKING_KMH = 4.8  # kilometres an hour
 DETOUR = 1.3  # metres walked for a metre of straight line

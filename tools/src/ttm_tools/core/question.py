@@ -167,11 +167,6 @@ def travel_seconds(question: Question) -> int | None:
     return None if question.max_travel is None else int(duration_seconds(question.max_travel))
 
 
-def walking_speed(question: Question) -> float:
-    """Return the walking speed in metres a second."""
-    return question.walking_kmh / 3.6
-
-
 def not_allowed(name: str, value: object, allowed: str) -> ArgumentError:
     """Return the error for an argument's value."""
     return ArgumentError(f"{name} is {value!r}; allowed: {allowed}")

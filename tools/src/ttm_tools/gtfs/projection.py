@@ -64,6 +64,15 @@ class Projection:
 
         return Proj(proj="laea", lat_0=self.latitude, lon_0=self.longitude, ellps=ELLIPSOID, units="km")
 
+    @property
+    def crs(self) -> Any:
+        """The same projection, in metres, as a coordinate reference system for geopandas."""
+        needs("pyproj")
+        from pyproj import CRS
+
+        centre = {"lat_0": self.latitude, "lon_0": self.longitude}
+        return CRS.from_dict({"proj": "laea", **centre, "datum": ELLIPSOID, "units": "m"})
+
     def kilometres(self, longitudes: Any, latitudes: Any) -> tuple[Floats, Floats]:
         """Return how far east and north of the centre places lie; NaN for a place that is NaN."""
         return moved(self.plane, longitudes, latitudes, inverse=False)

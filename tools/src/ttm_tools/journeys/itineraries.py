@@ -16,13 +16,14 @@ import numpy.typing as npt
 from ..core.arrays import Floats, Whole
 from ..core.errors import InputError
 from ..core.times import as_minute
+from ..core.walking import Walking
 from ..gtfs.footpaths import Footpaths, joined, read_walks
 from ..gtfs.stops import read_stops
 from ..gtfs.timetable import DAY, Runs, Timetable, read_edits, read_timetable, runs_of
 from ..streets.graph import degrees_of
 from ..streets.osm import Streets
 from ..streets.router import Router
-from ..streets.walks import Pace, distances, points_of
+from ..streets.walks import distances, points_of
 from . import search
 from .found import calls_of_ride, last_to_arrive, ridden
 from .network import Schedule
@@ -245,12 +246,12 @@ class LegDrawing:
         The search that found the journeys.
     streets
         The streets, and the metres to one that are walked straight; None for straight walks.
-    pace
+    walking
         How far and how fast travellers walk.
     """
 
-    def __init__(self, found: ItinerarySearch, streets: tuple[Streets, float] | None, pace: Pace) -> None:
-        self.found, self.streets, self.pace = found, streets, pace
+    def __init__(self, found: ItinerarySearch, streets: tuple[Streets, float] | None, walking: Walking) -> None:
+        self.found, self.streets, self.walking = found, streets, walking
         timetable = found.places.timetable
         stops = timetable.all_stops
         chosen = [stops.places[name] for name in timetable.stops]
@@ -265,7 +266,7 @@ class LegDrawing:
         if ends and self.streets is not None:
             points = self.points[sorted(ends)]
             self.numbers = {place: number for number, place in enumerate(sorted(ends))}
-            self.router = Router(self.streets[0], points, self.pace, self.streets[1])
+            self.router = Router(self.streets[0], points, self.walking, self.streets[1])
 
     def line_of(self, leg: Leg) -> tuple[Floats, float]:
         """Return the points of a leg, and its metres."""
@@ -273,7 +274,7 @@ class LegDrawing:
         if leg.run is not None:
             ends = self.points[self.stops_of(leg)]
         elif self.streets is None:
-            detour = self.pace.detour
+            detour = self.walking.detour
         elif self.router is not None and {leg.start, leg.end} <= self.numbers.keys():
             line, metres = self.router.path(self.numbers[leg.start], self.numbers[leg.end])
             if len(line):

@@ -12,7 +12,7 @@ from typing import TYPE_CHECKING, Any
 import numpy as np
 import pandas
 
-from ..api.asking import pace_of
+from ..api.asking import walking_of
 from ..api.folders import NEAR, WalkNetwork, folder_of
 from ..api.frames import read_places
 from ..api.opportunities import numbers_in
@@ -83,7 +83,7 @@ def options_for(network: "Network", question: Question, places: Any, room: Path)
     """Return what is explored: the feed without scenarios, and these as a plan."""
     base = network._base._state
     found, key = base.streets or (None, "")
-    pace = pace_of(question)
+    walking = walking_of(question)
     percentiles = tuple(int(percentile) for percentile in question.percentiles)
     options = ExploreOptions(
         feed=str(base.feed.folder),
@@ -102,11 +102,11 @@ def options_for(network: "Network", question: Question, places: Any, room: Path)
         generated=True,
         copied=True,
         most_walk=walk_seconds(question),
-        speed=pace.speed,
-        detour=pace.detour,
+        kmh=walking.kmh,
+        detour=walking.detour,
     )
-    walking = WalkNetwork(found, key, pace)
-    return with_walks(options, network, walking) if places is None else with_places(options, places, walking, room)
+    on_foot = WalkNetwork(found, key, walking)
+    return with_walks(options, network, on_foot) if places is None else with_places(options, places, on_foot, room)
 
 
 def with_walks(options: ExploreOptions, network: "Network", walking: WalkNetwork) -> ExploreOptions:
@@ -121,7 +121,7 @@ def with_places(options: ExploreOptions, places: Any, walking: WalkNetwork, room
     given = read_places("places", places, pandas.DataFrame())
     names = counted(given.frame)
     points = points_of("places", given.frame, *numbers_in("places", given.frame, names))
-    limit = int(walking.pace.limit)
+    limit = int(walking.walking.max_seconds)
     made = PointsOptions(options.feed, str(room / PLACES), [points], [True], [True], limit, False, NEAR)
     study = folder_of_points(made, walking.walks).study
     feed, footpaths = room / PLACES / FEED, room / PLACES / FOOTPATHS

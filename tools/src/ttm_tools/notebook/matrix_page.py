@@ -9,16 +9,17 @@ from pathlib import Path
 import numpy as np
 
 from .. import __version__
+from ..api.asking import walking_of
 from ..api.chosen import MatrixPart
 from ..api.opportunities import numbers_in
 from ..api.pages import SavedPage
 from ..core.errors import needs
 from ..core.files import output
-from ..core.question import MAX_WALK, Question, travel_seconds, walk_seconds, walking_speed, window_of
-from ..core.limits import DETOUR, WALKING_SPEED
+from ..core.question import Question, travel_seconds, window_of
 from ..core.shipped import LEAFLET
 from ..core.text import display_text
 from ..core.times import as_duration
+from ..core.walking import Walking
 from ..matrices import Matrix as Store, Seconds, Share, Sums
 from ..matrices.layout import MatrixLayout
 from ..measures.opportunities import Counts
@@ -144,8 +145,7 @@ def frame_of(part: MatrixPart, content: Content, options: PageOptions) -> Frame:
     most = None if question is None else travel_seconds(question)
     end = "" if most is None else f" Pairs beyond {as_duration(most)} count as not reached."
     notes = [display_text(note.text) for note in part.context.notes]
-    walk = int(MAX_WALK.default) if question is None else walk_seconds(question)
-    pace = WALKING_SPEED / DETOUR if question is None else walking_speed(question) / question.detour
+    walking = Walking() if question is None else walking_of(question)
     return Frame(
         options.settings.title or TITLE,
         "",
@@ -155,8 +155,7 @@ def frame_of(part: MatrixPart, content: Content, options: PageOptions) -> Frame:
         [*asked(question), ("Written by", f"ttm_tools {__version__}")],
         [*rows_stated(content, options), *dict.fromkeys(notes)],
         MINUTES,
-        walk,
-        pace,
+        walking,
     )
 
 

@@ -64,9 +64,9 @@ def write_doors(folder: Path, walks: LongWalks, merges: bool) -> None:
 def write_whole(folder: Path, walks: LongWalks) -> None:
     count = len(walks.files)
     begins, ends = ([True], [True]) if count == 1 else ([True, False], [False, True])
-    limit, only = int(walks.pace.limit), None if count == 1 else walks.endpoints
+    limit, only = int(walks.walking.max_seconds), None if count == 1 else walks.endpoints
     options = PointsOptions(walks.feed, str(folder), walks.files, begins, ends, limit, False, walks.near)
-    make(options, lambda stops, first: street_walks(stops, walks.pace, walks.streets, walks.near, first, only))
+    make(options, lambda stops, first: street_walks(stops, walks.walking, walks.streets, walks.near, first, only))
 
 
 def write_unreached(folder: Path, are_stops: tuple[bool, bool] = (False, False)) -> None:

@@ -12,6 +12,7 @@ import numpy.typing as npt
 
 from ..core.stop_lists import write_stops
 from ..core.tables import write_rows
+from ..core.walking import Walking
 from ..gtfs.footpath_file import write_footpaths
 from ..gtfs.footpaths import Footpaths, direct_walks, joined
 from ..gtfs.stops import Stops, read_stops
@@ -21,7 +22,6 @@ from ..streets.osm import Streets
 from ..streets.router import Endpoints
 from ..streets.street_walks import SnappedStops, snap_stops
 from ..streets.table import NONE, WalkTable, street_table
-from ..streets.walks import Pace
 from .folder import FEED, FOOTPATHS, PointStudy, prefixes_of, study_of
 from .read import Points
 from .split import Split, changes_at, refuse_many, split_of, write_feed
@@ -38,7 +38,7 @@ class LongWalks:
     feed: str
     files: Sequence[Points]  # origins, and destinations unless these are the same
     streets: Streets
-    pace: Pace
+    walking: Walking
     near: float
 
     @cached_property
@@ -55,7 +55,7 @@ class LongWalks:
 
     @cached_property
     def snapped(self) -> SnappedStops:
-        return snap_stops(self.stops, self.streets, self.pace, self.near)
+        return snap_stops(self.stops, self.streets, self.walking, self.near)
 
     @cached_property
     def endpoints(self) -> Endpoints:
@@ -82,7 +82,7 @@ class LongWalks:
         places = self.study.points.identifiers
         folder.mkdir()
         split = split_of(timetable, places, len(places) * (1 if len(self.files) > 1 else 2))
-        direct, changes = direct_walks(timetable, None, int(self.pace.limit))
+        direct, changes = direct_walks(timetable, None, int(self.walking.max_seconds))
         table = self.table(direct)
         walks = [changes_at(changes)]
         for begins, ends in needed_walks(table, timetable.events, changes, merges):

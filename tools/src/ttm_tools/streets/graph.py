@@ -12,11 +12,12 @@ from typing import Any
 import numpy as np
 
 from ..core.arrays import Floats
+from ..core.walking import Walking
 from ..gtfs.columns import is_group_start
 from .counting import Places, least
 from .cubes import ranges
 from .osm import Streets
-from .straight import Pace, distances, points_of
+from .straight import distances, points_of
 
 MAX_SEGMENT = 100.0  # metres; edges are indexed in segments no longer than this
 
@@ -39,21 +40,21 @@ class Snaps:
     fraction: Floats
     distance: Floats
 
-    def connectors(self, near: float, pace: Pace) -> Floats:
+    def connectors(self, near: float, walking: Walking) -> Floats:
         """Return the walking distance from each place to its street.
 
         Parameters
         ----------
         near
             Up to this distance in metres the connector is a straight line. Longer connectors are multiplied by the
-            detour factor of `pace`.
+            detour factor of `walking`.
 
         Returns
         -------
         array of shape (n,)
             Metres.
         """
-        return np.asarray(np.where(self.distance <= near, self.distance, self.distance * pace.detour))
+        return np.asarray(np.where(self.distance <= near, self.distance, self.distance * walking.detour))
 
 
 @dataclass(frozen=True)

@@ -18,11 +18,11 @@ import numpy.typing as npt
 
 from ..core import progress
 from ..core.arrays import Floats
+from ..core.walking import Walking
 from .counting import Ways
 from .cubes import cubes_of
 from .graph import Graph, Snaps, build_graph, matrix_of, snap, subgraph
 from .osm import Flags, Streets
-from .straight import Pace
 
 MIN_CUBE_SIDE = 300.0  # metres
 MAX_DISTANCES = 20_000_000  # entries of one distance matrix: 160 MB
@@ -50,7 +50,7 @@ class Router:
     ----------
     positions
         Position of each place, shape (n, 3).
-    pace
+    walking
         The walking limit and speed; its detour factor applies only off the streets.
     near
         See `Snaps.connectors`.
@@ -60,7 +60,7 @@ class Router:
 
     streets: Streets
     positions: Floats
-    pace: Pace
+    walking: Walking
     near: float
     inside: Floats | float = 0.0
 
@@ -87,17 +87,17 @@ class Router:
     @cached_property
     def connectors(self) -> Floats:
         """Metres from each position to its street, shape (n,)."""
-        return self.snaps.connectors(self.near, self.pace)
+        return self.snaps.connectors(self.near, self.walking)
 
     @property
     def approaches(self) -> Floats:
         """Metres from each place to its street, shape (n,): its connector, and the way inside with its detour."""
-        return self.connectors + self.inside * self.pace.detour
+        return self.connectors + self.inside * self.walking.detour
 
     @property
     def limit(self) -> float:
         """The longest walk in metres."""
-        return self.pace.along_streets.metres
+        return self.walking.max_metres
 
     def walks(self, only: Endpoints) -> Iterator[Ways]:
         """Find the shortest walks within the limit.
@@ -159,8 +159,8 @@ class Router:
         is_origin = np.arange(len(self.positions)) < origins
         found: Floats = np.full((origins, len(self.positions) - origins), np.nan)
         for origin, destination, metres in self.walks(Endpoints(is_origin, ~is_origin)):
-            found[origin, destination - origins] = self.pace.along_streets.seconds(metres)
-        return np.where(found <= self.pace.limit, found, np.nan)
+            found[origin, destination - origins] = self.walking.seconds(metres)
+        return np.where(found <= self.walking.max_seconds, found, np.nan)
 
     def path(self, origin: int, destination: int) -> tuple[Floats, float]:
         """Find the shortest walk from one place to another.

@@ -15,40 +15,17 @@ import numpy.typing as npt
 
 from ..core.arrays import Floats
 from ..core.errors import InputError
-from ..core.limits import DETOUR, MOST_FOOTPATHS, WALKING_SPEED
-from ..core.question import MAX_WALK
+from ..core.limits import MOST_FOOTPATHS
 from ..core.tables import RoundingCounter, rows
 from ..core.text import display_text
+from ..core.walking import Walking
 from ..gtfs.columns import coded
 from ..gtfs.footpath_file import write_footpaths
 from ..gtfs.stops import EARTH, Stops
 from .counting import Places, Ways, WaysFound
 
 PAIRS_AT_ONCE = 1_000_000
-TOLERANCE = 1e-5  # metres: more than what rounding moves, and than what `Pace.metres` adds
-
-
-@dataclass(frozen=True)
-class Pace:
-    """How far and how fast one walks."""
-
-    limit: float = MAX_WALK.default  # seconds
-    speed: float = WALKING_SPEED  # metres a second
-    detour: float = DETOUR  # metres of way for a metre of straight line
-
-    @property
-    def metres(self) -> float:
-        """The longest straight line; a thousandth of a millimetre more, since seconds decide."""
-        return self.limit * self.speed / self.detour + 1e-6
-
-    @property
-    def along_streets(self) -> "Pace":
-        """The same without a detour."""
-        return Pace(self.limit, self.speed, 1.0)
-
-    def seconds(self, metres: Floats) -> npt.NDArray[np.int64]:
-        """The time of straight lines, in whole seconds, rounded up."""
-        return np.asarray(np.ceil(np.round(metres * self.detour / self.speed, 6)), dtype=np.int64)
+TOLERANCE = 1e-5  # metres: more than what rounding moves, and than the slack of `Walking`
 
 
 @dataclass(frozen=True)
@@ -196,16 +173,16 @@ def entrances_of(stops: Stops) -> dict[str, Floats]:
     return {station: points_of(stops.latitudes[places], stops.longitudes[places]) for station, places in found.items()}
 
 
-def straight_walks(stops: Stops, pace: Pace, first: int | None = None) -> Walks:
+def straight_walks(stops: Stops, walking: Walking, first: int | None = None) -> Walks:
     """The footpaths between all stops of a feed at which vehicles call, or between the first ones and all."""
     called = stops.kinds == 0
     chosen = np.flatnonzero(called & stops.placed)
     points = points_of(stops.latitudes[chosen], stops.longitudes[chosen])
     found = WaysFound(stops.path, first and int(np.searchsorted(chosen, first)), directions=2)
     stations = [stops.stations[place] for place in chosen]
-    low, high, length = ways(points, stations, entrances_of(stops), pace.metres, found)
-    seconds = pace.seconds(length)
-    near = seconds <= pace.limit
+    low, high, length = ways(points, stations, entrances_of(stops), walking.max_straight_metres, found)
+    seconds = walking.straight_seconds(length)
+    near = seconds <= walking.max_seconds
     low, high, seconds = low[near], high[near], np.tile(seconds[near], 2)
     a, b = np.concatenate([low, high]), np.concatenate([high, low])
     order = np.lexsort((b, a))

@@ -6,11 +6,12 @@ from typing import Iterator
 import numpy as np
 
 from ..core.arrays import Floats
+from ..core.walking import Walking
 from ..gtfs.stops import Stops
 from .counting import Places, Ways, WaysFound
 from .osm import Streets
 from .router import Endpoints, Router
-from .straight import Entrances, Pace, Walks, doors_of, entrances_of, inside_ways, points_of
+from .straight import Entrances, Walks, doors_of, entrances_of, inside_ways, points_of
 
 
 @dataclass(frozen=True)
@@ -64,14 +65,14 @@ class SnappedStops:
             a, b = doors[origin], doors[destination]
             differ = a != b
             yield a[differ], b[differ], metres[differ]
-        detour = self.router.pace.detour
+        detour = self.router.walking.detour
         for a, b, metres in inside_ways(self.positions, self.stations, self.entrances, self.router.limit / detour):
             for origin, destination in ((a, b), (b, a)):
                 chosen = origins[origin] & destinations[destination]
                 yield origin[chosen], destination[chosen], metres[chosen] * detour
 
 
-def snap_stops(stops: Stops, streets: Streets, pace: Pace, near: float) -> SnappedStops:
+def snap_stops(stops: Stops, streets: Streets, walking: Walking, near: float) -> SnappedStops:
     """Put the stops at which vehicles call (`location_type` 0 or empty) on streets.
 
     Parameters
@@ -83,12 +84,17 @@ def snap_stops(stops: Stops, streets: Streets, pace: Pace, near: float) -> Snapp
     positions = points_of(stops.latitudes[indices], stops.longitudes[indices])
     stations, entrances = [stops.stations[index] for index in indices], entrances_of(stops)
     doors = doors_of(positions, stations, entrances)
-    router = Router(streets, doors.point, pace, near, doors.inside)
+    router = Router(streets, doors.point, walking, near, doors.inside)
     return SnappedStops(indices, positions, stations, entrances, doors, router)
 
 
 def street_walks(
-    stops: Stops, pace: Pace, streets: Streets, near: float, first: int | None = None, only: Endpoints | None = None
+    stops: Stops,
+    walking: Walking,
+    streets: Streets,
+    near: float,
+    first: int | None = None,
+    only: Endpoints | None = None,
 ) -> Walks:
     """Compute walking links along streets between stops.
 
@@ -96,7 +102,7 @@ def street_walks(
     ----------
     stops
         The stops of a feed. Only those at which vehicles call get links.
-    pace
+    walking
         The walking limit and speed; its detour factor applies only off the streets.
     near
         See `Snaps.connectors`.
@@ -110,7 +116,7 @@ def street_walks(
     TooManyWalks
         There are more links than `ttm` reads.
     """
-    called, snapped = stops.kinds == 0, snap_stops(stops, streets, pace, near)
+    called, snapped = stops.kinds == 0, snap_stops(stops, streets, walking, near)
     indices, router = snapped.indices, snapped.router
     found = WaysFound(stops.path, first and int(np.searchsorted(indices, first)), directions=1)
     for walks in snapped.walks(only or Endpoints(called, called)):
@@ -118,8 +124,8 @@ def street_walks(
     origins, destinations, metres = found.all()
 
     # The limit in metres has some slack for rounding; the whole seconds decide.
-    seconds = pace.along_streets.seconds(metres)
-    fits = seconds <= pace.limit
+    seconds = walking.seconds(metres)
+    fits = seconds <= walking.max_seconds
 
     in_reach = router.connectors <= router.limit
     doors = snapped.doors.stop

@@ -6,9 +6,9 @@ from typing import Iterable, Iterator
 import numpy as np
 import numpy.typing as npt
 
+from ..core.walking import Walking
 from .counting import Places, TooManyWalks, Ways
 from .router import Endpoints
-from .straight import Pace
 from .street_walks import SnappedStops
 
 NONE = 20_000  # seconds: longer than any walk, and the sum of three fits into two bytes
@@ -33,10 +33,10 @@ class WalkTable:
             rows = slice(first, first + ROWS_AT_ONCE)
             yield rows, self.seconds[rows]
 
-    def put(self, ways: Iterable[Ways], pace: Pace) -> None:
+    def put(self, ways: Iterable[Ways], walking: Walking) -> None:
         row, column = positions_in(self.begins), positions_in(self.ends)
         for one, other, metres in ways:
-            seconds = pace.along_streets.seconds(metres)
+            seconds = walking.seconds(metres)
             np.minimum.at(self.seconds, (row[one], column[other]), seconds.astype(np.uint16))
 
     def put_direct(self, walks: Direct) -> set[int]:
@@ -72,7 +72,9 @@ def street_table(snapped: SnappedStops, endpoints: Endpoints) -> WalkTable:
     if len(begins) * len(others) > MOST_CELLS:
         text = f"{len(begins):,} times {len(others):,} walks are more than fit into the memory"
         raise TooManyWalks(router.streets.path, text, limit=MOST_CELLS)
-    table = WalkTable(begins, others, np.full((len(begins), len(others)), NONE, np.uint16), int(router.pace.limit))
+    table = WalkTable(
+        begins, others, np.full((len(begins), len(others)), NONE, np.uint16), int(router.walking.max_seconds)
+    )
     stops = snapped.indices
-    table.put(((stops[a], stops[b], metres) for a, b, metres in snapped.walks(endpoints)), router.pace)
+    table.put(((stops[a], stops[b], metres) for a, b, metres in snapped.walks(endpoints)), router.walking)
     return table

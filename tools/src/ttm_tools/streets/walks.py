@@ -4,27 +4,30 @@ from ..core.errors import needs
 from ..core.notices import Notice, note
 from ..core.tables import RoundingCounter
 from ..core.text import quantity
+from ..core.walking import Walking
 from ..gtfs.stops import Stops
-from .straight import Pace, Walks, distances, points_of, read_walks, straight_walks
+from .straight import Walks, distances, points_of, read_walks, straight_walks
 
 NEAR = 100.0  # metres to a street
-__all__ = ["NEAR", "Pace", "Walks", "distances", "footpaths_of", "points_of", "straight_walks", "summary", "walks_of"]
+__all__ = ["NEAR", "Walks", "distances", "footpaths_of", "points_of", "straight_walks", "summary", "walks_of"]
 
 
 def walks_of(
-    stops: Stops, pace: Pace, streets: str | None = None, near: float = NEAR, first: int | None = None
+    stops: Stops, walking: Walking, streets: str | None = None, near: float = NEAR, first: int | None = None
 ) -> Walks:
     """The walks between all stops, or the first ones and all, by straight lines or along the streets of a file."""
     if streets is None:
-        return straight_walks(stops, pace, first)
+        return straight_walks(stops, walking, first)
     needs("osmium", "scipy")
     from .osm import read_streets
     from .street_walks import street_walks
 
-    return street_walks(stops, pace, read_streets(streets), near, first)
+    return street_walks(stops, walking, read_streets(streets), near, first)
 
 
-def footpaths_of(stops: Stops, table: str | None, pace: Pace, streets: str | None, near: float) -> tuple[Walks, str]:
+def footpaths_of(
+    stops: Stops, table: str | None, walking: Walking, streets: str | None, near: float
+) -> tuple[Walks, str]:
     """The footpaths of a table, or else the walks between all stops; and what is reported of them."""
     if table:
         rounded = RoundingCounter()
@@ -32,7 +35,7 @@ def footpaths_of(stops: Stops, table: str | None, pace: Pace, streets: str | Non
         sentence = f"{quantity(rounded.count, 'time')} with decimals rounded up"
         note(*([Notice(f"{table}: {sentence}", "rounded", rounded.count)] if rounded.count else []))
     else:
-        found = walks_of(stops, pace, streets, near)
+        found = walks_of(stops, walking, streets, near)
         sentence = summary(found, "stops", near)
     return found, f"{quantity(len(found.seconds), 'footpath')}; {sentence}"
 

@@ -7,15 +7,14 @@ from pathlib import Path
 from typing import Any, get_type_hints
 
 from ..core.limits import (
-    DETOUR,
     MOST_CUTOFF_MINUTES,
     MOST_FOOT_SECONDS,
     MOST_NUMBER,
     MOST_TRIES,
-    WALKING_SPEED,
 )
-from ..core.question import DAYS_AFTER, DAYS_BEFORE, MAX_RIDES, MAX_WALK, PERCENTILES
+from ..core.question import DAYS_AFTER, DAYS_BEFORE, MAX_RIDES, MAX_WALK, PERCENTILES, WALKING, WAY
 from ..core.toml_values import TEXT, ascending, number, whole
+from ..core.walking import Walking
 from .kinds import (
     BOX,
     DATE,
@@ -109,8 +108,11 @@ class WalkSettings:
     limit: int | None = setting(
         whole(1, MOST_FOOT_SECONDS, "seconds"), "the longest walk; without it, walk of [run]", "600"
     )
-    speed: float = setting(number(0.01, 100, "m/s"), "the walking speed", f"{WALKING_SPEED}", WALKING_SPEED)
-    detour: float = setting(number(1, 100), "length of a walk, as a multiple of the straight line", f"{DETOUR}", DETOUR)
+    kmh: float = setting(
+        number(WALKING.allowed.least, WALKING.allowed.most, "km/h"), "the walking speed", "4.8", WALKING.default
+    )
+    speed: float | None = setting(number(0.01, 100, "m/s"), "the same in metres a second, instead of kmh", "1.2")
+    detour: float = setting(number(1, 100), "length of a walk, as a multiple of the straight line", "1.3", WAY.default)
     streets: str | None = setting(
         FILE, "a file of OpenStreetMap: walks along its ways; without it, straight lines", '"town.osm.pbf"'
     )
@@ -273,9 +275,15 @@ class Study:
         return self.results.cutoffs or tuple(limit / 60 for limit in self.run.limits)
 
     @property
-    def pace(self) -> list[float]:
-        """How one walks, as numbers on which walks depend."""
-        return [self.walk_limit, self.walks.speed, self.walks.detour, self.walks.near]
+    def walking(self) -> Walking:
+        """How far and how fast people walk."""
+        kmh = self.walks.kmh if self.walks.speed is None else 3.6 * self.walks.speed
+        return Walking(kmh, self.walks.detour, self.walk_limit)
+
+    @property
+    def walk_facts(self) -> list[float]:
+        """The numbers on which walks depend."""
+        return [self.walk_limit, self.walking.kmh, self.walks.detour, self.walks.near]
 
     @property
     def walk_limit(self) -> int:

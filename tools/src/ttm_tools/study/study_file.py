@@ -99,7 +99,8 @@ def agree(study: Study, entries: dict[str, Entry]) -> None:
     refuse_both(run, "limits", "cutoffs")
     refuse_both(entries["results"], "within", "cutoff")
     refuse_both(walks, "none", "streets", "table")
-    for key in ("limit", "speed", "detour") if study.walks.table and not study.results.isochrones else ():
+    refuse_both(walks, "kmh", "speed")
+    for key in ("limit", "kmh", "speed", "detour") if study.walks.table and not study.results.isochrones else ():
         if walks.has(key):
             raise walks.fault("doesn't go with table, whose walks are taken as they are", key, str(walks.values[key]))
     if study.walks.limit is not None and study.walks.limit > study.run.walk:

@@ -9,7 +9,7 @@ from ..gtfs.stops import read_stops
 from ..places import grid as grids, folder as points
 from ..places.read import read_points
 from ..plans.nearness import sentences_on_nearer
-from ..streets.walks import Pace, footpaths_of, walks_of
+from ..streets.walks import footpaths_of, walks_of
 from .settings import Study
 from .sources import Sources
 from .stages import Stage
@@ -43,14 +43,13 @@ def walks_stage(maker: FeedInputs) -> Stage:
 
     def make() -> list[str]:
         table, streets = (study.at(named) if named else None for named in (settings.table, settings.streets))
-        pace = Pace(study.walk_limit, settings.speed, settings.detour)
-        found, sentence = footpaths_of(read_stops(feed), table, pace, streets, settings.near)
+        found, sentence = footpaths_of(read_stops(feed), table, study.walking, streets, settings.near)
         with open(path, "wb") as file:
             found.write(file)
         nearer = sentences_on_nearer(feed, path, study.run.walk)
         return [f"{FOOTPATHS}: {sentence}", *sentences_on_limits(study), *nearer]
 
-    depends = {"stops": maker.stops_sum, "walk": study.run.walk, "pace": study.pace}
+    depends = {"stops": maker.stops_sum, "walk": study.run.walk, "walking": study.walk_facts}
     return Sources(study.at, [settings.streets, settings.table]).stage("walks", depends, [FOOTPATHS], make)
 
 
@@ -71,14 +70,14 @@ def points_stage(maker: FeedInputs) -> Stage:
 
     def make() -> list[str]:
         files, limit = [read_points(path) for path in paths], study.walk_limit
-        pace, streets = Pace(limit, walks.speed, walks.detour), study.at(walks.streets) if walks.streets else None
+        streets = study.at(walks.streets) if walks.streets else None
         options = points.PointsOptions(feed, out, files, begins, ends, limit, settings.leave_out, near, POINTS)
-        sentences = points.make(options, lambda stops, first: walks_of(stops, pace, streets, near, first))
+        sentences = points.make(options, lambda stops, first: walks_of(stops, study.walking, streets, near, first))
         sentences += sentences_on_limits(study)
         return [*sentences, *sentences_on_nearer(f"{out}/{points.FEED}", f"{out}/footpaths.csv", study.run.walk)]
 
     facts = {"begins": begins, "ends": ends, "leave_out": settings.leave_out}
-    depends = {"feed": maker.feed_sums, "walk": study.run.walk, "pace": study.pace, **facts}
+    depends = {"feed": maker.feed_sums, "walk": study.run.walk, "walking": study.walk_facts, **facts}
     return Sources(study.at, [*settings.all, study.walks.streets]).stage("points", depends, [POINTS], make)
 
 
@@ -100,11 +99,11 @@ def grid_stage(study: Study, feed: str, stops_sum: str | None) -> Stage:
     """The cells with the numbers of people, jobs and the like that lie in them."""
     settings = study.points
     width = settings.grid or 0.0
-    pace = Pace(study.walk_limit, study.walks.speed, study.walks.detour)
+    metres = study.walking.max_straight_metres
 
     def make() -> list[str]:
         area = study.at(settings.grid_area) if settings.grid_area else None
-        cells = grids.grid_over(area, width) if area else grids.grid_near(read_stops(feed), width, pace.metres)
+        cells = grids.grid_over(area, width) if area else grids.grid_near(read_stops(feed), width, metres)
         filled = grids.filled(cells, [study.at(path) for path in settings.grid_people])
         found = filled.points
         with open(study.folder / GRID, "wb") as file:
@@ -114,5 +113,5 @@ def grid_stage(study: Study, feed: str, stops_sum: str | None) -> Stage:
         return [f"{GRID}: {quantity(len(found.identifiers), 'cell')} of {width:g} metres", *filled.sentences]
 
     has_area = settings.grid_area is not None
-    facts = {"stops": stops_sum, "width": width, "metres": pace.metres, "area": has_area}
+    facts = {"stops": stops_sum, "width": width, "metres": metres, "area": has_area}
     return Sources(study.at, [settings.grid_area, *settings.grid_people]).stage("grid", facts, [GRID, OUTSIDE], make)

@@ -14,10 +14,9 @@ import numpy as np
 
 from ..core.arrays import Floats
 from ..core.errors import InputError
-from ..core.limits import DETOUR, WALKING_SPEED
 from ..core.progress import reported
-from ..core.question import MAX_WALK
 from ..core.text import display_text
+from ..core.walking import Walking
 from ..gtfs.projection import Projection
 from ..gtfs.stops import Stops
 from ..matrices import Matrix, Share
@@ -26,7 +25,7 @@ from ..places.features import AREAS, POLYGONS, read_frame, text_of, valid
 from ..streets.osm import read_streets
 from ..streets.router import Router
 from ..streets.strips import GrowingStrip, pieces
-from ..streets.walks import Pace, points_of
+from ..streets.walks import points_of
 from .gis import whole, write_features, write_layer
 
 LAYER = "isochrones"
@@ -35,15 +34,6 @@ ASIDE = 50.0  # metres to both sides of a street that one reaches
 DECIMALS = 6  # of degrees, some tenths of a metre
 SLIVER = 0.0005  # kilometres: half the width of a gap that counts as none, above what rounding to DECIMALS moves
 MITRE = 2  # shapely's number for the style of corners that keeps them square
-
-
-@dataclass(frozen=True)
-class Walking:
-    """How one walks on from a stop."""
-
-    speed: float = WALKING_SPEED  # metres a second
-    detour: float = DETOUR  # metres of way for a metre of straight line
-    most: float = MAX_WALK.default  # seconds
 
 
 @dataclass(frozen=True)
@@ -97,11 +87,11 @@ class AreaGround:
 
         bare = np.flatnonzero(self.placed & np.array([shape is None for shape in self.shapes], dtype=np.bool_))
         if self.router is not None:
-            metres = np.where(left[bare] >= 0, np.minimum(left[bare], walking.most) * walking.speed, -1.0)
+            metres = np.where(left[bare] >= 0, np.minimum(left[bare], walking.max_seconds) * walking.speed, -1.0)
             yield streets.grown(pieces(self.router, metres))
             return
         # as the crow flies, in kilometres
-        radii = np.minimum(left[bare], walking.most) * walking.speed / walking.detour / 1000
+        radii = np.minimum(left[bare], walking.max_seconds) * walking.speed / walking.detour / 1000
         for place, radius in zip(bare.tolist(), radii.tolist()):
             if radius > 0:
                 yield Point(self.east[place], self.north[place]).buffer(radius, QUARTER)
@@ -162,11 +152,10 @@ def ground_of(stops: Stops, polygons: Mapping[str, Any]) -> AreaGround:
 def along_streets(ground: AreaGround, stops: Stops, streets: str, walking: Walking, near: float) -> AreaGround:
     """The same ground, from whose stops one walks along the streets of a file."""
     bare = [place for place in np.flatnonzero(ground.placed).tolist() if ground.shapes[place] is None]
-    pace = Pace(walking.most, walking.speed, walking.detour)
     if not bare:
         return ground
     positions = points_of(stops.latitudes[bare], stops.longitudes[bare])
-    return replace(ground, router=Router(read_streets(streets), positions, pace, near))
+    return replace(ground, router=Router(read_streets(streets), positions, walking, near))
 
 
 def ground_on_foot(stops: Stops, points: str | None, walking: Walking, streets: str | None, near: float) -> AreaGround:

@@ -7,6 +7,7 @@ from typing import Iterable, Iterator, Sequence
 import numpy as np
 
 from ..core.arrays import Floats
+from ..core.walking import Walking
 from ..gtfs.modes import WALK, mode_named, route_types
 from ..gtfs.route_names import routes_called
 from ..gtfs.shape_parts import Shapes, read_shapes
@@ -16,7 +17,7 @@ from ..journeys.search import Leg
 from ..streets.graph import degrees_of
 from ..streets.osm import Streets
 from ..streets.router import Router
-from ..streets.straight import Pace, distances, points_of
+from ..streets.straight import distances, points_of
 from ..streets.walks import NEAR
 
 DECIMALS = 6  # of degrees, some tenths of a metre
@@ -142,8 +143,8 @@ class JourneyValues:
         if self.streets is None or not ends:
             return None
         points = points_of(self.degrees[ends, 1], self.degrees[ends, 0])
-        pace = Pace(LONGER * max(leg.finish - leg.begin for leg in walks))
-        return Router(self.streets, points, pace, NEAR), {place: count for count, place in enumerate(ends)}
+        walking = Walking(max_seconds=LONGER * max(leg.finish - leg.begin for leg in walks))
+        return Router(self.streets, points, walking, NEAR), {place: count for count, place in enumerate(ends)}
 
     def walk_line(self, leg: Leg) -> tuple[Floats | None, float]:
         """The line of a walk, along streets or straight, and its metres; None without coordinates."""

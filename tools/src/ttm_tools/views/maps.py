@@ -8,6 +8,7 @@ import numpy as np
 from ..core.console import say
 from ..core.errors import InputError
 from ..core.text import display_text, quantity, rounded
+from ..core.walking import Walking
 from ..gtfs.projection import Projection
 from ..gtfs.stops import Stops
 from ..ground.contents import Ground
@@ -16,7 +17,7 @@ from . import drawing, map_content
 from .classes import BANDS
 from .drawn_lines import DrawnLines
 from .isochrone_map import Bands, draw_bands
-from .isochrones import AreaGround, Walking
+from .isochrones import AreaGround
 from .lines import Planned, lines_of_edits, lines_of_plan
 from .map_content import Picture, PictureOptions
 from .map_lines import MapLines

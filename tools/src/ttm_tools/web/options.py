@@ -3,13 +3,13 @@
 import datetime
 from dataclasses import dataclass, field
 
-from ..core.limits import DETOUR, WALKING_SPEED
+from ..core.limits import DETOUR, WALKING_KMH
 from ..core.question import DAYS_AFTER, DAYS_BEFORE, MAX_RIDES, MAX_WALK
 from ..core.shipped import LEAFLET
 
 SHARES = (10, 25, 50, 75, 90)  # percent, between which the page's slider chooses
 # fields that no option has the name of
-OF_NO_OPTION = ("window", "shares", "date", "name", "generated", "copied", "most_walk", "speed", "detour")
+OF_NO_OPTION = ("window", "shares", "date", "name", "generated", "copied", "most_walk", "kmh", "detour")
 
 
 @dataclass(frozen=True)
@@ -40,5 +40,5 @@ class ExploreOptions:
     generated: bool = False  # whether feed and walks are in a folder that goes with the exploration
     copied: bool = False  # whether a saved study has copies of feed and opportunities, too
     most_walk: int = 1800  # seconds, at the end of the page's slider
-    speed: float = WALKING_SPEED  # metres a second
+    kmh: float = WALKING_KMH  # the walking speed in kilometres an hour
     detour: float = DETOUR  # metres of way for a metre of straight line

@@ -6,6 +6,7 @@ from pathlib import Path
 from typing import Any, BinaryIO
 
 from ..core.text import display_text
+from ..core.walking import Walking
 from .networks import FIRST
 from .page import document as page, sources
 from .page.content import Content
@@ -47,7 +48,7 @@ def frame_of(session: ExploreSession) -> page.Frame:
         MINUTES,
         tiles=options.tiles,
         attribution=options.attribution or "",
-        pace=options.speed / options.detour,
+        walking=Walking(options.kmh, options.detour),
         leaflet=options.leaflet,
         ground=session.background,
     )

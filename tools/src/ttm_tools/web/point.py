@@ -12,12 +12,13 @@ import numpy as np
 
 from ..core.stop_lists import FOOTPATH_COLUMNS
 from ..core.tables import column_positions, records, write_rows
+from ..core.walking import Walking
 from ..gtfs.stops import Stops, read_stops
 from ..places.folder import spread, stops_with
 from ..places.read import Points
 from ..streets.osm import Streets
 from ..streets.straight import distances, points_of, straight_walks
-from ..streets.walks import NEAR, Pace
+from ..streets.walks import NEAR
 
 NAME, FEED, WALKS = "point", "feed", "footpaths.csv"
 Walk = tuple[str, int]  # a stop, and seconds
@@ -42,19 +43,20 @@ class Point:
         return Points(NAME, [name], [name], *place, np.full(1, np.nan), [], np.zeros((1, 0)))
 
 
-def walks_from(point: Point, stops: Stops, pace: Pace, streets: Streets | None) -> list[Walk]:
+def walks_from(point: Point, stops: Stops, walking: Walking, streets: Streets | None) -> list[Walk]:
     """The stops to which one walks from a point, along streets where they are known, else by straight lines."""
-    near = stops_near(point, stops, pace.limit * pace.speed if streets is not None else pace.metres)
+    metres = walking.max_seconds * walking.speed
+    near = stops_near(point, stops, walking.max_straight_metres if streets is None else metres)
     alone = with_point(near, point)
     if streets is None:
-        walks = straight_walks(alone, pace, 1)
+        walks = straight_walks(alone, walking, 1)
     else:
         from ..streets.router import Endpoints
         from ..streets.street_walks import street_walks
 
         first = np.arange(len(alone.identifiers)) == 0
-        around = streets_around(point, streets, pace.limit * pace.speed + NEAR)
-        walks = street_walks(alone, pace, around, NEAR, 1, Endpoints(first, ~first))
+        around = streets_around(point, streets, metres + NEAR)
+        walks = street_walks(alone, walking, around, NEAR, 1, Endpoints(first, ~first))
     ends = zip(walks.origins.tolist(), walks.destinations.tolist(), walks.seconds.tolist())
     return [(alone.identifiers[end], seconds) for begin, end, seconds in ends if begin == 0]
 

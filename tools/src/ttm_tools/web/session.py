@@ -11,6 +11,7 @@ from typing import Any, Iterator
 from ..api.count_files import read_counts
 from ..core.errors import ArgumentError, InputError
 from ..gtfs.feeds import refuse_planned
+from ..core.walking import Walking
 from ..gtfs.stops import Stops, read_stops
 from ..matrices.result import Result
 from ..measures.opportunities import Counts
@@ -19,7 +20,6 @@ from ..places.selection import points_in, with_points
 from ..plans.base import Base, read_taken_base
 from ..plans.plan_file import read_plan
 from ..streets.osm import Streets, read_streets
-from ..streets.walks import Pace
 from . import planning
 from .changes import Namer, Values
 from .journeys import JourneyQuestion, Journeys
@@ -154,8 +154,8 @@ class ExploreSession:
 
     def walks_from(self, plan: Plan, point: Point) -> list[Walk]:
         """The walks from a point to the stops of a network."""
-        pace = Pace(plan.walk, self.options.speed, self.options.detour)
-        return walks_from(point, read_stops(plan.folder), pace, self.streets)
+        walking = Walking(self.options.kmh, self.options.detour, plan.walk)
+        return walks_from(point, read_stops(plan.folder), walking, self.streets)
 
     def change(self, tab: str, actions: list[Values], walk: int) -> dict[str, Any]:
         """Begins the network of a tab's changes; the one that the tab has answers until then."""

@@ -9,10 +9,11 @@ from ..core.errors import ArgumentError
 from ..core.files import copy_file, writing_to
 from ..core.folders import scratch
 from ..core.text import quantity
+from ..core.walking import Walking
 from ..gtfs.stops import Stops, read_stops
 from ..places import folder as points_folder, grid
 from ..places.folder import PointsOptions
-from ..streets.walks import NEAR, Pace, Walks, summary, walks_of
+from ..streets.walks import NEAR, Walks, summary, walks_of
 from .options import ExploreOptions
 from .point import FEED, Point, WALKS, Walk, laid_out
 
@@ -33,7 +34,7 @@ def with_generated(options: ExploreOptions, room: Path) -> tuple[ExploreOptions,
 
 
 def with_walks(options: ExploreOptions, room: Path) -> tuple[ExploreOptions, list[str]]:
-    walks = walks_of(read_stops(options.feed), Pace(options.walk), options.streets)
+    walks = walks_of(read_stops(options.feed), Walking(max_seconds=options.walk), options.streets)
     path = room / WALKS
     with open(path, "wb") as file:
         walks.write(file)
@@ -44,11 +45,11 @@ def with_walks(options: ExploreOptions, room: Path) -> tuple[ExploreOptions, lis
 
 def with_cells(options: ExploreOptions, room: Path, side: float) -> tuple[ExploreOptions, list[str]]:
     """A feed whose stops include the cells from whose middle one walks to a stop, and walks between all of them."""
-    pace, folder = Pace(options.walk), room / CELLS
-    cells = grid.filled(grid.grid_near(read_stops(options.feed), side, pace.metres), []).points
+    walking, folder = Walking(max_seconds=options.walk), room / CELLS
+    cells = grid.filled(grid.grid_near(read_stops(options.feed), side, walking.max_straight_metres), []).points
 
     def walker(stops: Stops, first: int | None) -> Walks:
-        return walks_of(stops, pace, options.streets, NEAR, first)
+        return walks_of(stops, walking, options.streets, NEAR, first)
 
     point_options = PointsOptions(options.feed, str(folder), [cells], [True], [True], options.walk, False, NEAR)
     sentences = points_folder.make(point_options, walker)[:-1]

@@ -48,7 +48,7 @@ def walked(network: TransportNetwork, task: RegionalTask, origins: FramePlaces, 
         points_of(places.latitudes[places.placed], places.longitudes[places.placed])
         for places in (origins, destinations)
     )
-    found = Router(network.streets, np.concatenate([begins, ends]), task.pace(), NEAR).seconds(len(begins))
+    found = Router(network.streets, np.concatenate([begins, ends]), task.walking(), NEAR).seconds(len(begins))
     if origins is destinations:
         np.fill_diagonal(found, 0)
     return found
@@ -93,7 +93,7 @@ def named_limits(task: RegionalTask, places: FramePlaces) -> Iterator[None]:
     try:
         yield
     except TooManyWalks:
-        limit = datetime.timedelta(seconds=task.pace().limit)
+        limit = datetime.timedelta(seconds=task.walking().max_seconds)
         what = f"{limit} gives more than the {MOST_FOOTPATHS:,} walks that ttm takes"
         raise NotAvailable("max_time_walking", what, "use less, such as 20 minutes, or fewer places") from None
     except TooManyPlaces as fault:

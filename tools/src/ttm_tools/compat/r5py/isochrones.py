@@ -4,7 +4,6 @@ import datetime
 from typing import Any, Iterable
 
 import geopandas
-import numpy as np
 import pandas
 from shapely.geometry import Point
 
@@ -58,11 +57,9 @@ class Isochrones(ComputedGeoFrame):
             raise NotAvailable("percentiles", f"{task.percentiles} are several", "use one at a time")
         if isinstance(origins, Point):
             origins = geopandas.GeoDataFrame({"id": ["origin"]}, geometry=[origins], crs=DEGREES)
-        begins, *_, frame, _ = ends_of(network, origins, None, False)
-        grid = StreetGrid(network.streets, frame.estimate_utm_crs(), point_grid_resolution)
+        begins = ends_of(network, origins, None, False)[0]
+        grid = StreetGrid(network.streets, (begins.latitudes, begins.longitudes), point_grid_resolution)
         found = seconds_between(network, task, begins, grid.places())[task.percentiles[0]]
-        least = np.fmin.reduce(found, axis=0)
-        with np.errstate(invalid="ignore"):
-            areas = [grid.area(least <= limit.total_seconds()) for limit in limits]
+        areas = [grid.within(found, limit.total_seconds()) for limit in limits]
         table = geopandas.GeoDataFrame({"travel_time": pandas.to_timedelta(limits)}, geometry=areas, crs=grid.crs)
         super().__init__(table.to_crs(DEGREES))

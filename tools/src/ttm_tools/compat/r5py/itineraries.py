@@ -88,7 +88,7 @@ def walked(
 ) -> Iterator[Row]:
     """The walk of each pair, where there is one."""
     begins, others = (points_of(np.nan_to_num(places.latitudes), np.nan_to_num(places.longitudes)) for places in ends)
-    router = Router(network.streets, np.concatenate([begins, others]), task.pace(), NEAR)
+    router = Router(network.streets, np.concatenate([begins, others]), task.walking(), NEAR)
     seconds = router.seconds(len(begins))
     for one, other in pairs:
         same = ends[0] is ends[1] and one == other

@@ -7,7 +7,7 @@ from typing import Any, Iterable, Sequence
 from ...core.limits import DETOUR, MOST_RIDES, MOST_SHARES
 from ...core.question import PERCENTILES, Question
 from ...core.times import as_duration, as_minute
-from ...streets.walks import Pace
+from ...core.walking import Walking
 from .modes import TransportMode, modes_of, only_walks, vehicles_of
 from .refusals import NotAvailable
 
@@ -96,9 +96,9 @@ class RegionalTask:
             detour=DETOUR,
         )
 
-    def pace(self) -> Pace:
+    def walking(self) -> Walking:
         """How one walks, as long as a walk may last."""
-        return Pace(float(min(self.max_time_walking, self.max_time)), self.speed_walking / 3.6, DETOUR)
+        return Walking(self.speed_walking, DETOUR, float(min(self.max_time_walking, self.max_time)))
 
 
 def refuse_unusual(**arguments: tuple[object, object]) -> None:

@@ -11,10 +11,11 @@ from ...api.count_files import columns_of
 from ...core.filenames import file_names
 from ...core.files import atomic_folder, output
 from ...core.text import quantity
+from ...core.walking import Walking
 from ...ground.packing import read_ground_file
 from ...places.selection import points_in
 from ...views import isochrones
-from ...views.isochrones import AreaGround, Walking
+from ...views.isochrones import AreaGround
 from ...views.lines import planned_of
 from ...views.map_content import PictureOptions
 from ...views.maps import Areas, Sheet, figure_of, figure_of_isochrones, picture_of
@@ -91,7 +92,7 @@ def maps_stages(results: StudyMatrix, records: Records) -> list[Stage]:
     facts: dict[str, Any] = {**results.depends, "words": options, "run": inputs.sums}
     facts["counted"] = inputs.outputs_of("counted") if settings.nearest else {}
     if settings.isochrones:
-        facts["isochrones"] = [settings.isochrones, settings.isochrone_bands, study.pace]
+        facts["isochrones"] = [settings.isochrones, settings.isochrone_bands, study.walk_facts]
     files = [study.walks.streets if settings.isochrones else None, settings.ground]
     return [Sources(study.at, files).stage("maps", facts, [MAPS], make)]
 
@@ -138,10 +139,9 @@ def ground_for(results: StudyMatrix) -> tuple[AreaGround, Walking]:
     """Where the places of the matrix lie, and how one walks on from them."""
     study, (matrix, stops) = results.study, results.open()
     there = stops.of(matrix.stops)
-    walking = Walking(study.walks.speed, study.walks.detour, study.walk_limit)
     streets = study.at(study.walks.streets) if study.walks.streets else None
     points = points_in(results.at(results.inputs.feed))
-    return isochrones.ground_on_foot(there, points, walking, streets, study.walks.near), walking
+    return isochrones.ground_on_foot(there, points, study.walking, streets, study.walks.near), study.walking
 
 
 def areas_stages(results: StudyMatrix, records: Records) -> list[Stage]:
@@ -163,6 +163,6 @@ def areas_stages(results: StudyMatrix, records: Records) -> list[Stage]:
                 isochrones.write_geojson(file, found, origin)
         return [f"{AREAS}: {quantity(len(names), 'file')}"]
 
-    options = [list(settings.isochrones), list(settings.isochrone_bands), study.pace]
+    options = [list(settings.isochrones), list(settings.isochrone_bands), study.walk_facts]
     facts = {**results.depends, "words": options, "counted": inputs.outputs_of("counted")}
     return [Sources(study.at, [study.walks.streets]).stage(AREAS, facts, [AREAS], make)]

@@ -36,7 +36,7 @@ def page_stages(results: StudyMatrix, records: Records) -> list[Stage]:
         return [f"{PAGE}: {sentence}", *page.frame.sentences, *(f"{PAGE}: {line}" for line in lost)]
 
     texts: list[Any] = [study.title, study.about.note, results.unit, study.within, list(study.cutoffs)]
-    texts += [list(study.results.nearest), study.pace]
+    texts += [list(study.results.nearest), study.walk_facts]
     counts = [inputs.outputs_of("counted"), inputs.outputs_of("people")]
     facts = {"texts": texts, "counts": counts, "run": inputs.sums, "words": inputs.run.arguments()}
     return [
@@ -84,9 +84,7 @@ def settings_of(results: StudyMatrix) -> PageSettings:
         arguments=" ".join(inputs.run.arguments()),
         within=study.within,
         nearest=list(study.results.nearest) if counted else [],
-        walk=study.walk_limit,
-        speed=study.walks.speed,
-        detour=study.walks.detour,
+        walking=study.walking,
         streets=study.at(study.walks.streets) if study.walks.streets else None,
         near=study.walks.near,
         ground=study.at(study.results.ground) if study.results.ground else None,

@@ -15,9 +15,8 @@ from urllib.parse import urlsplit
 import numpy as np
 
 from ...core.errors import MissingDependencyError
-from ...core.limits import DETOUR, WALKING_SPEED
-from ...core.question import MAX_WALK
 from ...core.shipped import LEAFLET
+from ...core.walking import Walking
 from ...core.text import display_text
 from ...matrices import Share
 from ...views.classes import TABLE
@@ -47,8 +46,7 @@ class Frame:
     sources: list[tuple[str, str]]
     sentences: list[str]  # what a reader needs to know of what is shown
     minutes: int  # at which the slider stands first
-    walk: int = int(MAX_WALK.default)  # seconds that one walks on from a stop at most
-    pace: float = WALKING_SPEED / DETOUR  # metres a second as the crow flies
+    walking: Walking = Walking()  # on from a stop
     tiles: str | None = None  # where a map is fetched from that is drawn below
     attribution: str = ""
     leaflet: str = LEAFLET
@@ -99,8 +97,8 @@ def head_of(content: Content, lines: Lines, frame: Frame) -> dict[str, Any]:
         "scenarios": [display_text(name) for name in frame.scenarios],
         "shares": frame.shares,
         "minutes": frame.minutes,
-        "walk": frame.walk,
-        "pace": frame.pace,
+        "walk": frame.walking.max_seconds,
+        "pace": frame.walking.straight_speed,
         "streets": {"speed": frame.streets.speed, "aside": ASIDE} if frame.streets else None,
         "identifiers": [display_text(name) for name in ground.places.identifiers],
         "names": ground.places.names,

@@ -11,7 +11,6 @@ from ...core.text import display_text, quantity
 from ...gtfs.stops import read_list
 from ...matrices import Matrix, Share
 from ...places.selection import points_in, select_points
-from ...streets.walks import Pace
 from . import sources
 from .content import Content, MOST_CELLS, PageOptions, PagePlaces, content_of, origins_of
 from .document import Frame, write_page
@@ -66,8 +65,8 @@ def with_streets(frame: Frame, ground: PagePlaces, settings: PageSettings) -> Fr
     """The same with the streets of the settings; if they are more than a page takes, this is reported."""
     if settings.streets is None:
         return frame
-    pace = Pace(settings.walk, settings.speed, settings.detour)
-    found = page_streets(settings.streets, ground.places, ground.at(ground.columns), pace, settings.near)
+    columns = ground.at(ground.columns)
+    found = page_streets(settings.streets, ground.places, columns, settings.walking, settings.near)
     if found is not None and len(found.degrees) > MOST_NODES:
         sentence = f"The streets have {len(found.degrees):,} nodes, and a page takes {MOST_NODES:,}: areas are circles."
         return replace(frame, sentences=[*frame.sentences, sentence])
@@ -98,8 +97,7 @@ def frame_of(matrix: Matrix, content: Content, options: PageOptions, settings: P
         sources.table(files, settings.feed, arguments),
         rows_stated(content, options),
         first_minutes(matrix, settings.within),
-        settings.walk,
-        settings.speed / settings.detour,
+        settings.walking,
         settings.tiles,
         settings.attribution or "",
         settings.leaflet,

@@ -2,9 +2,8 @@
 
 from dataclasses import dataclass, field
 
-from ...core.limits import DETOUR, WALKING_SPEED
-from ...core.question import MAX_WALK
 from ...core.shipped import LEAFLET
+from ...core.walking import Walking
 from ...streets.walks import NEAR
 
 
@@ -33,8 +32,6 @@ class PageSettings:
     leaflet: str = LEAFLET
     within: int | None = None  # seconds, the limit with which the page opens; without it, the first of the matrix
     nearest: list[float] = field(default_factory=list)  # how many of the nearest opportunities are looked for
-    walk: int = int(MAX_WALK.default)  # the longest walk from a stop, in seconds
-    speed: float = WALKING_SPEED  # metres a second
-    detour: float = DETOUR  # metres of way for a metre of straight line
+    walking: Walking = Walking()  # on from a stop
     streets: str | None = None  # an OpenStreetMap file with the ways for these walks
     near: float = NEAR  # the greatest distance of a stop from a way, metres

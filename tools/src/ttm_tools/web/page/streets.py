@@ -6,10 +6,11 @@ from typing import Iterator
 import numpy as np
 import numpy.typing as npt
 
+from ...core.walking import Walking
 from ...gtfs.stops import Stops
 from ...streets.osm import read_streets
 from ...streets.router import Router
-from ...streets.walks import Pace, points_of
+from ...streets.walks import points_of
 from .parts import Element, part
 from .places import MICRO, ranks
 
@@ -38,7 +39,7 @@ class PageStreets:
         yield part("street-beside", self.beside)
 
 
-def page_streets(path: str, places: Stops, columns: Numbers, pace: Pace, near: float) -> PageStreets | None:
+def page_streets(path: str, places: Stops, columns: Numbers, walking: Walking, near: float) -> PageStreets | None:
     """The streets within a walk of the columns' places that are drawn as marks; None where there is no such place."""
     are_areas = np.array([name in places.areas for name in places.identifiers], dtype=np.bool_)
     is_cell = (places.sides()[:, 0] > 0) | are_areas
@@ -46,14 +47,14 @@ def page_streets(path: str, places: Stops, columns: Numbers, pace: Pace, near: f
     if not bare:
         return None
     positions = points_of(places.latitudes[bare], places.longitudes[bare])
-    return within_walks(Router(read_streets(path), positions, pace, near), places, bare)
+    return within_walks(Router(read_streets(path), positions, walking, near), places, bare)
 
 
 def within_walks(router: Router, places: Stops, bare: list[int]) -> PageStreets:
     """The streets that one reaches from some places within the longest walk."""
-    pace, graph = router.pace, router.graph
+    walking, graph = router.walking, router.graph
     source, target = graph.source, graph.target
-    walked = router.within(np.full(len(bare), pace.limit * pace.speed))[source] > 0
+    walked = router.within(np.full(len(bare), walking.max_seconds * walking.speed))[source] > 0
     begin, end = source[walked], target[walked]
     nodes = np.unique(np.concatenate([begin, end]))
     longitudes, latitudes = router.degrees.T
@@ -65,4 +66,4 @@ def within_walks(router: Router, places: Stops, bare: list[int]) -> PageStreets:
     at, beside = np.full(len(places.names), NO_NODE, np.int32), np.zeros(len(places.names), np.float32)
     at[bare] = number[router.first :]
     beside[bare] = router.connectors
-    return PageStreets(degrees.astype(np.int32), number[begin][order], number[end][order], at, beside, pace.speed)
+    return PageStreets(degrees.astype(np.int32), number[begin][order], number[end][order], at, beside, walking.speed)
