@@ -44,7 +44,7 @@ class Repair:
         table.put(column, rows, texts)
 
     def put_for(self, table: Table, column: str, rule: str, right: dict[str, str]) -> None:
-        """Puts texts in place of others, wherever a column has these."""
+        """Replaces texts of a column by others."""
         if right:
             rows = np.flatnonzero(one_of(table[column], right))
             wrong = texts_at(table[column], table[column].codes[rows])
