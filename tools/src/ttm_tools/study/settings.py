@@ -1,5 +1,5 @@
-"""What a study's file says: a dataclass for each of its tables, whose fields say what is allowed, and what holds where
-they are left out.
+"""The settings of a study's file: a dataclass for each of its tables, whose fields state what is allowed and the
+default.
 """
 
 from dataclasses import dataclass, field, is_dataclass
@@ -213,7 +213,7 @@ class DayWindow:
 
     @property
     def head(self) -> tuple[str, str, str, str]:
-        """What stands in front of each line of a table, in the order of `column_list.WINDOWS`."""
+        """The first fields of each line of a table, in the order of `core.columns.WINDOWS`."""
         return self.day, self.window.name, self.window.first, self.window.last
 
     @property
@@ -274,12 +274,12 @@ class Study:
 
     @property
     def pace(self) -> list[float]:
-        """How one walks, as numbers on which walks depend."""
+        """The settings that walks depend on, as numbers."""
         return [self.walk_limit, self.walks.speed, self.walks.detour, self.walks.near]
 
     @property
     def walk_limit(self) -> int:
-        """The longest walk that is made, in seconds."""
+        """The longest walk, in seconds."""
         return self.walks.limit or max(1, self.run.walk)
 
 

@@ -15,8 +15,9 @@ WALKS = {"footpaths", "streets", "grid"}  # options that name or make walks
 
 
 def options_of_study(path: str, options: ExploreOptions, given: Collection[str]) -> tuple[ExploreOptions, list[str]]:
-    """The settings of a study's file, in place of which the options that are given hold; and sentences on what of the
-    study the page does not show. A study whose feed must be prepared first is refused.
+    """The settings of a study's file, and sentences on what the page does not show of the study.
+
+    Options that are given replace settings. A study whose feed must be prepared first is refused.
     """
     study = read_study(path)
     if not study.feed.ready or study.points.are_any:

@@ -25,7 +25,7 @@ Walk = tuple[str, int]  # a stop, and seconds
 
 @dataclass(frozen=True)
 class Point:
-    """Where somebody clicked, in degrees."""
+    """A point of the map, in degrees."""
 
     latitude: float
     longitude: float
@@ -43,7 +43,7 @@ class Point:
 
 
 def walks_from(point: Point, stops: Stops, pace: Pace, streets: Streets | None) -> list[Walk]:
-    """The stops to which one walks from a point, along streets where they are known, else by straight lines."""
+    """The stops within a walk of a point, along streets if there are any, else in straight lines."""
     near = stops_near(point, stops, pace.limit * pace.speed if streets is not None else pace.metres)
     alone = with_point(near, point)
     if streets is None:

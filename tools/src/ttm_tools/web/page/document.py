@@ -45,13 +45,13 @@ class Frame:
     meanings: list[str]  # for each share
     sources: list[tuple[str, str]]
     sentences: list[str]  # what a reader needs to know of what is shown
-    minutes: int  # at which the slider stands first
-    walk: int = int(MAX_WALK.default)  # seconds that one walks on from a stop at most
+    minutes: int  # at which the slider begins
+    walk: int = int(MAX_WALK.default)  # seconds, the longest walk on from a stop
     pace: float = WALKING_SPEED / DETOUR  # metres a second as the crow flies
     tiles: str | None = None  # where a map is fetched from that is drawn below
     attribution: str = ""
     leaflet: str = LEAFLET
-    streets: PageStreets | None = None  # along which one walks on
+    streets: PageStreets | None = None  # along which travellers walk on
 
 
 def leaflet_files(folder: str) -> tuple[str, str]:
@@ -126,7 +126,7 @@ def as_json(head: dict[str, Any]) -> str:
 
 @dataclass(frozen=True)
 class PageKind:
-    """Of which files a page is made: those of the page to send, or of one with a live source."""
+    """The files that a page consists of: those of the page to send, or of one with a live source."""
 
     template: str = "page.html"
     folders: tuple[Path, ...] = (ASSETS,)
