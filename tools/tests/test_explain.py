@@ -1,4 +1,4 @@
-"""Journeys behind cells: by hand on the small feed, and on drawn feeds beside `tests/program/plain.py`, leg by leg."""
+"""Journeys behind cells: by hand on the small feed, and on drawn feeds compared with `tests/program/plain.py`."""
 
 import argparse
 import importlib
@@ -51,7 +51,7 @@ def explained(room: Room, program: str, *arguments: str) -> list[str]:
 
 
 def test_the_small_feed_by_hand(small: Room, program: str) -> None:
-    """At 07:58 it takes 32 minutes, at 07:59 31, at 08:00 30, and at 08:01 nobody gets there: half attain 31."""
+    """At 07:58 it takes 32 minutes, at 07:59 31, at 08:00 30, and from 08:01 on it never arrives: half attain 31."""
     lines = explained(small, program, str(small.folder), small.path("late.csv"), *WORDS)
     assert lines == [
         "From Alpha (A) to C: the travel time that 50 % of 4 departures achieve",
@@ -165,7 +165,7 @@ def test_a_cell_of_a_matrix_is_taken_in_place_of_a_run(small: Room) -> None:
 
 
 def test_a_picture_shows_the_duration_of_each_departure(small: Room, monkeypatch: pytest.MonkeyPatch) -> None:
-    """By the cells of a matrix: 1,860 seconds at 07:59, 2,160 where T2 comes later; nobody gets there from 08:01 on."""
+    """By the cells of a matrix: 1,860 seconds at 07:59, 2,160 where T2 comes later; none from 08:01 on."""
     figures: list[Any] = []
     matplotlib = pytest.importorskip("matplotlib.figure")
     monkeypatch.setattr(matplotlib.Figure, "savefig", lambda figure, *_, **__: figures.append(figure))
@@ -248,7 +248,7 @@ def others() -> tuple[Any, Any]:
 
 
 def compare(room: Room, plain: Any, arguments: list[str]) -> int:
-    """Durations between all stops are those of the other program, and journeys last so long; gives how many changes
+    """Durations between all stops are those of the other program and of the journeys; returns how many changes
     they have.
     """
     args, changed = asked_of(plain, arguments), 0
