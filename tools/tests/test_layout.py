@@ -41,7 +41,6 @@ EXCEPTIONS = {
     "compat": ("matrices", "plans"),
     "compat.r5py": ("gtfs", "journeys", "places", "prepare", "streets"),
     "places.selection": ("matrices",),
-    "web.from_study": ("study",),
     "web.live_network": ("compat",),
 }
 

@@ -6,9 +6,9 @@ from typing import Any, Collection, Iterator
 
 from ..core.errors import InputError
 from ..core.times import day_of
-from ..study.settings import Study
-from ..study.study_file import read_study
-from .options import ExploreOptions
+from ..web.options import ExploreOptions
+from .settings import Study
+from .study_file import read_study
 
 SAME = ("trips", "walk", "back", "ahead")  # names of [run] that are names of options
 WALKS = {"footpaths", "streets", "grid"}  # options that name or make walks
