@@ -15,8 +15,8 @@ class and time of day, running times that grow by a quarter in the peaks, and a 
 A region has two towns, a hundred villages between and around them, buses and one rail line every 20 to 60 minutes, and
 lines that run on school days alone.
 Walking: direct footpaths between stops within 500 m as the crow flies, 0.96 s a metre (so 480 s), closed by the
-program with its limit. With --changes each change between two vehicles at a stop takes so long, by transfers.txt; all
-other files are the same.
+program with its limit. With --changes each change between two vehicles at a stop takes these seconds, by transfers.txt;
+all other files are the same.
 
 Whatever draws takes the one `random.Random` of the feed: another order of the draws makes another feed.
 """

@@ -1,4 +1,4 @@
-"""Goals for the figures of the benchmark, with the reason where one is hard to meet."""
+"""Goals for the figures of the benchmark, with the reason if a goal is hard to meet."""
 
 from collections.abc import Callable, Iterator
 from dataclasses import dataclass

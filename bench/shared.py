@@ -43,7 +43,7 @@ def write_lines(folder: str, name: str, header: str, rows: Iterable[str]) -> Non
 
 
 def records_of(path: str | Path) -> list[dict[str, str]]:
-    """The records of a file by its columns; none where there is no such file."""
+    """The records of a file by its columns; none if the file is missing."""
     if not os.path.exists(path):
         return []
     with open(path, newline="", encoding="utf-8-sig") as file:
@@ -51,7 +51,7 @@ def records_of(path: str | Path) -> list[dict[str, str]]:
 
 
 def stops_of(path: str) -> list[str]:
-    """The stops that a file of origins or of a feed lists, without stations; none where there is no such file."""
+    """The stops that a file of origins or of a feed lists, without stations; none if the file is missing."""
     return [row["stop_id"] for row in records_of(path) if (row.get("location_type") or "").strip() in ("", "0")]
 
 
@@ -76,7 +76,7 @@ def there(folder: str, *names: str) -> list[str]:
 
 @dataclass(frozen=True)
 class Study:
-    """What is asked of `ttm`: departures each minute from 07:00. Origins and workers come beside it."""
+    """The settings of a run of `ttm`: departures each minute from 07:00. Origins and workers are given separately."""
 
     minutes: int = 120
     shares: Sequence[int] = (50,)
@@ -98,8 +98,8 @@ class Study:
 class Ran:
     """How a run of a program ended."""
 
-    status: int  # that of the exit; below 0 where a signal ended it
-    seconds: float  # from start to end, by the clock
+    status: int  # of the exit; below 0 if a signal ended it
+    seconds: float  # from start to end
     busy: float  # seconds of processors
     kilobytes: int  # most memory held
 

@@ -43,7 +43,7 @@ def ground_of(feed: str) -> tuple[float, float, float, float]:
 
 
 def grid_of(ground: tuple[float, float, float, float], nodes: int, draw: np.random.Generator) -> Grid:
-    """About so many crossings, as far from one another to the east as to the north."""
+    """About `nodes` crossings, at equal distances to the east and to the north."""
     west, south, east, north = ground
     wide = (east - west) * math.cos(math.radians((south + north) / 2))
     columns = max(2, round(math.sqrt(nodes * wide / (north - south))))

@@ -103,7 +103,7 @@ def draw_next(cell: Cell, goal: Cell, way: Cell | None, bend: float, rnd: random
 
 
 def draw_path(streets: Streets, start: Cell, goal: Cell, most: int, bend: float, rnd: random.Random) -> list[Cell]:
-    """A path of at most so many cells towards the goal, which takes no cell twice."""
+    """A path of at most `most` cells towards the goal, which takes no cell twice."""
     path, taken = [start], {start}
     way = None
     for _ in range(most * 3):
@@ -158,7 +158,7 @@ def draw_headways(rnd: random.Random, classes: Sequence[tuple[float, Headways]] 
 
 
 def draw_bus_line(streets: Streets, length: int, cover: Sequence[int], rnd: random.Random) -> Line | None:
-    """A line from one of the nodes that fewest lines serve; none where it is too short."""
+    """A line from one of the nodes that fewest lines serve; None if it is too short."""
     kind = rnd.random()
     most = max(8, int(rnd.gauss(length, length * 0.25)))
     sample = rnd.sample(range(len(cover)), min(len(cover), 12))

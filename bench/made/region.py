@@ -46,13 +46,13 @@ class Region:
         return first
 
     def is_free(self, cell: Cell) -> bool:
-        """Whether a village may lie at a cell: far enough from every settlement that is there."""
+        """Whether a cell is free for a village: far enough from every settlement."""
         gaps = [draw_radius(len(nodes)) + APART for nodes in self.settlements]
         return all(math.dist(cell, centre) >= gap for centre, gap in zip(self.centres, gaps))
 
 
 def draw_radius(nodes: int) -> float:
-    """The radius of a disc of so many cells, in cells."""
+    """The radius of a disc with this number of cells, in cells."""
     return math.sqrt(nodes / math.pi)
 
 
@@ -129,7 +129,7 @@ def draw_regional_line(region: Region, kind: str, cover: list[int], rnd: random.
 
 
 def rail_line(region: Region) -> Line:
-    """The railway: from one town's centre to the other's, with a station in each village beside it."""
+    """The railway: from one town's centre to the other's, with a station in each village on the way."""
     start, end = region.centres[0], region.centres[1]
     length = math.dist(start, end)
     beside = []

@@ -27,7 +27,7 @@ def script(path: Path, text: str) -> str:
 
 
 # Answers each question by a matrix of one cell: at which minute the window begins, in seconds. The origin of a question
-# is a file: where it is called kill, short, bad .., that happens.
+# is a file: one called kill, short, bad .. makes that happen.
 CANNED = """\
 #!/usr/bin/python3
 import os, signal, sys, time

@@ -19,7 +19,7 @@ def lacking() -> str | None:
 
 
 def started() -> Any:
-    """A driver with its browser; where it can't start, another start is tried."""
+    """A driver with its browser; if the start fails, it is tried again."""
     from selenium import webdriver
     from selenium.common.exceptions import WebDriverException
     from selenium.webdriver.chrome.service import Service
@@ -80,7 +80,7 @@ class Browser:
         self.awaited("await begun; await show();")
 
     def text(self, identifier: str) -> str:
-        """What an element shows to people; nothing where it is hidden."""
+        """The text that an element shows; empty if it is hidden."""
         return str(self.driver.find_element("id", identifier).text)
 
     def content(self, identifier: str) -> str:
@@ -88,7 +88,7 @@ class Browser:
         return str(self.run("return document.getElementById(arguments[0]).textContent", identifier))
 
     def address(self) -> str:
-        """What stands behind # in the address, once it is written."""
+        """The text after # in the address, once it is written."""
         self.awaited("await new Promise((it) => setTimeout(it, ADDRESS_EVERY + 50));")
         return str(self.run("return location.hash.slice(1)"))
 
@@ -121,7 +121,7 @@ class Browser:
         self.settle()
 
     def pixel(self, identifier: str) -> tuple[int, int]:
-        """Where a place lies in the map."""
+        """The position of a place in the map."""
         script = "const at = page.pixelOf(head.identifiers.indexOf(arguments[0])); return [at.x, at.y].map(Math.round)"
         across, down = self.run(script, identifier)
         return across, down
@@ -139,7 +139,7 @@ class Browser:
         self.settle()
 
     def colour(self, identifier: str, right: int = 0) -> str:
-        """The colour that is drawn where a place lies, or so many pixels to the right of it."""
+        """The colour drawn at a place, or this number of pixels to the right of it."""
         script = (
             "const canvas = document.querySelector('canvas.places'), box = canvas.getBoundingClientRect();"
             "const map = document.getElementById('map').getBoundingClientRect(), fine = canvas.width / box.width;"

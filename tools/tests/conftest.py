@@ -1,8 +1,9 @@
 """Each test has a room of its own.
 
 `pytest --program=PATH`: with the built `ttm`, that it takes what the tools write, and they what it prints. `-m program`
-chooses the tests that run it. Where several processes share the tests (pytest-xdist), one has the browser. A test in a
-browser that fails is run once more (pytest-rerunfailures), since Chromium may start or answer late; no other test is.
+chooses the tests that run it. If several processes share the tests (pytest-xdist), only one runs those in the browser.
+A test in a browser that fails is run once more (pytest-rerunfailures), since Chromium may start or answer late; no
+other test is.
 """
 
 from pathlib import Path

@@ -256,7 +256,7 @@ LASTING: list[Callable[[Damaged], bool]] = [no_file, no_column, no_bytes]  # whi
 
 
 def matrix_of(program: str, folder: Path, arguments: Sequence[str] = WORDS.split()) -> tuple[int, bytes, bytes]:
-    """What the program says of a feed: its status, its matrix, and what it tells."""
+    """The program's answer to a feed: its status, its matrix, and its error output."""
     ran = subprocess.run([program, "--feed", str(folder), *arguments], capture_output=True)
     return ran.returncode, ran.stdout, ran.stderr
 
@@ -272,7 +272,7 @@ def prepared(folder: Path, *arguments: str) -> Path:
 
 
 def right_feed_differs(program: str, seed: int, room: Path) -> str:
-    """What is wrong where a right feed is made ready: the matrix must be the same; nothing where it is."""
+    """Prepares a correct feed, and returns how its matrix changes; an empty text if it stays the same."""
     feed = Damaged(seed, 0)
     feed.put_into(room / str(seed))
     before = matrix_of(program, room / str(seed))
@@ -289,8 +289,8 @@ def damage_stays(program: str, seed: int, room: Path) -> str:
 
 
 def first_fault_differs(program: str, seed: int, room: Path) -> str:
-    """What is wrong where the faults of a damaged feed are told: the first must be the program's line; nothing where
-    it is.
+    """Checks a damaged feed, and returns how the first fault differs from the program's line; an empty text if it
+    doesn't.
     """
     feed, folder = Damaged(seed), room / str(seed)
     if seed % 5 == 0:

@@ -1,4 +1,4 @@
-"""Plans drawn by a seed over drawn feeds, carried out beside the built program."""
+"""Plans drawn by a seed over drawn feeds, carried out and compared with the built program."""
 
 import csv
 import io
@@ -103,7 +103,7 @@ class DrawnPlan:
         return {"do": "shift_route", "route": self.random.choice(self.feed.routes), "seconds": seconds}
 
     def way(self, count: int) -> Values:
-        """How long vehicles take along so many pieces."""
+        """How long vehicles take along this number of pieces."""
         keys: Values = {"dwell": self.random.choice([0, 10, 45])}
         if self.random.random() < 0.5:
             return {**keys, "speed": self.random.choice([Decimal("12.5"), 30])}

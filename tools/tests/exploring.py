@@ -103,7 +103,7 @@ class Explored:
         return "/".join(self.address.split("/")[:3])
 
     def status(self, path: str = "", body: bytes | None = None, **headers: str) -> int:
-        """The status of a request, with the headers that are named in place of a browser's."""
+        """The status of a request, with the given headers instead of a browser's."""
         with self.requested(path, body, **headers) as connection:
             return connection.getresponse().status
 
@@ -141,7 +141,7 @@ class Explored:
             connection.close()
 
     def wait_for_threads(self, count: int) -> None:
-        """Waits until the server has at least so many threads, all of which wait for something."""
+        """Waits until the server has at least this number of threads, all of which are waiting."""
         quiet = [0]
 
         def is_quiet() -> bool:
@@ -159,7 +159,7 @@ class Explored:
 
 
 def state_of(thread: Path) -> str:
-    """What a thread does, as the system tells it by a letter: S where it waits; nothing where it is over."""
+    """The state of a thread as a letter of the system: S if it waits; empty if it has ended."""
     try:
         return (thread / "stat").read_text().rsplit(")", 1)[1].split()[0]
     except FileNotFoundError:
@@ -168,7 +168,7 @@ def state_of(thread: Path) -> str:
 
 @contextlib.contextmanager
 def explored(feed: Path, program: str, *words: str, opens: str | None = None) -> Iterator[Explored]:
-    """Serves the page of a feed while the block runs, and opens it by a browser's command if one is named."""
+    """Serves the page of a feed while the block runs, and opens it by a browser's command, if given."""
     arguments = [str(feed), "--date", DATE, "--from", "08:00", "--to", "08:00", "--program", program]
     process = subprocess.Popen(
         [sys.executable, LAUNCHER, "explore", *arguments, *words, *(["--no-browser"] if opens is None else [])],

@@ -1,4 +1,4 @@
-"""Access: by hand on the small feed, beside plain formulas on drawn matrices, and as `ttm` prints it."""
+"""Access: by hand on the small feed, compared with plain formulas on drawn matrices, and as `ttm` prints it."""
 
 import csv
 import math

@@ -54,7 +54,7 @@ def frames(network: Network) -> dict[str, Any]:  # noqa: F811
 
 
 def rebuilt(frame: Any) -> Any:
-    """A frame of the same columns that nobody computed."""
+    """A frame with the same columns that was not computed."""
     columns = {name: pandas.Series(list(frame[name]), index=frame.index, dtype=frame[name].dtype) for name in frame}
     table = pandas.DataFrame(columns, index=frame.index)
     table.columns = frame.columns

@@ -61,7 +61,7 @@ def network(tmp_path: Path, program: str, monkeypatch: pytest.MonkeyPatch) -> It
 
 
 def homes(*metres: float, crs: int = 4326) -> Any:
-    """Places so many metres north of A, with the numbers 1, 2 .. as identifiers."""
+    """Places at these metres north of A, with the numbers 1, 2 .. as identifiers."""
     points = [Point(0.0, 51.0 + one * NORTH) for one in metres]
     frame = geopandas.GeoDataFrame({"id": range(1, len(metres) + 1)}, geometry=points, crs=4326)
     return frame.to_crs(crs)

@@ -1,4 +1,4 @@
-"""Points that are areas keep their shapes: beside the feed's points, on maps, on pages, and in files of others."""
+"""Points that are areas keep their shapes: next to the feed's points, on maps, on pages, and in files of others."""
 
 import json
 from pathlib import Path
@@ -128,7 +128,7 @@ def test_a_map_draws_areas_with_their_holes(town: Town, monkeypatch: pytest.Monk
         for path in collection.get_paths()
     ]
     corners = [len(path.vertices) for path in drawn]
-    assert 10 in corners and 8 in corners  # b with its hole, and c; a is the origin, which a star stands for
+    assert 10 in corners and 8 in corners  # b with its hole, and c; a is the origin, which has a star
     figures[0].canvas.draw()
     pixels = np.asarray(figures[0].canvas.buffer_rgba())
     matrix, stops = select_points(open_matrix(town.file), town.feed, None)

@@ -1,4 +1,4 @@
-"""Calls that are read as numbers, some records at a time, beside those of the whole table."""
+"""Calls that are read as numbers, some records at a time, compared with those of the whole table."""
 
 import random
 from pathlib import Path

@@ -1,4 +1,4 @@
-"""Who loses and who wins: by hand, and beside plain loops on drawn matrices."""
+"""Losers and winners: by hand, and compared with plain loops on drawn matrices."""
 
 import random
 
@@ -103,7 +103,7 @@ def test_an_open_matrix_file_compares_as_the_matrix(town: Town) -> None:
 
 
 def plain(before: list[Cell], after: list[Cell], limit: int) -> list[tuple[int, int, str, Cell, Cell, Cell]]:
-    """The changed pairs of one origin, with their rank and size: the same by a loop."""
+    """The changed pairs of one origin, with their rank and size, by a loop."""
     found: list[tuple[int, int, str, Cell, Cell, Cell]] = []
     for place, (one, other) in enumerate(zip(before, after)):
         if isinstance(one, int) and isinstance(other, int):

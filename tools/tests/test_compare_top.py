@@ -47,7 +47,7 @@ def test_percent_and_size_are_not_the_same(town: Town) -> None:
     base["D"], cut["D"] = [0, FAR, FAR, FAR], [0, 9, 9, FAR]
     town.matrix(town_matrix(True, {"base": base, "cut": cut}))
     rows = read(town.ran("compare", "--by", "origin", "--sort", "relative", town.file)[0])
-    # B loses all of 2, A two of 4; C gains from nothing, D two beside 1
+    # B loses all of 2, A two of 4; C gains from nothing, D two more than 1
     assert [row["origin"] for row in rows] == ["B", "A", "C", "D"]
     rows = read(town.ran("compare", "--by", "origin", "--sort", "gain", town.file)[0])
     assert [row["origin"] for row in rows] == ["D", "C", "A", "B"]

@@ -1,4 +1,4 @@
-"""Access where people compete, and means over limits: by hand on the small feed, and beside plain loops."""
+"""Access where people compete, and means over limits: by hand on the small feed, and compared with plain loops."""
 
 import random
 

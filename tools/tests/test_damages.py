@@ -26,7 +26,7 @@ TEXTS = [
 
 
 def damaged(draw: random.Random, whole: bytes) -> bytes:
-    """Some bytes put in, left out, or cut off."""
+    """Some bytes inserted, left out, or cut off."""
     for _ in range(draw.randrange(1, 4)):
         place, length = draw.randrange(len(whole) + 1), draw.choice([0, 0, 1, 3, 20])
         whole = whole[:place] + draw.choice(TEXTS) + (b"" if draw.random() < 0.1 else whole[place + length :])

@@ -1,4 +1,4 @@
-"""Equity: by hand on the small feed, and beside plain formulas, person by person, on drawn towns."""
+"""Equity: by hand on the small feed, and compared with plain formulas, person by person, on drawn towns."""
 
 import math
 import random
@@ -33,7 +33,7 @@ def small(town: Town) -> Town:
 
 
 def test_the_small_feed_by_hand(small: Town) -> None:
-    """Of 400 people 300 lose a third, nobody gains, and Gini and Palma fall."""
+    """300 of 400 people lose a third, none gains, and Gini and Palma fall."""
     arguments = ["equity", small.path("access.csv"), "--people", small.path("people.csv")]
     out, errors, status = small.ran(*arguments)
     # 1500 + 3000 + 500 of 400; 2 * (100 * 100 + 200 * 100) * 10 / (2 * 400 * 400 * 12.5); 15 / ((500 + 60 * 15) / 160)

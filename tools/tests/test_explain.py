@@ -1,6 +1,7 @@
-"""Journeys behind cells: by hand on the small feed, and on drawn feeds beside `tests/program/plain.py`, leg by leg."""
+"""Journeys behind cells: by hand on the small feed, and on drawn feeds compared with `tests/program/plain.py`."""
 
 import argparse
+import datetime
 import importlib
 import random
 import stat
@@ -14,12 +15,13 @@ import pytest
 from helpers import CALENDAR, STOP_TIMES, Room
 from test_damages import damaged
 from ttm_tools.gtfs.stops import read_stops
-from ttm_tools.journeys.found import calls_of_ride
+from ttm_tools.journeys.found import ExplainOptions, calls_of_ride, found_by
 from ttm_tools.journeys.search import Leg, Search, cell, durations, journey
 from ttm_tools.journeys.network import NEVER, Schedule
 from ttm_tools.gtfs.footpaths import read_walks
 from ttm_tools.gtfs.timetable import Events, read_edits, read_timetable, runs_of
 from ttm_tools.views.itineraries import parts_of
+from ttm_tools.web.journeys import Shown
 
 ROOT = Path(__file__).resolve().parents[2]
 WORDS = "--origin A --destination C --date 20260504 --from 07:58 --to 08:01 --trips 2 --walk 120 --ahead 0".split()
@@ -51,7 +53,7 @@ def explained(room: Room, program: str, *arguments: str) -> list[str]:
 
 
 def test_the_small_feed_by_hand(small: Room, program: str) -> None:
-    """At 07:58 it takes 32 minutes, at 07:59 31, at 08:00 30, and at 08:01 nobody gets there: half attain 31."""
+    """At 07:58 it takes 32 minutes, at 07:59 31, at 08:00 30, and from 08:01 on it never arrives: half attain 31."""
     lines = explained(small, program, str(small.folder), small.path("late.csv"), *WORDS)
     assert lines == [
         "From Alpha (A) to C: the travel time that 50 % of 4 departures achieve",
@@ -165,7 +167,7 @@ def test_a_cell_of_a_matrix_is_taken_in_place_of_a_run(small: Room) -> None:
 
 
 def test_a_picture_shows_the_duration_of_each_departure(small: Room, monkeypatch: pytest.MonkeyPatch) -> None:
-    """By the cells of a matrix: 1,860 seconds at 07:59, 2,160 where T2 comes later; nobody gets there from 08:01 on."""
+    """By the cells of a matrix: 1,860 seconds at 07:59, 2,160 where T2 comes later; none from 08:01 on."""
     figures: list[Any] = []
     matplotlib = pytest.importorskip("matplotlib.figure")
     monkeypatch.setattr(matplotlib.Figure, "savefig", lambda figure, *_, **__: figures.append(figure))
@@ -248,7 +250,7 @@ def others() -> tuple[Any, Any]:
 
 
 def compare(room: Room, plain: Any, arguments: list[str]) -> int:
-    """Durations between all stops are those of the other program, and journeys last so long; gives how many changes
+    """Durations between all stops are those of the other program and of the journeys; returns how many changes
     they have.
     """
     args, changed = asked_of(plain, arguments), 0
@@ -376,3 +378,23 @@ def test_a_ride_has_the_calls_from_where_one_boards_to_where_one_alights(leg: Le
     stops, times = np.array([5, 7, 6, 7, 8], np.int32), np.array([0, 0, 60, 80, 360], np.int32)
     events = Events(np.array([0, 1, 5]), stops, times, times, *[np.ones(5, np.bool_)] * 2)
     assert calls_of_ride(events, 1, 3540, leg) == slice(*calls)
+
+
+def test_the_page_draws_a_ride_from_where_one_boards(room: Room) -> None:
+    """T leaves A and B in the same second."""
+    room.write("stops.txt", "stop_id", [["A"], ["B"], ["C"]])
+    room.write("routes.txt", "route_id,route_short_name", [["R", "1"]])
+    room.write("trips.txt", "route_id,service_id,trip_id", [["R", "M", "T"]])
+    room.write("calendar.txt", *CALENDAR)
+    times = [["T", "8:00:00", "8:00:00", name, place] for place, name in enumerate("AB")]
+    room.write("stop_times.txt", STOP_TIMES, [*times, ["T", "8:10:00", "8:10:00", "C", 3]])
+    timetable, date = read_timetable(read_stops(str(room.folder))), datetime.date(2026, 5, 4)
+    a, b, c = map(timetable.stops.index, "ABC")
+    runs, departure = runs_of(timetable, date, (0, 0), read_edits(None)), 8 * 3600 - 60
+    schedule = Schedule(timetable.events, runs, *read_walks(timetable, None, 0), departure)
+    options = ExplainOptions(timetable, b, c, [departure], 0, 50, "")
+    found = found_by(options, "base", 1, schedule)
+    places = {a: 10, b: 11, c: 12}
+    shown = Shown(options, found, [(timetable, runs)], {"R": "1"}, [places[stop] for stop in range(3)]).as_json()
+    (ride,) = shown["legs"]
+    assert (ride["from"], ride["to"], ride["via"], ride["wait"]) == (11, 12, [11, 12], 60)

@@ -225,7 +225,7 @@ def test_how_often_how_fast_and_where_a_route_ends(served: Explored, browser: Br
     browser.press("#undo")
     changed(browser)
     browser.press("#route-more summary")
-    browser.press("#speed")  # by a fifth: four minutes to B in place of five
+    browser.press("#speed")  # by a fifth: four minutes to B instead of five
     changed(browser)
     assert minutes(browser)["B"] == 8
     browser.press("#undo")

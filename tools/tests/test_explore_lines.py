@@ -1,4 +1,4 @@
-"""What a change does to the lines of the map, beside the lines of the feed that is written for it."""
+"""Changes of the lines of the map, compared with the lines of the feed that is written for them."""
 
 import csv
 import json

@@ -54,7 +54,7 @@ def rows_of(path: str | None) -> list[dict[str, str]]:
 
 
 def test_cells_lie_wherever_one_walks_to_a_stop(tmp_path: Path) -> None:
-    """In ten minutes one walks 800 metres, 615 as the crow flies: so far is the middle of each cell from a stop."""
+    """A walk of ten minutes is 800 metres, 615 as the crow flies: the farthest that a cell's middle is from a stop."""
     options, sentences = with_generated(replace(options_for(tmp_path), grid=400.0), tmp_path)
     cells = rows_of(f"{options.feed}/points.csv")
     assert sentences[0] == f"{len(cells)} cells of 400 metres" and (options.name, options.most_walk) == ("village", 600)
@@ -98,8 +98,8 @@ def test_nothing_is_made_unless_it_is_asked_for(tmp_path: Path) -> None:
 
 @pytest.mark.program
 def test_a_click_on_a_cell_and_the_study_that_is_saved(program: str, tmp_path: Path, browser: Browser) -> None:
-    """From a cell one walks to Alpha before the bus of 08:10, which is at Beta at 08:15 and at Gamma at 08:20. The
-    train to Delta leaves at 08:45 and takes ten minutes.
+    """Alpha is a walk away from the cell, in time for the bus of 08:10, which is at Beta at 08:15 and at Gamma at
+    08:20. The train to Delta leaves at 08:45 and takes ten minutes.
     """
     from ttm_tools.matrices import open_matrix
 

@@ -39,7 +39,7 @@ def north_of_alpha(metres: float) -> Point:
 
 
 def test_walks_by_straight_lines(tmp_path: Path) -> None:
-    """300 metres are 390 of way, 293 seconds at 4.8 km/h; in ten minutes you get 615 metres far."""
+    """300 metres are 390 of way, 293 seconds at 4.8 km/h; ten minutes lead 615 metres away."""
     stops = read_stops(str(village(tmp_path)))
     assert walks_from(north_of_alpha(300), stops, Walking(max_seconds=600), None) == [("A", 293)]
     assert walks_from(north_of_alpha(615), stops, Walking(max_seconds=600), None) == [("A", 600)]
@@ -47,7 +47,7 @@ def test_walks_by_straight_lines(tmp_path: Path) -> None:
 
 
 def test_walks_by_entrances(tmp_path: Path) -> None:
-    """Alpha's station has an entrance 200 metres to the north of it, so one comes by that from the south, too."""
+    """Alpha's station has an entrance 200 metres to the north of it, so walks from the south pass it, too."""
     feed = village(tmp_path)
     rows = ["S,Square,47,8,1,", f"E,Entrance,{47.0 + 200 * METRE},8,2,S", "A,Alpha,47,8,0,S", "B,Beta,47,8.02,0,"]
     (feed / "stops.txt").write_text(
@@ -97,7 +97,7 @@ def test_bad_points_are_told(refusing: Explored, arguments: str) -> None:
 
 
 def click_north_of(browser: Browser, stop: str, metres: float) -> None:
-    """Clicks on the map so many metres to the north of a stop."""
+    """Clicks on the map at these metres to the north of a stop."""
     from selenium.webdriver.common.action_chains import ActionChains
 
     pixels = browser.run(

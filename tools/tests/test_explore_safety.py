@@ -309,14 +309,14 @@ def test_a_hundred_clicks_do_not_queue_up_and_the_latest_wins(tmp_path: Path, br
 
 
 def test_of_questions_that_wait_in_a_tab_the_server_answers_the_latest(tmp_path: Path) -> None:
-    """What a page that doesn't wait sends: nineteen questions while the first one is being answered."""
+    """A page that doesn't wait sends nineteen questions during the answer to the first."""
     feed = village(tmp_path)
     log, hold = feed / "questions", feed / "hold"
     with explored(feed, canned(tmp_path)) as served, contextlib.ExitStack() as stack:
         log.touch()
         hold.touch()
         sent = [stack.enter_context(served.requested(TIMES, None))]
-        wait_until(lambda: log.read_text() != "")  # the first one is with the program
+        wait_until(lambda: log.read_text() != "")  # the program is answering the first
         for turn in range(2, 21):
             sent.append(stack.enter_context(served.requested(TIMES.replace("turn=1", f"turn={turn}"), None)))
         served.wait_for_threads(20)

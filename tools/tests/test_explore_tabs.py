@@ -118,7 +118,7 @@ return ends.map(([end, colour]) => [end, shades.indexOf(colour)]);
 
 
 def test_areas_end_where_the_slider_stands(served: Explored, browser: Browser) -> None:
-    """With bands of ten minutes, 15 minutes lie in the second band, and 75 beyond the sixth."""
+    """With bands of ten minutes, 15 minutes are in the second band, and 75 beyond the sixth."""
     browser.visit(served.address)
     browser.click("A")
     for minutes, ends in (
@@ -130,7 +130,7 @@ def test_areas_end_where_the_slider_stands(served: Explored, browser: Browser) -
     ):
         browser.awaited(f"await set({{ minutes: {minutes} }});")
         assert browser.run(AREAS) == ends
-    # C is reached in ten minutes: at 15 minutes one walks on for five of them
+    # C is reached in ten minutes: at 15 minutes five are left to walk on
     browser.press("#areas")
     drawn = list[str]()
     for minutes in (10, 15):

@@ -1,4 +1,4 @@
-"""The timetable of a changed network, which explore has in memory, beside that of the feed that is written for it."""
+"""The timetable of a changed network in the memory of explore, compared with that of the feed written for it."""
 
 import datetime
 import random
@@ -30,7 +30,7 @@ Event = tuple[str, int, int, bool, bool]
 
 
 def events_of(timetable: Timetable, trip: int) -> list[Event]:
-    """The stops of a trip by name, with times and whether one may board and alight."""
+    """The stops of a trip by name, with times and whether boarding and alighting are allowed."""
     events = timetable.events
     own = slice(events.begins[trip], events.begins[trip + 1])
     names = [timetable.stops[stop] for stop in events.stop[own].tolist()]

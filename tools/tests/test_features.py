@@ -1,4 +1,4 @@
-"""Files of people as polygons: what is repaired, and what is refused so that nobody gets lost; numbers by hand."""
+"""Files of people as polygons: what is repaired, and what is refused so that no people get lost; numbers by hand."""
 
 import json
 from pathlib import Path

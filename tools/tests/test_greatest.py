@@ -1,4 +1,4 @@
-"""A greatest travel time: in each command a pair that takes longer counts as not reached, and that is told."""
+"""A greatest travel time: in each command a pair that takes longer counts as not reached, and is reported."""
 
 import csv
 import json

@@ -33,7 +33,7 @@ def test_cells_lie_where_a_stop_is_within_a_walk(room: Room) -> None:
     town, out = feed(room), room.path("doors")
     _, errors, status = room.ran("points", town, "--grid", "250", "--out", out, *NEAR)
     assert (errors.splitlines()[0], status) == ("8 cells of 250 metres", 0)
-    # rows begin 300 m south of the stops and columns 300 m west of A: their middles lie at -175, 75, 325 ..;
+    # rows begin 300 m south of the stops and columns 300 m west of A: their middles are at -175, 75, 325 ..;
     # from A and B, 1,000 m apart, those at -175 and 75 both ways are within 300 m, and (75, 325) is 334 m away
     found = cells_of(out)
     assert [item["id"] for item in found] == ["r1c1", "r1c2", "r1c5", "r1c6", "r2c1", "r2c2", "r2c5", "r2c6"]
@@ -60,7 +60,7 @@ def test_cells_have_a_part_in_the_area_and_polygons_are_shared_out(room: Room) -
     area = polygons(room, "area.geojson", ({}, 0, 0, 600, 250))
     # half of it lies over the second of three cells, a quarter over each of the others
     own = ({"people": 80, "id": "7"}, 125, 0, 625, 250), ({"people": None, "id": "8"}, 0, 0, 10, 10)
-    outside = ({"people": 9, "id": "9"}, 700, 0, 800, 250)  # half of it lies in the third cell, which ends at 750
+    outside = ({"people": 9, "id": "9"}, 700, 0, 800, 250)  # half of it is in the third cell, which ends at 750
     people = polygons(room, "people.geojson", *own, outside)
     arguments = ["--grid", "250", "--area", area, "--people", people, "--out", out]
     _, errors, status = room.ran("points", town, *arguments, *NEAR)

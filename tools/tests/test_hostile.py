@@ -1,8 +1,8 @@
 """Hostile inputs, drawn by a seed: each command ends with its result or one line, writes nothing outside, and keeps all
 that it didn't write.
 
-It goes on for SECONDS, or as many as TTM_HOSTILE_SECONDS says, from the seed that TTM_HOSTILE_SEED says; a case that
-fails is told with its number, by which it is drawn again.
+The trials last SECONDS, or TTM_HOSTILE_SECONDS, from the seed TTM_HOSTILE_SEED on. A case that fails is reported with
+its number, which draws it again.
 """
 
 import gzip

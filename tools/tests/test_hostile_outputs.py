@@ -33,7 +33,7 @@ CASES = 8  # of processes: each takes seconds
 
 @contextlib.contextmanager
 def within_time(what: str) -> Iterator[None]:
-    """Fails if the block waits, as for a pipe that nobody writes to."""
+    """Fails if the block waits, as for a pipe without a writer."""
 
     def late(_: int, __: FrameType | None) -> None:
         raise AssertionError(f"{what}: it waits forever")
@@ -48,7 +48,7 @@ def within_time(what: str) -> Iterator[None]:
 
 
 def put(kind: str, path: Path, mine: Path) -> int | None:
-    """Puts something of somebody else at the path of an output; returns an open end of a pipe, which is read later."""
+    """Creates another user's file, folder or pipe at an output's path; returns a pipe's open end, to read later."""
     if kind == "file":
         path.write_text("mine\n")
     elif kind == "folder":

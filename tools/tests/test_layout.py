@@ -56,7 +56,6 @@ EXCEPTIONS = {
     "compat": ("matrices", "plans"),
     "compat.r5py": ("gtfs", "places", "streets"),
     "places.selection": ("matrices",),
-    "web.from_study": ("study",),
     "web.live_network": ("compat",),
 }
 

@@ -275,7 +275,7 @@ def test_a_picture_leaves_nothing_where_the_run_is_ended(town: Town) -> None:
 def test_new_lines_of_a_plan_are_drawn_as_added_and_others_as_changed(
     town: Town, monkeypatch: pytest.MonkeyPatch
 ) -> None:
-    """Of a plan whose scenario `more` has a line L from A to D, and another one in place of trip T; `other` adds P."""
+    """The scenario `more` of a plan has a line L from A to D, and replaces trip T; `other` adds P."""
     town.matrix(town_matrix(True, {"base": TOWN["base"], "today": TOWN["base"], "more": TOWN["cut"]}))
     town.write(
         "trips.txt", "route_id,trip_id", [["R", "T"], ["Q", "U"], ["L", "L1"], ["R@more", "T@more"], ["P", "P1"]]

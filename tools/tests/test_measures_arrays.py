@@ -1,4 +1,4 @@
-"""Measures as functions of arrays: by hand, and the same by blocks of rows as in one piece."""
+"""Measures as functions of arrays: by hand, and by blocks of rows as in one piece."""
 
 from typing import Iterable
 

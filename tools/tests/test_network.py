@@ -266,7 +266,7 @@ def test_a_program_that_is_killed_says_so_and_the_next_question_begins_another(
 
 
 def test_threads_get_their_own_answers_of_the_program(room: Room, program: str) -> None:
-    """From A one is at B at 08:10, whichever of the minutes before 08:00 one leaves at."""
+    """From A travellers are at B at 08:10, whichever of the minutes before 08:00 they leave at."""
     write_town(room)
     minutes = [minute for minute in range(60) for _ in range(3)]
     with Network(room.folder, "20260504", program=program, workers=3) as network, ThreadPoolExecutor(8) as pool:

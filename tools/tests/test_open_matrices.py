@@ -1,4 +1,4 @@
-"""Open Matrix files of other hands, and damaged ones: each is told in a line, or read as it is."""
+"""Open Matrix files of other programs, and damaged ones: each is refused in one line, or read as it is."""
 
 import random
 import shutil

@@ -1,4 +1,4 @@
-"""What comes from outside is looked at on opening: sizes, kinds and shapes, and one line where it can't be read."""
+"""Files from outside are checked on opening: sizes, kinds and shapes; one that can't be read is refused in one line."""
 
 import os
 import struct

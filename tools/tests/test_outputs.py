@@ -1,4 +1,4 @@
-"""What a command writes replaces nothing that somebody else wrote, and no two commands write one file at once."""
+"""No command replaces what others wrote, and no two commands write one file at once."""
 
 import fcntl
 import os
@@ -189,7 +189,7 @@ def test_temporary_folders_of_other_machines_stay_and_those_of_killed_runs_go(
         (room.folder / name / "data").write_text(name)
     for name in names[:3]:
         (room.folder / name / "lock").touch()
-    for name in names[:2]:  # the third one is so young that its process may not have locked it yet
+    for name in names[:2]:  # the third is so young that its process may not have locked it yet
         os.utime(room.folder / name, (0, 0))
     other = subprocess.Popen(
         ["flock", "--no-fork", room.path("ttm-tools-feed.live/lock"), "sh", "-c", "echo; exec sleep 600"],

@@ -87,7 +87,7 @@ def test_small_marks_have_the_colour_of_their_class(town: Town, browser: Browser
 
 
 def test_many_marks_are_stamped_as_a_pen_draws_them(town: Town, browser: Browser) -> None:
-    """A stamp lies at most an eighth of a pixel aside, so that pixels at its edge differ a little."""
+    """A stamp is off by at most an eighth of a pixel, so pixels at its edge differ a little."""
     town.matrix(town_matrix(True))
     drawn = (
         "page.many = arguments[0]; page.radius = () => 3; page.drawing.draw();"
@@ -325,7 +325,7 @@ def test_points_alone_as_squares_and_a_new_line(town: Town, browser: Browser) ->
 
 
 def test_a_plan_brings_its_scenario_files_and_leaves_the_base_out(town: Town, browser: Browser) -> None:
-    """Route Q gives way to others on A, B and C, and no longer goes to D; what is new stands in trip T."""
+    """Route Q gives way to others on A, B and C, and no longer goes to D; the new calls are those of trip T."""
     town.matrix(town_matrix(True, {"base": TOWN["base"], "today": TOWN["cut"], "tram": TOWN["base"]}))
     (town.folder / "scenarios").mkdir()
     town.write("scenarios/today.csv", "action,id,seconds", [["remove_trip", "T", ""]])

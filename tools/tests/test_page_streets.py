@@ -1,4 +1,4 @@
-"""Areas along streets on the page, in a real browser: by hand, and beside the search of `isochrones`."""
+"""Areas along streets on the page, in a real browser: by hand, and compared with the search of `isochrones`."""
 
 import random
 from pathlib import Path
@@ -44,7 +44,7 @@ def opened(browser: Browser, path: Path, arguments: str) -> None:
 
 
 def is_painted(browser: Browser, north: float, east: float) -> bool:
-    """Whether there is a colour so many metres from A."""
+    """Whether there is a colour at these metres from A."""
     return bool(browser.run(AT, north * METRE, 9 + east * METRE))
 
 

@@ -1,4 +1,4 @@
-"""From door to door: the folder of points by hand, what is refused, and travel times beside a second program."""
+"""From door to door: the folder of points by hand, what is refused, and travel times as a second program finds them."""
 
 import csv
 import json

@@ -1,5 +1,5 @@
-"""Feeds that are clipped: by hand; and on drawn feeds, beside the program with the same feed in which nobody boards or
-alights outside.
+"""Clipped feeds: by hand; and on drawn feeds, compared with the program's matrix of the whole feed without boarding and
+alighting outside.
 """
 
 import csv

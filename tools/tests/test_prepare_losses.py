@@ -1,4 +1,4 @@
-"""What a repair leaves of a feed, and that one which takes much of it, or all, ends with the status 1."""
+"""How much of a feed a repair leaves; one that removes much of it, or all, ends with status 1."""
 
 import csv
 from typing import Sequence

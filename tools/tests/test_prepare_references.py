@@ -1,4 +1,4 @@
-"""Feeds that are clipped or merged stay feeds by the reference: what refers to what went goes too, or is told."""
+"""Feeds that are clipped or merged stay feeds by the reference: no record refers to a removed one without a report."""
 
 from pathlib import Path
 

@@ -41,7 +41,7 @@ def feed(room: Room) -> Room:
 
 
 def written(room: Room, *arguments: str, feed: str = "in") -> list[str]:
-    """The lines that tell what was done; a repair of so few records takes much of them."""
+    """The lines that report what was done; a repair of only a few records takes much of them."""
     arguments = (*arguments, *(["--allow-loss"] if "--repair" in arguments else []))
     out, errors, status = room.ran("prepare", "--out", room.path("out"), *arguments, room.path(feed))
     assert (out, status) == ("", 0), errors

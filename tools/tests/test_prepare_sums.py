@@ -1,4 +1,4 @@
-"""What a careless feed would change without a word: padded fields, decimal commas, open quotes, old copies, plans."""
+"""Careless feeds change nothing without a report: padded fields, decimal commas, open quotes, old copies, plans."""
 
 import shutil
 from pathlib import Path

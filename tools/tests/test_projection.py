@@ -63,7 +63,7 @@ def test_vehicle_kilometres_are_those_on_the_ground(room: Room, others: list[lis
 @pytest.mark.parametrize("others", OTHERS)
 def test_an_isochrone_has_the_area_on_the_ground(room: Room, others: list[list[Any]]) -> None:
     pytest.importorskip("shapely")
-    # A and B are 900 metres apart; one walks on for 500 metres from each, at a metre a second
+    # A and B are 900 metres apart; 500 metres are left to walk on from each, at a metre a second
     stops = [["A", 60.0, 10.0], ["B", *place(60, 10, 0, 900)], *others]
     room.write("stops.txt", "stop_id,stop_lat,stop_lon", stops)
     names = [str(stop[0]) for stop in stops]
@@ -80,7 +80,7 @@ def test_an_isochrone_has_the_area_on_the_ground(room: Room, others: list[list[A
     corners = math.sin(2 * math.pi / 48) / (2 * math.pi / 48)  # a circle has 48 corners
     wanted = 2 * math.pi * 0.5**2 * corners - lens
     assert area["properties"]["square_km"] == pytest.approx(wanted, rel=2e-3)
-    # the same by the corners that the file states
+    # again, by the corners that the file states
     (north, east), (polygon,) = radii(60), area["geometry"]["coordinates"]
     ring = np.radians(np.array(polygon[0]) - [10, 60]) * [east, north] / 1000
     drawn = abs(np.sum(ring[:-1, 0] * ring[1:, 1] - ring[1:, 0] * ring[:-1, 1])) / 2

@@ -137,7 +137,7 @@ def warnings_of(network: r5py.TransportNetwork, origins: Any, departure: datetim
 
 
 def test_places_without_a_stop_in_reach_are_a_warning(network: r5py.TransportNetwork) -> None:
-    # the middle is 1,000 metres from both A and B, and one walks 900
+    # the middle is 1,000 metres from both A and B, and walks end at 900
     both = frame([HOME, (0.0, 1000.0)], ["home", "middle"])
     wanted = ["origins: 1 place without a stop in reach: middle"]
     assert warnings_of(network, both, SEVEN_45) == wanted
@@ -163,7 +163,7 @@ def test_walking_alone_takes_the_streets(walking: r5py.TransportNetwork) -> None
 def test_walking_is_the_same_from_a_network_with_vehicles(network: r5py.TransportNetwork) -> None:
     result = from_home(network, transport_modes=WALK, max_time_walking=120 * MINUTE)
     assert minutes(result) == [74]
-    # who may walk so far still takes the buses, which are faster
+    # travellers who may walk this far still take the buses, which are faster
     assert minutes(from_home(network, max_time_walking=120 * MINUTE, departure_time_window=MINUTE)) == [46]
 
 

@@ -1,4 +1,4 @@
-"""Travel times by r5py's names beside `ttm`'s own for the same points, minute by minute, in drawn towns."""
+"""Travel times by r5py's names compared with `ttm`'s own for the same points, minute by minute, in drawn towns."""
 
 import csv
 import datetime
@@ -97,7 +97,7 @@ def minute_by_minute(room: Room, program: str, feed: str, streets: str, ends: tu
 
 
 def nearest_rank(seconds: list[float], percentile: int) -> float | None:
-    """The minutes of the least time that so many percent of all departures attain, below two hours."""
+    """The minutes of the least time that this percentage of all departures attain, below two hours."""
     ordered = sorted(math.inf if math.isnan(second) else second for second in seconds)
     found = ordered[math.ceil(percentile * len(ordered) / 100) - 1]
     return found // 60 if found < 7200 else None

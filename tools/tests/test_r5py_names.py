@@ -11,7 +11,7 @@ for package in ("geopandas", "osmium", "scipy", "pyproj"):
 
 from ttm_tools import r5py  # noqa: E402
 
-NEEDED, NOW = "needed", "now"  # in place of a default
+NEEDED, NOW = "needed", "now"  # instead of a default
 HOURS, MINUTES = datetime.timedelta(hours=2), datetime.timedelta(minutes=10)
 ENDS = {"transport_network": NEEDED, "origins": None, "destinations": None, "snap_to_network": False}
 SIGNATURES: dict[str, dict[str, Any]] = {

@@ -117,7 +117,7 @@ def test_journeys_by_other_vehicles_or_on_foot_are_further_options(room: Room, n
     more: Any = {**QUARTER, "max_time_walking": 120 * MINUTE, "departure_time_window": 30 * MINUTE}
     result = r5py.DetailedItineraries(network, frame([HOME], ["home"]), frame([CLINIC], [7]), **more)
     found = result.groupby("option").transport_mode.apply(lambda modes: [mode.name for mode in modes])
-    # later than 07:54 one walks all the way, or to B for T2, which 2,360 seconds are too long for from 07:36 on
+    # after 07:54 all is walked, or a walk to B meets T2, which takes more than 2,360 seconds from 07:36 on
     assert found.tolist() == [["WALK", "BUS", "TRAM", "WALK"], ["WALK"]]
     assert result[result.option == 1].departure_time.tolist() == [pandas.Timestamp(2026, 5, 4, 8, 14)]
     assert result[result.option == 1].travel_time.tolist() == [4459 * SECOND]

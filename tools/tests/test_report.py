@@ -1,4 +1,4 @@
-"""A study's report on a screen, a phone and paper, and its counts beside those of the other commands."""
+"""A study's report on a screen, a phone and paper, and its counts compared with those of the other commands."""
 
 import re
 from pathlib import Path
@@ -49,7 +49,7 @@ def report(room: Room) -> Path:
 
 
 def beyond(browser: Browser, right: int) -> list[str]:
-    """The texts that reach beyond so many pixels."""
+    """The texts that reach beyond this number of pixels."""
     script = "return [...document.querySelectorAll('td, th, caption, pre, p, h1, h2')].filter((it) =>"
     return list(
         browser.run(script + " it.getBoundingClientRect().right > arguments[0]).map((it) => it.innerText)", right)

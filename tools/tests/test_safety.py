@@ -1,4 +1,4 @@
-"""What a person's inputs never do: run in a page, become mathematics of a picture, or get lost without a line."""
+"""Inputs never run in a page, become mathematics of a picture, or get lost without a line."""
 
 import random
 import subprocess

@@ -1,4 +1,4 @@
-"""Plans and the feeds that are made of them: each action with numbers by hand, what is told, and what is refused."""
+"""Plans and their feeds: each action with numbers by hand, what is reported, and what is refused."""
 
 import csv
 import random
@@ -58,7 +58,7 @@ def plan_of(room: Room, *actions: str, before: str = "") -> str:
 
 
 def made(room: Room, *actions: str, before: str = "") -> tuple[dict[str, list[str]], list[str]]:
-    """The calls of each trip of the feed in which the actions were carried out and nothing else, and what was told."""
+    """The calls of each trip of the feed with nothing but the actions carried out, and what was reported."""
     plan = plan_of(room, *actions, before=before)
     out, errors, status = room.ran("scenarios", room.path("feed"), plan, "--only", "new", "--out", room.path("out"))
     assert (out, status) == ("", 0), errors
@@ -66,7 +66,7 @@ def made(room: Room, *actions: str, before: str = "") -> tuple[dict[str, list[st
 
 
 def calls(room: Room, folder: str) -> dict[str, list[str]]:
-    """The calls of each trip of a feed: stop, arrival, and departure where that is another time."""
+    """The calls of each trip of a feed: stop, arrival, and departure if that is another time."""
     found: dict[str, list[str]] = {}
     with open(room.folder / folder / "stop_times.txt", newline="") as file:
         for row in csv.DictReader(file):
@@ -228,7 +228,7 @@ def test_a_route_goes_on_and_begins_earlier(small: Room) -> None:
         "N 08:35:30",
     ]
     found = [row for row in rows(small, "out/stop_times.txt") if row["trip_id"] == "Q1"]
-    assert {(row["pickup_type"], row["drop_off_type"]) for row in found} == {("", "")}  # it goes on, so one may board
+    assert {(row["pickup_type"], row["drop_off_type"]) for row in found} == {("", "")}  # boarding is allowed
 
 
 def test_a_route_ends_earlier_and_begins_later(small: Room) -> None:

@@ -1,4 +1,4 @@
-"""Drawn plans over drawn feeds, beside the built program; `tests/program/drawn_trials.py` tries more of them."""
+"""Drawn plans over drawn feeds, compared with the built program; `tests/program/drawn_trials.py` tries more of them."""
 
 from pathlib import Path
 

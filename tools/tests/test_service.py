@@ -1,4 +1,4 @@
-"""What runs on a day: by hand on three stops, and beside plain loops on drawn runs."""
+"""Service of a day: by hand on three stops, and compared with plain loops on drawn runs."""
 
 import random
 from pathlib import Path

@@ -1,4 +1,4 @@
-"""Who loses and who gains: map, page, report and tables go by one definition."""
+"""Losers and winners: map, page, report and tables have one definition."""
 
 import random
 import re

@@ -12,7 +12,7 @@ CLOSED = "standard output is closed"
 
 
 def shell(words: str, where: Path) -> tuple[int, str, str]:
-    """The status and both outputs of a command in a shell; TOOLS stands for the launcher."""
+    """The status and both outputs of a command in a shell; TOOLS is the launcher."""
     command = words.replace("TOOLS", f"{sys.executable} {LAUNCHER}")
     ran = subprocess.run(["sh", "-c", command], cwd=where, capture_output=True, text=True)
     return ran.returncode, ran.stdout, ran.stderr

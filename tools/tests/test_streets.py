@@ -1,4 +1,4 @@
-"""Walks along streets: by hand on a block with a river, and on drawn networks beside networkx."""
+"""Walks along streets: by hand on a block with a river, and on drawn networks compared with networkx."""
 
 import csv
 import math
@@ -184,7 +184,7 @@ def network(nx: Any, nodes: dict[int, tuple[float, float]], ways: list[Way], pla
 
 
 def join(graph: Any, one: Any, other: Any, metres: float, one_way: bool = False) -> None:
-    """Adds a connection in one direction or in both, where there is none that is as short."""
+    """Adds a connection in one direction or in both, unless there is one as short."""
     for begin, end in [(one, other)] if one_way else [(one, other), (other, one)]:
         if not graph.has_edge(begin, end) or graph[begin][end]["weight"] > metres:
             graph.add_edge(begin, end, weight=metres)

@@ -90,7 +90,7 @@ class Place(Room):
         return str(path)
 
     def made(self, out: str = "nine") -> dict[str, bytes]:
-        """All files of the study's folder but for what tells of times, with their bytes."""
+        """All files of the study's folder with their bytes, without those that have times."""
         folder = self.folder / out
         found = {str(path.relative_to(folder)): path for path in folder.rglob("*") if path.is_file()}
         contents = {
@@ -169,7 +169,7 @@ def test_the_matrix_is_that_of_one_run_and_every_result_is_there(place: Place, p
     for printed in ("Who loses if Q goes?", "18 fields repaired", sha256_of_file(place.path("jobs.csv")), "proved"):
         assert printed in report
     assert {"access.csv", "equity.csv", "maps/access.png", "maps/access_cut.png", "matrix.omx"} < set(files)
-    # who sets out from S0 after 08:00 reaches S1 on foot and nothing else today: 0.4 and 100.4 jobs
+    # departures from S0 after 08:00 reach S1 on foot and nothing else today: 0.4 and 100.4 jobs
     assert files["access.csv"].splitlines()[1:3] == [b"base,S0,jobs,25,10,100.8", b"base,S0,jobs,25,30,100.8"]
 
 
@@ -238,7 +238,7 @@ def test_a_part_of_other_inputs_or_with_other_bytes_is_never_taken(place: Place,
     parts = place.folder / "nine/parts"
 
     def computed() -> list[str]:
-        """The parts that are made when the matrix is lost."""
+        """The parts that are computed again when the matrix is lost."""
         before = {path: path.stat().st_mtime_ns for path in sorted(parts.glob("*/matrix.csv"))}
         (place.folder / "nine/matrix.omx").unlink()
         make_study(study, place.folder / "nine", ExecutorOptions(2))
@@ -420,7 +420,7 @@ def test_more_processes_than_before_stay_within_the_memory() -> None:
 def test_how_many_parts_are_done_is_told_with_the_time_that_is_left(
     capsys: pytest.CaptureFixture[str], monkeypatch: pytest.MonkeyPatch
 ) -> None:
-    # one ends in each 61 seconds of the clock; of the last one nothing is told
+    # a part ends every 61 seconds; the last is not reported
     clock = iter([0.0, 61.0, 122.0, 183.0])
     monkeypatch.setattr("ttm_tools.study.executors.local.time", SimpleNamespace(monotonic=lambda: next(clock)))
     assert list(shown(iter([None] * 3), 3)) == [None] * 3

@@ -66,7 +66,7 @@ def interrupt_when(*conditions: Callable[[], bool]) -> None:
 
 
 def when_told(monkeypatch: pytest.MonkeyPatch, act: Callable[[], None]) -> None:
-    """Does something as soon as it is told that the parts that run are waited for."""
+    """Calls `act` as soon as the study says that it waits for running parts."""
 
     def tell(count: int) -> None:
         log_ending(count)

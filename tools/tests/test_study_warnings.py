@@ -6,7 +6,7 @@ import pytest
 
 from test_study import NO_MAPS, STOPS, Place, place  # noqa: F401
 
-OF_DAYS = ("runs from ", "runs on ")  # in the report what ttm says of the days stands there
+OF_DAYS = ("runs from ", "runs on ")  # the report has what ttm says of the days
 
 
 def with_oddities(room: Place, study: str) -> str:

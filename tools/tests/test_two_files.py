@@ -1,4 +1,4 @@
-"""Two matrices, or two tables, one beside the other: matched by identifiers, and what only one has is told."""
+"""Two matrices, or two tables, compared: matched by identifiers; what is in only one of them is reported."""
 
 import json
 from pathlib import Path

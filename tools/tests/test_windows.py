@@ -41,7 +41,7 @@ ONE = 'date = 2026-05-04\nfrom = "08:00"\nto = "08:04"\nshares = [25, 50]\nlimit
 SEVERAL = f"dates = [2026-05-04, 2026-05-05]\n{WINDOWS}\nlimits = [600, 1800]\n"
 DAY = STUDY.replace(ONE, SEVERAL).replace("csv = true", "compare = false\nmaps = false")
 NIGHT = (100.8 + 50400 + 42 + 9 * 1500.8) / 45  # everyone reaches the own stop and its neighbours
-EARLY = NIGHT + (500.8 + 2 * 300.4) / 45  # from S0 and from S1 one gets to S3 by bus, too
+EARLY = NIGHT + (500.8 + 2 * 300.4) / 45  # S3 is reached by bus from S0 and from S1, too
 
 
 def laid_out(place: Place, study: str = DAY) -> str:  # noqa: F811

@@ -5,8 +5,8 @@ from ..core.console import say
 from ..core.errors import ArgumentError, needs
 from ..core.folders import scratch
 from ..core.limits import MOST_PORT
-from ..core.shipped import LEAFLET
 from ..core.ranges import Range
+from ..core.shipped import LEAFLET
 from .backgrounds import add_ground, add_tiles, check_tiles
 from .options import Parser, decimals
 
@@ -62,7 +62,7 @@ def describe(parser: Parser) -> None:
 def options_of(args: argparse.Namespace) -> "ExploreOptions":
     from datetime import date
 
-    from ..web.from_study import options_of_study
+    from ..study.explored import options_of_study
     from ..web.options import OF_NO_OPTION, ExploreOptions
 
     is_study = args.feed.endswith(".toml")

@@ -115,7 +115,7 @@ class Question:
         if self.max_travel is not None:
             checked["max_travel"] = checked_duration("max_travel", self.max_travel, MAX_TRAVEL)
         for name, value in checked.items():
-            object.__setattr__(self, name, value)  # the class is frozen for everybody else
+            object.__setattr__(self, name, value)  # the class is frozen for all others
 
     @classmethod
     def starting(cls, departure: dt.datetime, window: Duration = "1 h", **settings: Any) -> "Question":

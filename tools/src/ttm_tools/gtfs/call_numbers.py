@@ -45,7 +45,7 @@ class Stated:
     trip: Narrow  # -1 for one that isn't there
     stop: Codes  # -1 for one that isn't there, NO_STOP where none is named
     sequence: npt.NDArray[np.uint32]
-    arrive: Narrow  # -2 where there is no time
+    arrive: Narrow  # -2 for no time
     depart: Narrow
 
 

@@ -37,7 +37,7 @@ class Calls:
 
     @cached_property
     def before(self) -> Whole:
-        """For each call the place of the last timed one before it on its trip, -1 where there is none."""
+        """The index of the last timed call before each call on its trip, -1 if there is none."""
         places = np.arange(len(self.rows))
         before = np.append(-1, np.maximum.accumulate(np.where(self.timed, places, -1)))[:-1]
         start = np.maximum.accumulate(np.where(self.is_first, places, 0))

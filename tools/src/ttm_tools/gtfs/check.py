@@ -1,5 +1,7 @@
-"""All faults for which `ttm` would refuse a feed, in its order: by file, by record, by check. Of a field that fails
-several checks the first is a fault. What refers to a file that isn't there, or that lacks a column, isn't looked at.
+"""All faults for which `ttm` would refuse a feed, in its order: by file, by record, by check.
+
+A field that fails several checks has one fault, that of the first. References to a file that is missing, or lacks a
+column, are not checked.
 """
 
 import itertools
@@ -38,7 +40,7 @@ class FeedError:
 
     table: Table
     what: str  # in the words of `ttm`
-    column: str  # "" where it is none in particular
+    column: str  # "" for none in particular
     allowed: str
     rows: Whole  # places of records in the table
     ranks: Whole  # where each stands among all of the file, a lesser one being reported first
@@ -49,7 +51,7 @@ class FeedError:
 
     @property
     def records(self) -> Whole:
-        """The numbers of the records; the header where it is the file's."""
+        """The numbers of the records; that of the header if the whole file is meant."""
         return self.table.records[self.rows] if len(self.rows) else np.ones(1, np.int64)
 
     @property
@@ -64,7 +66,7 @@ class FeedError:
         return f"ttm: {self.table.name}: {record}{self.what}"
 
     def value(self, place: int = 0) -> str | None:
-        """What stands in the field."""
+        """The text of the field."""
         return self.table.text(self.column, int(self.rows[place])) if self.column and len(self.rows) else None
 
 
@@ -112,7 +114,7 @@ class Checks:
 
 def check(feed: Feed) -> list[FeedError]:
     """All faults of a feed: one for each check that fails, the first in the order of `ttm` first."""
-    none = np.zeros(0, np.int64)  # `ttm` reads all files before it looks at one
+    none = np.zeros(0, np.int64)  # `ttm` reads all files before it checks one
     allowed = "a file has to be there, and it is a folder"
     unread = [
         FeedError(no_table(name, path), UNREAD, "", allowed, none, none, True) for name, path in feed.unread.items()
@@ -162,7 +164,7 @@ def faults_in(feed: Feed, name: str) -> list[FeedError]:
         return [FeedError(table, "missing column", "", allowed, none, none)]
     checks = Checks(table)
     CHECKS[name](feed, checks)
-    if name == "stop_times.txt":  # once the columns that its checks looked at are gone
+    if name == "stop_times.txt":  # now that the columns of its checks are freed
         checks.found += whole_trips(feed, table)
     return checks.found
 
@@ -250,7 +252,7 @@ def too_many_footpaths(feed: Feed, table: Table) -> Iterator[FeedError]:
 
 
 def footpaths_of(table: Table, stops: Table) -> Whole:
-    """How many footpaths each row of transfers.txt makes; a station stands for its children, another place for none."""
+    """The number of footpaths of each row of transfers.txt; a station has those of its children, other places none."""
     places = {stop: place for place, stop in reversed(list(enumerate(stops.texts("stop_id"))))}  # the first of several
     called, is_station = is_stop(stops), values_of(stops["location_type"], number) == 1
     parents = positions_of(stops["parent_station"], places)

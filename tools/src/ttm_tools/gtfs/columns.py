@@ -34,7 +34,7 @@ class Column:
 
 
 class Texts(Protocol):
-    """What a column is looked at as: `Column` itself, and a column of a part of a file."""
+    """A column of texts: `Column` itself, or a column of a part of a file."""
 
     @property
     def categories(self) -> npt.NDArray[np.object_]:
@@ -76,7 +76,7 @@ def clocks(seconds: Whole) -> Column:
 
 
 def renamed(column: Column, texts: Sequence[str]) -> Column:
-    """A column with other texts in place of its own, of which several may become one."""
+    """A column with its texts replaced; several may be replaced by the same."""
     return coded(texts).at(column.codes)
 
 

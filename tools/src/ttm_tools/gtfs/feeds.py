@@ -1,4 +1,4 @@
-"""A published feed: from a zip file or a folder, with a folder inside where there is one; and back to files."""
+"""Reads a published feed from a zip file or folder, which may have the files in a folder inside, and writes it."""
 
 import os
 from dataclasses import dataclass, field
@@ -110,8 +110,10 @@ def files_in(folder: Path) -> Iterator[Path]:
 
 
 def files_of(path: Path, members: Sequence[str]) -> dict[str, str]:
-    """The files of the feed among those of a zip file or folder, by name. They lie in one folder: the only one with
-    trips and their stop times, or where none has these the one with the most files of a feed.
+    """The files of the feed among those of a zip file or folder, by name.
+
+    They are in one folder: the only one with trips and their stop times or, if none has these, the one with the most
+    files of a feed.
     """
     folders: dict[str, dict[str, str]] = {}
     for file in members:

@@ -64,7 +64,7 @@ def time(text: str) -> int:
 
 
 def date(text: str) -> int:
-    """YYYYMMDD as a number, where that is a day of the Gregorian calendar; the year 0000 is one to `ttm`."""
+    """YYYYMMDD as a number, if it is a day of the Gregorian calendar; `ttm` takes the year 0000, too."""
     trimmed = text.strip(" ")
     if not trimmed:
         return EMPTY

@@ -14,10 +14,10 @@ from .reading import columns
 from .tables import Table
 from .timetable import Timetable
 
-NO_CHANGE = 16_777_216  # seconds: a change time that lets nobody change
+NO_CHANGE = 16_777_216  # seconds: a change time with which no change is possible
 AT_ONCE = 1 << 18  # walks that are lengthened at once, about
 NO_STOP, SEVERAL = -1, -2
-Ends = Mapping[str, Sequence[int]]  # the stops that an end of a stated walk stands for
+Ends = Mapping[str, Sequence[int]]  # the stops of each place that a stated walk may name
 
 
 @dataclass(frozen=True)
@@ -58,7 +58,7 @@ def direct_walks(timetable: Timetable, footpaths: str | None, limit: int) -> tup
 
 
 def ends_of(timetable: Timetable) -> Ends:
-    """The stops that an end of a walk stands for: itself, or the stops of a station."""
+    """The stops of each place that a walk may name: the stop itself, or those of a station."""
     known, all_stops = {name: place for place, name in enumerate(timetable.stops)}, timetable.all_stops
     ends = {name: [place] for name, place in known.items()}
     stations = {name for name, kind in zip(all_stops.identifiers, all_stops.kinds.tolist()) if kind == 1}
@@ -69,7 +69,7 @@ def ends_of(timetable: Timetable) -> Ends:
 
 
 def stated_walks(origin: Column, target: Column, seconds: Column, ends: Ends) -> Footpaths:
-    """The walks that records state, by the stops that their ends stand for."""
+    """The walks that records state, between the stops of the places that they name."""
 
     def place_of(text: str) -> int:
         stops = ends.get(text, ())

@@ -91,7 +91,7 @@ def plain(name: str) -> str:
 
 
 def places_of(table: Table) -> tuple[Floats, Floats]:
-    """Latitudes and longitudes of all locations, NaN where one has no place."""
+    """Latitudes and longitudes of all locations, NaN without a place."""
     places = np.array(list(map(place_of, table.texts("stop_lat"), table.texts("stop_lon"))), np.float64).reshape(-1, 2)
     return places[:, 0], places[:, 1]
 

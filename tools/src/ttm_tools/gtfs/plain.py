@@ -42,7 +42,7 @@ class Piece:
         return column_of(texts_of(self.words), self.codes).categories
 
     def used_by(self, codes: Codes) -> "Piece":
-        """The same with the texts alone that some lines have, and these lines."""
+        """The piece with some of its lines, and only the texts that these have."""
         used = np.flatnonzero(np.bincount(codes, minlength=len(self.words[0])))
         taken = np.zeros(len(self.words[0]), np.int64)
         taken[used] = np.arange(len(used))
@@ -130,8 +130,10 @@ def distinct(columns: Sequence[Words]) -> tuple[Places, Places]:
 
 
 def firsts_of(columns: Sequence[Words]) -> Places:
-    """Of each row the first one with the same words. In each turn the rows lie in drawers by a product of their words;
-    those that have the words of the first one in their drawer are done.
+    """The first row with the same words, for each row.
+
+    Rows are hashed into buckets. Those that equal the first row of their bucket are done; the others are hashed again
+    with other factors.
     """
     numbers, left = np.zeros(len(columns[0]), np.int64), np.arange(len(columns[0]))
     draw = np.random.default_rng(len(left))

@@ -1,4 +1,4 @@
-"""Columns of a file: by numpy where it is plain, by pandas where it is long and isn't, else record by record.
+"""Reads columns of a file: a plain file by numpy, another long file by pandas, all others record by record.
 
 pandas takes a million records at a time. It doesn't take records with more fields than the header, and some quotes;
 such a file is read record by record too.
@@ -51,7 +51,7 @@ def columns_of(path: str | Path, needed: Sequence[str], keep: Keep) -> tuple[Col
 
 
 def plain_columns(path: str | Path, needed: Sequence[str], keep: Keep) -> tuple[Columns, Whole]:
-    """The same of a plain file."""
+    """Columns of a plain file, and the numbers of its records."""
     count, name = os.path.getsize(path) // BLOCK, os.path.basename(path)
     found: dict[str, list[Piece]] = {name: [] for name in needed}
     numbers, first = [np.zeros(0, np.int64)], 2

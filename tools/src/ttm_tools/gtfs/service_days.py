@@ -13,7 +13,7 @@ from .feeds import Feed, names_in
 from .fields import WEEKDAYS, date, number, time
 
 ORIGIN = datetime.date(1, 1, 1).toordinal()
-MOST_DAYS = 40_000  # of a calendar's rows; a longer one is endless, and looked at between these days
+MOST_DAYS = 40_000  # of a calendar; a longer one counts as endless, and is read around the days that are asked for
 ENDLESS = datetime.date(1990, 1, 1).toordinal(), datetime.date(2049, 12, 31).toordinal()
 
 

@@ -25,13 +25,13 @@ class Stops:
 
     path: str
     identifiers: list[str]
-    names: list[str]  # for people; the identifier where there is none
+    names: list[str]  # for people; the identifier if there is none
     latitudes: Floats  # degrees; NaN where the feed has no place, none on earth, or 0 and 0, as some feeds write that
     longitudes: Floats  # the same
-    kinds: npt.NDArray[np.int8]  # location_type; -1 where it is none
+    kinds: npt.NDArray[np.int8]  # location_type; -1 for a text that is none
     stations: list[str]  # parent_station, "" where none is named
-    widths: Floats | None = None  # of cells that are drawn in place of marks, metres; NaN where there is none
-    heights: Floats | None = None  # of these cells, metres; NaN where one is as high as it is wide
+    widths: Floats | None = None  # metres, of cells that are drawn instead of marks; NaN for a stop without a cell
+    heights: Floats | None = None  # metres, of these cells; NaN for a square
     areas: Mapping[str, Area] = field(default_factory=dict)  # of cells that have another shape, by identifier
 
     @cached_property
@@ -99,7 +99,7 @@ def place_of(latitude: str, longitude: str) -> tuple[float, float]:
 
 
 def kind_of(text: str) -> int:
-    """A location_type: 0 where it is empty, -1 where it is none that the reference names."""
+    """A location_type: 0 for an empty text, -1 for one that the reference doesn't name."""
     kind = fields.number(text)
     return 0 if kind == fields.EMPTY else kind if kind <= 4 else fields.NONE
 

@@ -51,7 +51,7 @@ class Table:
         return names_of(self.source) if self.apart and self.source is not None else self.columns
 
     def with_all_columns(self) -> "Table":
-        """The same with all columns of the file."""
+        """This table with all columns of its file."""
         return read_table(self.name, self.source) if self.apart and self.source is not None else self
 
     def text(self, name: str, row: int) -> str:
@@ -94,7 +94,7 @@ class Table:
 
 
 def unnumbered(count: int) -> Whole:
-    """The numbers of records that nobody needs: they take no memory."""
+    """Record numbers for a table that needs none; they take no memory."""
     return np.broadcast_to(np.zeros(1, np.int64), (count,))
 
 

@@ -24,7 +24,7 @@ from .tables import Table
 
 DAY = 86_400
 NOT_ALLOWED = 1  # a pickup_type or drop_off_type
-ALLOWED = ("pickup_type", "drop_off_type")  # columns that say whether one may board, and alight
+ALLOWED = ("pickup_type", "drop_off_type")  # columns that say whether boarding and alighting are allowed
 
 
 @dataclass(frozen=True)
@@ -35,7 +35,7 @@ class Events:
     stop: Codes  # places among the stops at which vehicles call
     arrive: Codes  # seconds since midnight of the service day
     depart: Codes
-    board: Mask  # whether one may board
+    board: Mask  # whether boarding is allowed
     alight: Mask
 
     @cached_property
@@ -88,7 +88,7 @@ def read_timetable(all_stops: Stops) -> Timetable:
 
 
 def narrow_events(calls: CallNumbers, table: Table) -> Events:
-    """The events of some calls, with the columns of their file that say where one may board and alight."""
+    """The events of some calls; the columns of their file say where boarding and alighting are allowed."""
     allowed = [match_values(table[name], lambda text: number(text) != NOT_ALLOWED) for name in ALLOWED]
     board, alight = allowed if isinstance(calls.rows, range) else (column[calls.rows] for column in allowed)
     return Events(calls.begins, calls.stop, calls.arrive, calls.depart, board, alight)

@@ -53,7 +53,7 @@ class ExplainOptions:
     arguments: str  # the other arguments
 
     def clock(self, seconds: int) -> str:
-        """A time on the axis, by the clock of the date."""
+        """A time of the axis as HH:MM:SS of the date."""
         seconds_of_day = seconds - DAY * self.back
         sign, seconds_of_day = ("-", -seconds_of_day) if seconds_of_day < 0 else ("", seconds_of_day)
         return f"{sign}{as_clock(seconds_of_day)}"

@@ -1,4 +1,4 @@
-"""What a search for journeys goes through: the events of runs on the axis of times, with walks and changes, in arrays.
+"""The network that journeys are searched in: events of runs on the axis of times, walks and change times, as arrays.
 
 There are millions of events, so each takes 18 bytes, and they are chosen from the timetable some at a time.
 """
@@ -24,7 +24,7 @@ Columns = tuple[Narrow, Codes, Narrow, Narrow, Mask, Mask]  # run, stop, arrival
 
 @dataclass(frozen=True)
 class SearchNetwork:
-    """Events of runs on the axis of times, run after run, and how one walks and changes."""
+    """Events of runs on the axis of times, run after run, with walks and change times."""
 
     run: Narrow  # of each event the run, ascending
     begin: Narrow  # of each event the place of its run's first event that is there
@@ -42,7 +42,7 @@ class SearchNetwork:
 
     @cached_property
     def walks_to_vehicles(self) -> tuple[Footpaths, Places, Places]:
-        """The walks that end where one can board something, by their ends; where each end begins, and these ends."""
+        """The walks to stops where a vehicle can be boarded, sorted by stop; where each stop's begin; the stops."""
         boarded = np.zeros(len(self.changes), dtype=np.bool_)
         boarded[self.stop[self.board]] = True
         walks = self.walks.of(boarded[self.walks.end])
@@ -54,7 +54,7 @@ class SearchNetwork:
         return self.only((self.depart >= first) & (self.arrive <= last))
 
     def taken_by(self, ready: Narrow) -> "SearchNetwork":
-        """What somebody can take who is ready to board at each stop at these times or later."""
+        """The events of vehicles that a traveller who is ready at the stops at these times can still take."""
         return self.only(self.aboard(ready) | (self.board & (ready[self.stop] <= self.depart)))
 
     def only(self, kept: Mask) -> "SearchNetwork":
@@ -63,15 +63,16 @@ class SearchNetwork:
         return SearchNetwork(run, first_of_each(run), stop, *times, board, alight, self.walks, self.changes)
 
     def mirrored(self) -> "SearchNetwork":
-        """The same with time running backwards: a journey becomes one from its end to its start."""
+        """The network with time reversed: each journey becomes one from its end to its start."""
         run, stop, board, alight = self.run[::-1], self.stop[::-1], self.alight[::-1], self.board[::-1]
         times = -self.depart[::-1], -self.arrive[::-1]
         walks = Footpaths(self.walks.end, self.walks.begin, self.walks.seconds)
         return SearchNetwork(run, first_of_each(run), stop, *times, board, alight, walks, self.changes)
 
     def walked(self, times: Narrow) -> Narrow:
-        """The least time of each stop at the end of a walk from where others have these times; of a stop where one can
-        board nothing NEVER.
+        """The earliest time at which a walk reaches each stop, given the times at which the walks' starts are left.
+
+        It is NEVER for a stop at which no vehicle can be boarded.
         """
         walks, begins, ends = self.walks_to_vehicles
         return least_of(times[walks.begin] + walks.seconds, begins, ends, len(times))
@@ -83,7 +84,7 @@ class SearchNetwork:
         return least_of(times[order], begins, stops, len(ready))
 
     def aboard(self, ready: Narrow) -> Mask:
-        """Whether somebody who boarded at an event before sits in the vehicle when it comes to an event."""
+        """Whether a traveller who boarded at an earlier event is in the vehicle at each event."""
         places, ridden = np.arange(len(self.stop), dtype=np.int32), np.zeros(len(self.stop), dtype=np.bool_)
         caught = np.where(self.board & (ready[self.stop] <= self.depart), places, np.int32(-1))
         np.maximum.accumulate(caught, out=caught)
@@ -107,8 +108,9 @@ def groups_of(keys: Codes) -> tuple[Places, Places, Places]:
 
 
 def least_of(values: Codes, begins: Places, keys: Places, count: int) -> Narrow:
-    """The least value of each key, NEVER where there is none: the values stand by their keys, each of which begins
-    somewhere.
+    """The least value of each key, NEVER for a key without values.
+
+    The values are sorted by key; those of `keys[i]` begin at `begins[i]`.
     """
     least = np.full(count, NEVER, np.int32)
     if len(keys):
@@ -118,7 +120,7 @@ def least_of(values: Codes, begins: Places, keys: Places, count: int) -> Narrow:
 
 @dataclass(frozen=True)
 class Schedule:
-    """All runs of some days from a time on, how one walks, and how one changes."""
+    """All runs of some days from a time on, with walks and change times."""
 
     events: Events  # of trips
     runs: Runs
@@ -139,8 +141,9 @@ class Schedule:
 
 
 def chosen_events(events: Events, runs: Runs, first: int, last: int, count: int) -> Iterator[Columns]:
-    """The events of runs that depart, or arrive, between two times, some runs at a time; before the runs so many others
-    are numbered. The first columns have none, so that there are some.
+    """Yields the events of runs that depart or arrive between two times, some runs at a time.
+
+    Runs are numbered from `count` on. The first columns are empty, so that there is always one.
     """
     trip, shift = runs.trip, runs.shift
     chosen = np.flatnonzero((events.latest[trip] + shift >= first) & (events.earliest[trip] + shift <= last))

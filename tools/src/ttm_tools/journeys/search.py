@@ -1,8 +1,8 @@
 """The journey behind a cell: a second search, by the definitions of docs/explanation/definitions.md, apart from `ttm`.
 
-Round by round of rides each stop gets the least time at which a ride ends there, from all events, by arrays.
-Who sets out later is nowhere earlier; so once the last departure that gets there is known, only what runs until its
-arrival counts for those before it, and nothing that the first of them can't take. None of this is proved.
+Each round of rides computes the earliest time at which a ride ends at each stop, from all events, by arrays. A later
+departure arrives nowhere earlier. So once the last departure that gets there is known, the search of those before it
+ends at its arrival, and leaves out what the first of them can't catch. None of this is proved.
 """
 
 from bisect import bisect_right
@@ -15,7 +15,7 @@ from ..core.arrays import Narrow
 from .network import NEVER, Schedule, SearchNetwork
 
 AT_ONCE = 30  # departures that share a part of the network
-NEAR = (5400, 4 * 3600)  # seconds after the last departure that are looked at first
+NEAR = (5400, 4 * 3600)  # seconds after the last departure that are searched first
 
 
 @dataclass(frozen=True)
@@ -39,14 +39,14 @@ class Search:
         return rounds
 
     def ready(self, times: Narrow) -> Narrow:
-        """When one is ready to board: after the change time, or after a walk at once, as at the start."""
+        """When a traveller is ready to board: after the change time; after a walk, and at the start, at once."""
         changed = np.minimum(times + self.network.changes, NEVER).astype(np.int32)
         times_ready: Narrow = np.minimum(changed, self.network.walked(times))
         times_ready[self.origin] = min(times_ready[self.origin], self.departure)
         return times_ready
 
     def taken(self) -> SearchNetwork:
-        """What somebody can take who sets out later: no journey of theirs has anything else of this network."""
+        """The part of the network that a later departure can use."""
         return self.network.taken_by(self.ready(self.ridden[-2]))
 
     def arrival(self, stop: int) -> int | None:
@@ -64,10 +64,10 @@ class Leg:
 
     start: int  # places of stops
     end: int
-    begin: int  # seconds on the axis: when one walks off, or when the vehicle departs
+    begin: int  # seconds on the axis: when the walk begins, or the vehicle departs
     finish: int
     run: int | None  # None for a walk
-    change: int  # seconds that pass before one may board, after another vehicle
+    change: int  # seconds that pass before boarding is possible, after another vehicle
 
 
 def journey(search: Search, stop: int) -> list[Leg]:
@@ -88,8 +88,8 @@ def journey(search: Search, stop: int) -> list[Leg]:
 
 
 def ridden_to(search: Search, stop: int, rides: int) -> list[Leg]:
-    """The legs of a journey whose last ride, of at most this number, ends at a stop at the least time; none at the
-    origin before any ride.
+    """The legs of a journey that ends at a stop with a ride, as early as this number of rides allows; empty at the
+    origin.
     """
     arrival = search.ridden[rides][stop]
     rides = next(count for count, times in enumerate(search.ridden) if times[stop] == arrival)
@@ -113,7 +113,7 @@ def ridden_to(search: Search, stop: int, rides: int) -> list[Leg]:
 
 
 def way_to(search: Search, times: Narrow, stop: int, departure: int) -> tuple[int, int]:
-    """From where, and by how many seconds of walking, one is ready at a stop in time, the least walk first."""
+    """The stop from which a walk gets there in time, and its seconds: the shortest of these walks."""
     stays = times[stop] == search.departure and stop == search.origin
     if stays or times[stop] + search.network.changes[stop] <= departure:
         return stop, 0
@@ -124,7 +124,7 @@ def way_to(search: Search, times: Narrow, stop: int, departure: int) -> tuple[in
 
 
 def durations(schedule: Schedule, origin: int, stop: int, departures: list[int], rides: int) -> list[int | None]:
-    """The least duration for each departure, ascending; None where nobody gets there."""
+    """The least duration for each departure, ascending; None if it never arrives."""
     durations_found: list[int | None] = [None] * len(departures)
     count, last = arriving(schedule, origin, stop, departures, rides)
     if count:
@@ -138,7 +138,7 @@ def durations(schedule: Schedule, origin: int, stop: int, departures: list[int],
 
 
 def between(network: SearchNetwork, origin: int, departure: int, stop: int, arrival: int, rides: int) -> SearchNetwork:
-    """What somebody can take who sets out at a departure or later, and arrives at a time or earlier."""
+    """The part of the network that journeys between a departure and an arrival can use."""
     network = Search(network, origin, departure, rides).taken()
     return Search(network.mirrored(), stop, -arrival, rides).taken().mirrored()
 
@@ -164,8 +164,9 @@ def arriving(schedule: Schedule, origin: int, stop: int, departures: list[int], 
 
 
 def arrivals(network: SearchNetwork, origin: int, stop: int, departures: list[int], rides: int) -> list[int]:
-    """The least time at a stop for each of some departures, ascending, after all of which one gets there. A search
-    backwards from an arrival says how late one may set out for it.
+    """The earliest arrival at a stop for each of some departures, ascending, all of which get there.
+
+    A backward search from an arrival finds the last departure that achieves it.
     """
     arrival_times, back = list[int](), network.mirrored()
     while len(arrival_times) < len(departures):

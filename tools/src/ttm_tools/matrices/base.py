@@ -38,7 +38,7 @@ class Matrix(ABC):
     layout: MatrixLayout
     scenarios: list[str]  # in the file's order
     shares: list[Share]  # ascending
-    named_base: str | None = None  # where it is of another file
+    named_base: str | None = None  # if it is of another file
     greatest: float | None = None  # seconds above which a pair counts as not reached
     heading: str = ""  # the heading if it is two files, side by side
     files: tuple[str, ...] = ()  # those in addition to its own
@@ -209,7 +209,7 @@ class Pair:
     origins: list[str]
     before: Places  # the places of these origins in the one scenario
     after: Places  # and in the other
-    lacking: str | None  # which origins one has and the other hasn't
+    lacking: str | None  # which origins only one of the two has
 
     def access(self, place: int) -> tuple[Sums, Sums]:
         """The access of each origin within the limit at a place, before and after."""

@@ -1,5 +1,5 @@
-"""The chunks of an Open Matrix file as HDF5 keeps them: some whole rows, the first bytes of all cells, then the second
-ones and so on, compressed. They are made and read here, since HDF5 itself does one at a time, and threads several.
+"""The chunks of an Open Matrix file as HDF5 stores them: some whole rows, the first bytes of all cells, then the second
+ones and so on, compressed. This module packs and unpacks them in threads, since HDF5 handles one at a time.
 """
 
 import zlib
@@ -53,7 +53,7 @@ def rows_of(data: Any, begin: int, end: int) -> Seconds:
 
 
 def chunk_at(data: Any, place: int) -> Seconds:
-    """The chunk whose first row stands at a place."""
+    """The chunk that begins with a row."""
     skipped, chunk = data.id.read_direct_chunk((place, 0))
     rows, columns = data.chunks
     try:

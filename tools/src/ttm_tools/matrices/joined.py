@@ -16,7 +16,7 @@ from .origin import describe_origin
 
 @dataclass(frozen=True)
 class MatrixSource:
-    """A scenario of one of the two, and how its rows, columns and limits stand in the whole."""
+    """A scenario of one of the two, and which of its rows, columns and limits the whole has."""
 
     matrix: Matrix
     scenario: str

@@ -43,7 +43,7 @@ class MatrixLayout:
 
 
 def layout_of(header: Sequence[str]) -> MatrixLayout | None:
-    """The layout that a header shows, or None where it is no matrix's."""
+    """The layout that a header shows, or None if it is not that of a matrix."""
     if list(header[:3]) == ["scenario", "origin", "access"]:
         return MatrixLayout(False, (None,), list(header[3:]))
     if list(header[:3]) != ["scenario", "origin", "share"]:

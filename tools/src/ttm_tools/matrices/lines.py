@@ -68,7 +68,7 @@ def head_of(line: bytes, count: int) -> tuple[list[str], int]:
 
 
 def count_of_fields(line: bytes, begin: int) -> int:
-    """How many fields stand in a record from a place on that lies behind its last quote."""
+    """The number of fields of a record from a place on, which is after its last quote."""
     if begin > len(line):
         return 0
     return int(np.count_nonzero(np.frombuffer(line, np.uint8, offset=begin) == COMMA)) + 1 if begin < len(line) else 1
@@ -109,7 +109,7 @@ def values_of(
 
 
 def first_bad(cells: bytes) -> tuple[int, str]:
-    """The first of a line's cells that is no travel time, and where it stands."""
+    """The index of a line's first cell that is no travel time, and its text."""
     texts = cells.decode("utf-8", "surrogateescape").split(",")
     for place, text in enumerate(texts):
         if text and not (text.isascii() and text.isdigit() and int(text) <= MOST_SECONDS and len(text) <= MOST_DIGITS):

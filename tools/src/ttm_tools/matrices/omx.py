@@ -2,7 +2,7 @@
 
 `data` has a matrix for each scenario and share, in seconds, NaN where a stop isn't reached, with the attributes
 `scenario`, `share` and `place` (of the matrix among all). `lookup` has the identifiers of origins and destinations
-(bytes of UTF-8), and their numbers from 1 on for programs whose zones are numbers. `access` has the sums beside: for
+(bytes of UTF-8), and their numbers from 1 on for programs whose zones are numbers. `access` has sums: for
 each matrix a row for each origin and a column for each limit, which the attribute `limits` of the file names in
 seconds. They are int64, or float64 if the counts have decimals. All have one list of origins, as the format wants one
 shape.
@@ -84,8 +84,8 @@ def write_open_matrix(matrix: Matrix, path: str, threads: int | None = None) -> 
 
 
 def ordered_group(file: Any, name: str) -> Any:
-    """A group whose members are listed in the order in which they are made; it notes no time, so that the same matrix
-    gives the same bytes.
+    """Creates a group that lists its members in the order of their creation. It stores no time, so that the same
+    matrix gives the same bytes.
     """
     import h5py
 

@@ -43,7 +43,7 @@ def write_parts(origins: Sequence[str], parts: int, folder: str) -> int:
 
 @dataclass
 class Scenario:
-    """Where the rows of a scenario stand in the matrix of a part, and their origins in order."""
+    """The first row of a scenario in the matrix of a part, and its origins in order."""
 
     begin: int
     end: int
@@ -113,7 +113,7 @@ def are_alike(part: PartMatrix, first: PartMatrix) -> None:
 
 
 def in_order(parts: Sequence[PartMatrix], origins: Sequence[str], origins_file: str) -> list[PartMatrix]:
-    """The parts as their origins stand in the whole, where each origin is in one of them."""
+    """The parts in the order of their origins in the whole; each origin must be in one of them."""
     place = {origin: number for number, origin in enumerate(origins)}
     holder: dict[str, str] = {}
     for part in parts:

@@ -117,5 +117,5 @@ class MatrixSubset(DerivedMatrix):
 
 
 def capped(matrix: Matrix, minutes: float | None) -> Matrix:
-    """Return a matrix whose travel times end at a number of minutes, if one is given."""
+    """Return a matrix without travel times above a number of minutes, if this is given."""
     return matrix if minutes is None else LimitedMatrix(matrix, round(60 * minutes))

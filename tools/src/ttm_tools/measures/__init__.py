@@ -1,1 +1,1 @@
-"""What is made of the numbers of a matrix."""
+"""Measures of travel times and access, as functions of arrays."""

@@ -1,4 +1,4 @@
-"""What is reached from each origin: opportunities, each weighted by its travel time, and the time to the nearest ones.
+"""Access from each origin: opportunities, each weighted by its travel time, and the time to the nearest ones.
 
 The weights are those of R5 and r5r, with a `cutoff` and a `decay_value` in minutes. docs/reference/measures.md has the
 formulas. Each function takes travel times of some origins, of shape (origins, destinations), and returns `float64`, in
@@ -49,12 +49,12 @@ class Decay:
             raise ArgumentError(f"--decay {self.kind} takes no --decay-value")
 
     def weights(self, seconds: Seconds, cutoff: float) -> Floats:
-        """The weight of each travel time, 0 to 1; 0 where there is none. The cutoff is in minutes."""
+        """The weight of each travel time, 0 to 1; 0 if not reached. The cutoff is in minutes."""
         weights: Floats = DECAYS[self.kind].compute()(seconds, np.round(60 * cutoff), 60 * (self.value or 0))
         return weights
 
 
-Weighting = Interval | Decay  # what gives the weight of each travel time, 0 where there is none
+Weighting = Interval | Decay  # gives the weight of each travel time, 0 if not reached
 
 
 def step(seconds: Seconds, limit: float, width: float) -> Floats:
@@ -62,7 +62,7 @@ def step(seconds: Seconds, limit: float, width: float) -> Floats:
 
 
 def endless(seconds: Seconds) -> Floats:
-    """Travel times, infinite where there is none."""
+    """Travel times, infinite if not reached."""
     return np.where(np.isnan(seconds), np.inf, seconds).astype(np.float64)
 
 

@@ -44,7 +44,7 @@ class AccessTable:
     origins: list[str]
     numbers: Floats  # by scenario, kind and origin; of times seconds, NaN where fewer are reached
     of_times: bool = False
-    named_base: str | None = None  # where it is of another table
+    named_base: str | None = None  # if it is of another table
 
     @property
     def base(self) -> str:

@@ -23,7 +23,7 @@ class EquityCase:
     base: Floats
     access: Floats
     people: Floats
-    percent: float  # of the base's access, from which on somebody counts as a loser
+    percent: float  # of the base's access; people who lose this much count as losers
 
 
 def mean(numbers: Floats, people: Floats) -> float:
@@ -57,7 +57,7 @@ def lorenz(access: Floats, people: Floats) -> tuple[Floats, Floats]:
 
 
 def gini(access: Floats, people: Floats) -> float:
-    """Twice the area between the Lorenz curve and that of equal access; NaN where nobody has any."""
+    """Twice the area between the Lorenz curve and that of equal access; NaN if all have none."""
     across, up = lorenz(access, people)
     return float(1 - np.diff(across) @ (up[1:] + up[:-1]))
 
@@ -86,7 +86,7 @@ def least_tenth_change(case: EquityCase) -> float:
 
 @dataclass(frozen=True)
 class Equity:
-    """The measures of one scenario; NaN where there is none."""
+    """The measures of one scenario; NaN if undefined."""
 
     people: float = column(lambda case: float(case.people.sum()))
     mean: float = column(lambda case: mean(case.access, case.people), "Σ *p a* / *P*")

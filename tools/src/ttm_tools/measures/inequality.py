@@ -12,7 +12,7 @@ from ..core.arrays import Floats
 
 @dataclass(frozen=True)
 class Theil:
-    """Theil's T of some people, and of which parts it is: NaN where there is none."""
+    """Theil's T of some people, and its parts within and between groups; NaN if undefined."""
 
     people: float
     theil: float
@@ -37,7 +37,7 @@ class Poverty:
 
 
 def theil(access: Floats, people: Floats) -> float:
-    """Theil's T: 0 where all have the same; NaN where nobody has any."""
+    """Theil's T: 0 if all have the same; NaN if all have none."""
     mean = float(access @ people / people.sum())
     if not mean > 0:
         return float("nan")
@@ -69,7 +69,7 @@ def theil_of_all(access: Floats, groups: Floats) -> Theil:
 
 
 def concentration(access: Floats, people: Floats, rank: Floats) -> Concentration:
-    """The concentration index of access by a rank such as income; people of the same rank stand in its middle."""
+    """The concentration index of access by a rank such as income; people of the same rank share its middle."""
     total, mean = float(people.sum()), float(access @ people / people.sum())
     values, group = np.unique(rank, return_inverse=True)
     counts = np.bincount(group, people, len(values))

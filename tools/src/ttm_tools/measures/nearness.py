@@ -21,7 +21,7 @@ class NearnessCase:
     base: Floats  # seconds
     seconds: Floats
     people: Floats
-    percent: float  # longer, from which on somebody counts as a loser
+    percent: float  # a traveller who needs this much longer counts as a loser
 
     @property
     def there(self) -> Mask:
@@ -48,7 +48,7 @@ def losers_percent(case: NearnessCase) -> float:
 
 @dataclass(frozen=True)
 class Nearness:
-    """The measures of one scenario; NaN where there is none."""
+    """The measures of one scenario; NaN if undefined."""
 
     people: float = column(lambda case: float(case.people.sum()))
     reached_percent: float = column(

@@ -4,8 +4,8 @@ them.
 """
 
 import functools
-import importlib
 from dataclasses import dataclass
+from pkgutil import resolve_name
 from typing import Any, Callable, Iterable
 
 from ..core.columns import table
@@ -22,8 +22,7 @@ class Measure:
 
     @functools.lru_cache
     def compute(self) -> Callable[..., Any]:
-        module, name = self.function.split(".")
-        function: Callable[..., Any] = getattr(importlib.import_module(f".{module}", __package__), name)
+        function: Callable[..., Any] = resolve_name(f"{__package__}.{self.function}")
         return function
 
 

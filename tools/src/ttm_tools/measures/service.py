@@ -37,7 +37,7 @@ class Period:
 
 @dataclass(frozen=True)
 class ServiceCalls:
-    """The departures of all runs at stops, the last call of each, at which nobody departs, left out."""
+    """The departures of all runs at stops, without the last call of each run."""
 
     run: Whole
     stop: Whole  # places among the stops
@@ -140,7 +140,7 @@ OF_WAYS = (
 
 @dataclass(frozen=True)
 class Service:
-    """What runs in a period; NaN where there is none. `head` is of the page, and `decimals` of the table."""
+    """What runs in a period; NaN if undefined. `head` is for the page, `decimals` for the table."""
 
     departures: int = column(
         lambda part: int(part.inside.sum()), "runs that leave their first stop in the period", head="departures"

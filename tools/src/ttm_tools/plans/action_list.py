@@ -2,10 +2,12 @@
 by its module, so that `--help` needs no package. `--help` and the table of docs/reference/plan-file.md come from it.
 """
 
-import importlib
 import textwrap
 from dataclasses import dataclass
+from pkgutil import resolve_name
 from typing import TYPE_CHECKING, Callable
+
+from ..core.columns import table
 
 if TYPE_CHECKING:
     from ..core.toml_file import Entry
@@ -27,10 +29,7 @@ class Action:
     function: str
 
     def carry_out(self) -> "Callable[[State, Entry], list[str]]":
-        module, name = self.function.split(".")
-        function: Callable[[State, Entry], list[str]] = getattr(
-            importlib.import_module(f".actions.{module}", __package__), name
-        )
+        function: Callable[[State, Entry], list[str]] = resolve_name(f"{__package__}.actions.{self.function}")
         return function
 
 
@@ -147,5 +146,5 @@ def help_table() -> str:
 
 def markdown_table() -> str:
     """The actions as docs/reference/plan-file.md lists them."""
-    rows = [f"| `{action.name}` | {action.does} | {action.example} |" for action in LISTED]
-    return "\n".join(["| `do` | What it does | Example |", "|---|---|---|", *rows])
+    rows = ([f"`{action.name}`", action.does, action.example] for action in LISTED)
+    return table(["`do`", "What it does", "Example"], rows)

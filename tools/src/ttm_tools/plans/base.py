@@ -30,7 +30,7 @@ from ..gtfs.service_days import Days, MOST_DAYS, days_of, ordinals
 from ..gtfs.stops import Stops, place_of
 
 BLOCK = 1 << 20  # calls that are counted at once
-NO_ROW = -1  # in place of a record: a call that no record of the feed states
+NO_ROW = -1  # for a call that no record of the feed states
 
 
 @dataclass(frozen=True)

@@ -11,7 +11,7 @@ from ..gtfs.nearest import reached_from
 from ..gtfs.stops import read_stops
 
 NEW_STOPS = "new_stops.csv"
-Leaving = dict[int, list[tuple[int, int]]]  # of each stop the stops that one walks to, and the seconds
+Leaving = dict[int, list[tuple[int, int]]]  # for each stop the stops within a walk, and its seconds
 
 
 def sentences_on_nearer(folder: str, footpaths: str, walk: int = 0) -> Iterator[str]:
@@ -51,8 +51,9 @@ def new_stops_in(folder: str) -> list[str]:
 
 
 def nearer(walks: Leaving, new: set[int], walk: int = 0) -> list[tuple[int, int, int, int | None]]:
-    """The pairs of old stops that are nearer by way of new ones: by how many seconds one walks with them and without.
-    Walks from stops next to new ones suffice, since all others go by way of these.
+    """The pairs of old stops that are nearer by way of new ones, with the seconds of the walk with and without these.
+
+    Walks from stops next to new ones suffice, since all others pass these stops.
     """
     limit = max((seconds for ways in walks.values() for _, seconds in ways), default=walk)
     limit = max(limit, walk)

@@ -1,7 +1,7 @@
 """The records that scenarios add to the files of a feed, and what their routes and trips are called there.
 
-In the feed of all scenarios, those of a scenario's own end with its name behind an @. A scenario's trips stand in
-routes of its own, copies of the feed's, so that another scenario takes them out by their routes. In the feed of one
+In the feed of all scenarios, those of a scenario's own end with its name behind an @. A scenario's trips are on
+routes of its own, copies of the feed's, so that another scenario removes them by their routes. In the feed of one
 scenario all have the names that the plan and the feed give them.
 """
 

@@ -31,7 +31,7 @@ class PlanFile:
 
 
 def read_plan(path: str) -> PlanFile:
-    """Reads a plan; its actions are looked at when they are carried out."""
+    """Reads a plan; its actions are checked when they are carried out."""
     _, whole = read_entry(path)
     whole.only(("scenario", "stop"))
     stops = whole.inner("stop") if whole.has("stop") else []

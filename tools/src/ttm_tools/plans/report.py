@@ -1,4 +1,4 @@
-"""What each action did: sentences, and lists of actions, of trips and of new stops."""
+"""Reports what each action did: sentences, and lists of actions, trips and new stops."""
 
 from pathlib import Path
 from typing import Iterator, Sequence

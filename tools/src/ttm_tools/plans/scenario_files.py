@@ -19,7 +19,7 @@ Record = tuple[str, str, str]
 
 
 def records_of(written: Written, mine: ScenarioResult | None) -> list[Record]:
-    """What the file of a scenario says; of today, which changes nothing, where there is none."""
+    """The records of a scenario's file; of that of today, which changes nothing, if no scenario is given."""
     records = [] if mine is None else list(own_records(mine.state))
     for other in written.finished:
         if mine is None or other.name != mine.name:

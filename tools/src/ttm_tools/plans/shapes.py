@@ -1,5 +1,6 @@
-"""Along which lines trips run that go another way than the feed's, where it has shapes: a shape that is cut where a
-trip ends earlier, and goes straight from stop to stop where it is new.
+"""Shapes of trips that go another way than the feed's, if it has shapes.
+
+A shape is cut where the trip ends earlier, and goes straight from stop to stop where the trip is new.
 """
 
 import math
@@ -20,7 +21,7 @@ Coordinates = list[tuple[float, float]]  # latitude and longitude
 
 @dataclass
 class Shapes:
-    """The shapes of a feed, and those that are made."""
+    """The shapes of a feed, and those that scenarios add."""
 
     base: Base
     old: dict[str, Coordinates]
@@ -28,7 +29,7 @@ class Shapes:
     known: dict[tuple[str, str, tuple[int, ...]], str] = field(default_factory=dict)
 
     def of(self, trip: Trip, route: str) -> str:
-        """The name of a trip's shape; "" for one whose shape isn't made anew, or that has too few places."""
+        """The name of a trip's new shape; "" if the trip keeps that of the feed, or has too few places."""
         if not trip.redrawn:
             return ""
         source = self.base.shapes[trip.source] if trip.source >= 0 else ""
@@ -47,7 +48,7 @@ class Shapes:
         return [point for point in found if not math.isnan(point[0])]
 
     def points_of(self, trip: Trip, old: Coordinates) -> Coordinates:
-        """The line of a trip: its source's as far as it has the source's stops, and straight ones beyond."""
+        """The line of a trip: that of its source along the stops of the source, straight lines beyond them."""
         stops = trip.stop.tolist()
         before = self.base.stops_of(trip.source) if trip.source >= 0 else []
         common = [place for place, stop in enumerate(stops) if stop in set(before)]

@@ -1,4 +1,4 @@
-"""What a scenario has while its actions are carried out: trips of the feed, kept and shifted, and its own."""
+"""The trips of a scenario while its actions are carried out: those of the feed, kept or shifted, and its own."""
 
 from dataclasses import dataclass, field, replace
 
@@ -17,7 +17,7 @@ LAST_LABEL = 2_000_000  # seconds from which on `ttm` takes no times of a day
 class Trip:
     """A trip with its calls."""
 
-    label: str  # what it is called; a trip that stands for one of the feed has that one's name
+    label: str  # its name; a trip that replaces one of the feed has the name of that one
     source: int  # the trip of the feed whose other fields it takes over; -1 for a new line's
     route: str
     service: str
@@ -57,7 +57,7 @@ class Change:
     """What an action did to a trip."""
 
     what: str  # taken out, shifted, changed or added
-    trip: str  # as it was called before; "" where there was none
+    trip: str  # its name before; "" for a new trip
     now: str  # and afterwards, a label
     route: str
     seconds: int = 0  # of a shift

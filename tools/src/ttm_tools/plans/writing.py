@@ -87,7 +87,7 @@ def write_all(written: Written, folder: Path) -> None:
 
 
 def taken_out(base: Base, state: State) -> set[str]:
-    """The trips of the feed that stand in the feed of one scenario no more, whether it has others of their names."""
+    """The trips of the feed that the feed of one scenario no longer has, even if others there have their names."""
     away = (base.lengths > 0) & ~(state.kept & (state.shift == 0))
     return {base.trips[place] for place in np.flatnonzero(away)}
 
@@ -118,7 +118,7 @@ def without_trips(table: Table, gone: set[str]) -> Table:
 
 
 def put_together(old: Table, more: Table, path: Path) -> None:
-    """Writes a table with further records behind: the file that it was read from as it is, where that can be."""
+    """Writes a table and further records after it; the file that it was read from is copied unchanged if possible."""
     if old.source is None or len(more) and not can_go_on(old.source, more):
         with open(path, "wb") as file:
             write_table(joined(old.with_all_columns(), more) if len(more) else old, file)

@@ -133,7 +133,7 @@ def with_parts(kept: Mask, kinds: Whole, parents: Whole) -> Mask:
 
 
 def within(latitudes: Floats, longitudes: Floats, options: Clip) -> Whole:
-    """Which places lie in the box and the area, their edges too."""
+    """Which places are in the box and the area, edges included."""
     found = np.flatnonzero(~np.isnan(latitudes))
     if options.box is not None:
         west, south, east, north = options.box
@@ -146,7 +146,7 @@ def within(latitudes: Floats, longitudes: Floats, options: Clip) -> Whole:
 
 
 def in_area(x: Floats, y: Floats, path: str) -> Mask:
-    """Which places lie in the polygons of a GeoJSON file."""
+    """Which places are in the polygons of a GeoJSON file."""
     needs("shapely")
     from shapely.geometry import Point, shape
     from shapely.prepared import prep

@@ -1,4 +1,4 @@
-"""What a repair leaves of a feed, compared with what was there, and whether that is enough."""
+"""How much of a feed a repair leaves, and whether that is enough."""
 
 import datetime
 from collections import Counter
@@ -23,7 +23,7 @@ FEW_LOST = {"transfers.txt": 10}  # records of a file without which all trips ru
 CALENDARS = ("calendar.txt", "calendar_dates.txt")
 NEEDED = ("stops.txt", "routes.txt", "trips.txt", "stop_times.txt")
 AFTER = "after --repair: "
-NO_LOSS = "same"  # the rule that leaves out a record of which another one is there
+NO_LOSS = "same"  # the rule that leaves out repeated records
 
 
 @dataclass(frozen=True)

@@ -37,7 +37,7 @@ ORDER = {name: place for place, name in enumerate(FILES)}
 
 @dataclass(frozen=True)
 class PrepareOptions:
-    """What is made ready, and how."""
+    """The feeds to prepare, and how."""
 
     paths: Sequence[str]  # zip files or folders
     out: str  # the folder that is written

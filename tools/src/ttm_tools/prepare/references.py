@@ -14,7 +14,7 @@ from ..gtfs.feeds import Feed
 from ..gtfs.identifiers import NAMING, TRANSLATED, ZONES, kind_of
 from ..gtfs.tables import Table, read_table
 
-GIVEN = {  # what is left out of a feed, and where it was given
+GIVEN = {  # what a feed lacks now, and the file that defined it
     "stop": ("stops.txt", "stop_id"),
     "route": ("routes.txt", "route_id"),
     "trip": ("trips.txt", "trip_id"),
@@ -53,7 +53,7 @@ def leave_out_references(feed: Feed, before: There) -> list[str]:
 
 
 def left_out(feed: Feed, table: Table, kept: Mask) -> int:
-    """Removes all records but some of a file, which is written anew where it loses some; how many it loses."""
+    """Removes all but some records of a file, which is written again if it loses any; returns how many it loses."""
     lost = len(table) - int(kept.sum())
     table.keep(kept)
     if lost and table.name in feed.others:

@@ -1,7 +1,7 @@
 """A feed that is repaired, and what was done to it."""
 
-import importlib
 from dataclasses import dataclass, field
+from pkgutil import resolve_name
 from typing import Sequence
 
 import numpy as np
@@ -44,7 +44,7 @@ class Repair:
         table.put(column, rows, texts)
 
     def put_for(self, table: Table, column: str, rule: str, right: dict[str, str]) -> None:
-        """Puts texts in place of others, wherever a column has these."""
+        """Replaces texts of a column by others."""
         if right:
             rows = np.flatnonzero(one_of(table[column], right))
             wrong = texts_at(table[column], table[column].codes[rows])
@@ -90,7 +90,7 @@ def repair(feed: Feed, label: str = "") -> list[Repaired]:
 
 def trim_others(repaired: Repair) -> None:
     """Trims what names stops, routes, trips and the like in the files that `ttm` doesn't read."""
-    feed, mend = repaired.feed, getattr(importlib.import_module(".field_rules", __package__), "mend_spaces")
+    feed, mend = repaired.feed, resolve_name(f"{__package__}.field_rules.mend_spaces")
     for name in sorted(feed.others):
         if name.endswith(".txt") and set(names_of(feed.others[name])) & NAMING.keys():
             table = read_table(name, feed.others[name])
@@ -103,5 +103,4 @@ def trim_others(repaired: Repair) -> None:
 def apply(repaired: Repair, table: Table, is_of_fields: bool) -> None:
     """Applies all rules of fields, or all others, to a table, in their order; each function once."""
     for name in dict.fromkeys(rule.apply for rule in RULES if (rule.apply in OF_FIELDS) == is_of_fields):
-        module, function = name.split(".")
-        getattr(importlib.import_module(f".{module}", __package__), function)(repaired, table)
+        resolve_name(f"{__package__}.{name}")(repaired, table)

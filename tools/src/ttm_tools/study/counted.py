@@ -1,6 +1,4 @@
-"""What is counted in a study, by the tools and by `ttm`: opportunities at the places where journeys end, and people at
-those where they begin.
-"""
+"""The counts of a study, for the tools and for `ttm`: opportunities where journeys end, and people where they begin."""
 
 import os
 from pathlib import Path

@@ -1,5 +1,5 @@
-"""What a run of `ttm` reads, made in the study's folder, one stage after the other: the feed, a plan's scenarios,
-points, walks, origins, opportunities. All paths of what is made are from that folder on; `ttm` runs there.
+"""Writes the inputs of `ttm` to the study's folder, one stage after the other: the feed, a plan's scenarios, points,
+walks, origins, opportunities. All paths are relative to that folder, in which `ttm` runs.
 """
 
 import shlex
@@ -70,7 +70,7 @@ class Inputs:
         return {scenario_name(path): path for path in self.scenarios}
 
     def outputs_of(self, stage: str) -> dict[str, str]:
-        """The sums of the files that a stage made, where there was one."""
+        """The checksums of a stage's files; empty if the study has no such stage."""
         return self.records[stage].outputs if stage in self.records else {}
 
     @property

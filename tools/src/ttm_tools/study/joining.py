@@ -78,8 +78,9 @@ def refuse_changed(parts: Sequence[Part], threads: int) -> None:
 
 
 def join_parts(parts: Sequence[Part], with_csv: bool, shown: ShownMatrix, threads: int, path: str) -> list[str]:
-    """Writes the matrix of all parts, which are looked at once more, with the scenarios that are shown, and those
-    columns alone that a study shows, if there are any.
+    """Checks all parts again, and writes their matrix with the scenarios and columns that the study shows.
+
+    Without such columns it writes all.
     """
     refuse_changed(parts, threads)
     joined = Joined(parts, shown.shown_as, shown.scale)

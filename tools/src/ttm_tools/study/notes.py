@@ -33,7 +33,7 @@ def versions(ttm: Sequence[str], program: str) -> dict[str, Any]:
 
 
 def write_notes(results: StudyMatrix, records: dict[str, Record], machine: Machine, parts: int) -> None:
-    """Writes what was done, unless that stands there already."""
+    """Writes what was done, unless the file already says so."""
     study, inputs = results.study, results.inputs
     all_records = {**inputs.records, **records}
     facts: dict[str, Any] = {
@@ -64,7 +64,7 @@ def write_notes(results: StudyMatrix, records: dict[str, Record], machine: Machi
 
 
 def times(study: Path) -> dict[str, Any]:
-    """When the study's commands ran, and how long stages and parts took, as far as they came to an end."""
+    """When the study's commands ran, and how long the stages and parts that ended took."""
     lines = logged(study)
     parts = [line["seconds"] for line in lines if line["kind"] == "part"]
     return {

@@ -108,7 +108,7 @@ def day_shown(date: str) -> str:
 
 
 def write_figures(document: Document, results: StudyMatrix, records: Records) -> None:
-    """Access, winners and losers, equity and maps, as far as there are any."""
+    """Access, winners and losers, equity and maps: those that the study has."""
     study = results.study
     if "access" in records:
         caption = f"Mean access of the origins, for travel times that {study.share} percent of the departures achieve"

@@ -1,4 +1,4 @@
-"""What a study's file says of its results."""
+"""The table [results] of a study's file."""
 
 from dataclasses import dataclass
 

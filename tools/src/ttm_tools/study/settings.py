@@ -1,5 +1,5 @@
-"""What a study's file says: a dataclass for each of its tables, whose fields say what is allowed, and what holds where
-they are left out.
+"""The settings of a study's file: a dataclass for each of its tables, whose fields state what is allowed and the
+default.
 """
 
 from dataclasses import dataclass, field, is_dataclass
@@ -215,7 +215,7 @@ class DayWindow:
 
     @property
     def head(self) -> tuple[str, str, str, str]:
-        """What stands in front of each line of a table, in the order of `column_list.WINDOWS`."""
+        """The first fields of each line of a table, in the order of `core.columns.WINDOWS`."""
         return self.day, self.window.name, self.window.first, self.window.last
 
     @property
@@ -287,7 +287,7 @@ class Study:
 
     @property
     def walk_limit(self) -> int:
-        """The longest walk that is made, in seconds."""
+        """The longest walk, in seconds."""
         return self.walks.limit or max(1, self.run.walk)
 
 

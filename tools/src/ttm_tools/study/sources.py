@@ -1,4 +1,4 @@
-"""What a study reads from outside, bound to the sums that it states: what changes while it is read ends the stage."""
+"""Files from outside the study, by the checksums that it states: a file that changes meanwhile ends the stage."""
 
 from dataclasses import dataclass
 from pathlib import Path

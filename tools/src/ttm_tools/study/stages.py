@@ -23,7 +23,7 @@ RECORDS = "stages"
 LOCK, MARK = ".lock", "a folder of ttm-tools study\n"
 LOG = "stages/log.jsonl"
 FACTS: dict[str, type | tuple[type, ...]] = {"at": str, "kind": str, "name": str, "seconds": (int, float)}  # of a log
-TASK = "parts/run.json"  # what other machines compute, as long as no input is made anew
+TASK = "parts/run.json"  # what other machines compute, until an input changes
 PACKAGE = Path(__file__).resolve().parents[1]
 
 
@@ -33,7 +33,7 @@ class Stage:
     depends: dict[str, Any]  # all that its outputs depend on: arguments, and sums of files
     outputs: Sequence[str]  # files, by names with a suffix, and folders, from the study's folder on
     make: Callable[[], list[str]]  # writes them, a folder by `atomic_folder`, and says what was done
-    of_tools: bool = True  # whether other tools may make other outputs: done anew, then
+    of_tools: bool = True  # whether the outputs depend on the tools: other tools repeat the stage
     keeps_task: bool = False  # whether other machines still compute what is needed
     refuse_changed: Callable[[], None] = lambda: None  # says what isn't as it was when its sum was taken
     stated: dict[str, str] = field(default_factory=dict)  # sums of files from outside, by the study's file's paths
@@ -216,7 +216,7 @@ class Folder:
 
 @contextlib.contextmanager
 def room(study: Path) -> Iterator[Path]:
-    """A folder for a while, inside of the study's own: the next command removes it where this one is killed."""
+    """A temporary folder in that of the study; if this command is killed, the next one removes it."""
     folder = study / f".part.{os.getpid()}.room"
     remove(folder)
     folder.mkdir()

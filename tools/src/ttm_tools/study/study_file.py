@@ -33,7 +33,7 @@ def read_study(path: str) -> Study:
 
 
 def completed(study: Study) -> Study:
-    """The same with limits in seconds, as `ttm` has them, and the first date and window of several as its own."""
+    """The study with limits in seconds, as `ttm` has them, and with the first of its dates and windows as its own."""
     run, results = study.run, study.results
     if run.cutoffs is not None:
         run = replace(run, limits=tuple(round(60 * cutoff) for cutoff in run.cutoffs))

@@ -1,4 +1,4 @@
-"""A study looked at once more: the sums of all its files, and a drawn tenth of its rows, computed again."""
+"""Verifies a study: the checksums of all its files, and a random tenth of its rows, which are computed again."""
 
 import itertools
 import os

@@ -15,7 +15,7 @@ from .sources import Sources
 from .stages import Stage
 
 POINTS, FOOTPATHS, GRID = "inputs/points", "inputs/footpaths.csv", "inputs/grid.csv"
-OUTSIDE, OUTSIDE_COLUMNS = "inputs/outside.csv", ("column", "outside")  # sums of what lies in no cell
+OUTSIDE, OUTSIDE_COLUMNS = "inputs/outside.csv", ("column", "outside")  # sums of what is in no cell
 
 
 class FeedInputs(Protocol):
@@ -96,7 +96,7 @@ def with_grid(study: Study) -> Study:
 
 
 def grid_stage(study: Study, feed: str, stops_sum: str | None) -> Stage:
-    """The cells with the numbers of people, jobs and the like that lie in them."""
+    """The cells with the numbers of people, jobs and the like in them."""
     settings = study.points
     width = settings.grid or 0.0
     metres = study.walking.max_straight_metres

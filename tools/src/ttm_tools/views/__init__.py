@@ -1,1 +1,1 @@
-"""What people and other programs look at: tables, pictures, files of geographic information systems."""
+"""Outputs for people and other programs: tables, pictures, files of geographic information systems."""

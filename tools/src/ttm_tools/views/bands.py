@@ -1,4 +1,4 @@
-"""What is shown of people by band: a table, as CSV or Markdown, and stacked bars."""
+"""People by band as a table, in CSV or Markdown, and as stacked bars."""
 
 from dataclasses import astuple, dataclass
 from typing import Any, BinaryIO, Iterator, Sequence

@@ -16,7 +16,7 @@ MOST_TICKS = 9
 @without_mathtext
 def figure_of(options: ExplainOptions, found: Sequence[Found]) -> Any:
     """The picture of some scenarios: a mark for each departure, a dashed line at the cell, a ring at the departure
-    whose journey is reported, and crosses above for departures after which nobody gets there.
+    whose journey is reported, and crosses above for departures that never arrive.
     """
     ends = f"from {options.stop(options.origin)} to {options.stop(options.destination)}"
     figure = figure_with(f"Duration by departure: {ends}", 5.0)

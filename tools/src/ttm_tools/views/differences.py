@@ -27,7 +27,7 @@ LINES_AT_ONCE = 200_000
 
 
 def ends_as_texts(names: Sequence[str], stops: Stops | None) -> Texts:
-    """The ends of pairs as they stand in a line: identifier, and name where a feed says it."""
+    """The ends of pairs as texts of a line: the identifier, and the name if there is a feed."""
     names_of_stops = stops.of(names).names if stops is not None else None
     if names_of_stops is None:
         return fields_as_texts(names, after=b",")
@@ -94,7 +94,7 @@ def write_origins(
 
 
 def access_stated(pair: Pair, place: int) -> str:
-    """What access is, as far as the matrix says it: `access within 30 minutes, percentile 50`."""
+    """What the matrix says of its access, such as `access within 30 minutes, percentile 50`."""
     limit, share = pair.matrix.layout.limits[place], pair.share
     within = f" within {limit / 60:g} minutes" if limit is not None else ""
     return f"access{within}{f', percentile {share}' if share is not None else ''}"

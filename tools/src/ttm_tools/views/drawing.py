@@ -26,7 +26,7 @@ from .texts import without_mathtext
 
 MOST_NAMES = 3
 EDGE_OF_MARK = 0.75 * 0.75  # points
-INCHES = 10  # the picture's width; that of the map, its greatest height, and what stands above it, follow
+INCHES = 10  # the picture's width; below, those of the map, its greatest height, the head above it and the edge
 MAP_WIDTH, MAP_HEIGHT, HEAD, EDGE = 6.7, 7.0, 0.85, 0.2
 LEAST_HEIGHT = 5.2  # of the picture, so that the key has room
 LEAST_SIDE = 0.5  # kilometres that a map shows
@@ -89,7 +89,7 @@ def points_of(stops: Stops, projection: Projection) -> MapPoints:
 
 
 def write_head(figure: Figure, picture: Picture) -> None:
-    """Writes what stands above a map."""
+    """Writes title and subtitle above a map."""
     top, title, subtitle = figure.get_figheight(), shortened(picture.title, 84), shortened(picture.subtitle, 136)
     plain: dict[str, Any] = {"va": "top", "parse_math": False}
     figure.text(EDGE / INCHES, 1 - 0.2 / top, title, fontsize=14.5, fontweight="bold", **plain)
@@ -97,7 +97,7 @@ def write_head(figure: Figure, picture: Picture) -> None:
 
 
 def write_notes(figure: Figure, picture: Picture, note: str) -> None:
-    """Writes what stands below the key."""
+    """Writes source and note below the key."""
     beside, low = figure.axes[0].get_position().x1 + EDGE / INCHES, EDGE / figure.get_figheight()
     notes = wrapped(" ".join(filter(None, [picture.source, note])), 44)
     figure.text(beside, low, notes, fontsize=8, color=SOFT, va="bottom", parse_math=False)
@@ -188,7 +188,7 @@ def draw_stops(axes: Any, picture: Picture, points: MapPoints) -> None:
 
 
 def draw_names(axes: Any, picture: Picture, stops: Stops, points: MapPoints) -> list[Any]:
-    """A star and a name at the origin, and names at stops that lose most unless they cover one another; returns their
+    """A star and a name at the origin, and names at the stops that lose most, unless they would overlap; returns their
     boxes.
     """
     wished = [*([picture.origin] if picture.origin is not None else []), *picture.named]

@@ -1,4 +1,4 @@
-"""What is shown of equity: a table, as CSV or Markdown, and a picture of Lorenz curves and of changes by tenths."""
+"""Equity as a table, in CSV or Markdown, and as a picture of Lorenz curves and of changes by tenths."""
 
 from dataclasses import astuple, dataclass
 from typing import Any, BinaryIO, Callable, Iterable, Iterator, Sequence
@@ -25,7 +25,7 @@ Line = tuple[AccessKind, str, str, Equity | Nearness]  # group and scenario are 
 @dataclass(frozen=True)
 class EquityOptions:
     base: str
-    percent: float  # of the base's access, from which on somebody loses
+    percent: float  # of the base's access; people who lose this much count as losers
     kinds: list[AccessKind]
 
 

@@ -70,7 +70,7 @@ def features_of(
 
 
 def placed(numbers: Any, places: Sequence[int], count: int) -> Floats:
-    """A column with numbers in these of its so many places, and NaN in the others."""
+    """A column of `count` entries with numbers at some places, and NaN at the others."""
     column = np.full(count, np.nan)
     column[np.array(places, dtype=np.intp)] = numbers
     return column
@@ -83,7 +83,7 @@ def with_nearest(
     counts: Counts,
     nearest_of: Sequence[float],
 ) -> Features:
-    """The same with the seconds within which these numbers of opportunities are reached."""
+    """Adds the seconds within which these numbers of opportunities are reached."""
     columns, among = dict(features.columns), features.stops.places
     measure = functools.partial(nearest, numbers=counts.numbers, counts=nearest_of)
     for scenario, share in itertools.product(*kinds):

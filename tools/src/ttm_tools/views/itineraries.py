@@ -16,7 +16,7 @@ class JourneyParts:
     access: int = 0  # the walk before the first ride, or all of a journey on foot
     wait: int = 0
     ride: int = 0
-    change: int = 0  # that pass before one may board, after another vehicle
+    change: int = 0  # before boarding is possible, after another vehicle
     walk: int = 0  # between rides
     egress: int = 0  # behind the last ride
 

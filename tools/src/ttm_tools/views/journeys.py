@@ -1,4 +1,4 @@
-"""What is shown of journeys: leg by leg, scenarios side by side, and a table of all departures."""
+"""Journeys as text: leg by leg, scenarios side by side, and a table of all departures."""
 
 import itertools
 from typing import Iterator, Mapping, Sequence
@@ -18,7 +18,7 @@ def span(seconds: int) -> str:
 
 
 def with_identifiers(names: Mapping[str, str]) -> dict[str, str]:
-    """What people call each route, with its identifier where it is another."""
+    """What people call each route, followed by its identifier if this differs."""
     return {
         route: name if name == display_text(route) else f"{name} ({display_text(route)})"
         for route, name in names.items()
@@ -26,7 +26,7 @@ def with_identifiers(names: Mapping[str, str]) -> dict[str, str]:
 
 
 def names_of_routes(folder: str) -> dict[str, str]:
-    """The same of a feed, if it has routes.txt."""
+    """What people call each route of a feed, with identifiers; empty without routes.txt."""
     return with_identifiers(routes_called(folder)) if has_file(folder, "routes.txt") else {}
 
 

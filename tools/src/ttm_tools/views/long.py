@@ -126,7 +126,7 @@ def safe(text: str) -> str:
 
 
 def write_times(out: BinaryIO, matrix: Matrix, choice: TableChoice, stops: Stops | None) -> int:
-    """A line for each pair, each cell by reference to a text that is made once; how many lines there are."""
+    """Writes a line for each pair, from texts of cells that are formatted once; returns the number of lines."""
     out.write(b",".join(map(field, header_of(matrix, choice, stops))) + b"\n")
     count = 1
     destinations, places = ends_of(choice.destinations, stops)

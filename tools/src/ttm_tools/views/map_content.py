@@ -1,5 +1,5 @@
-"""What a map shows: its title, its classes, and which of them each stop is in. Nothing is drawn here, and nothing but
-numpy is needed.
+"""The content of a map: its title, its classes, and the class of each stop. This module draws nothing, and needs only
+numpy.
 
 `classes` has the breaks, labels, colours and shapes. Classes differ in lightness and shape, so they work in print.
 """
@@ -23,7 +23,7 @@ KEY_OF_TIMES, KEY_OF_CHANGES = "Travel time,\nwaiting included", "Change of trav
 DECIMALS = 6  # of sums
 MOST_WORST = 40  # stops that lose most, from which names are taken
 Classes = npt.NDArray[np.intp]
-Times = npt.NDArray[Any]  # seconds, NaN where there is none
+Times = npt.NDArray[Any]  # seconds, NaN if not reached
 
 
 @dataclass(frozen=True)
@@ -194,7 +194,7 @@ def changes_of_times(before: Times, after: Times, options: PictureOptions) -> tu
 
 
 def minutes_gained(before: Times, after: Times) -> Floats:
-    """By how many minutes travel times fall; 0 where there is none."""
+    """By how many minutes travel times fall; 0 if one of the two is missing."""
     minutes: Floats = np.nan_to_num((before - after).astype(np.float64) / 60)
     return minutes
 

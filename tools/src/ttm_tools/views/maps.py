@@ -32,13 +32,13 @@ class Sheet:
     note: str = ""
     width: int = 1350  # pixels
     edits: list[str] = field(default_factory=list)  # scenario files, named as their scenarios are
-    planned: Planned | None = None  # of scenarios of a plan, whose files stand for these
+    planned: Planned | None = None  # of scenarios of a plan, instead of `edits`
     ground: Ground | None = None
 
 
 @dataclass(frozen=True)
 class Areas:
-    """Isochrones that are drawn: from where, how one walks on, and the places of the matrix' stops."""
+    """Isochrones to draw: their origin, how travellers walk on, and the positions of the matrix' stops."""
 
     origin: str
     options: PictureOptions
@@ -49,7 +49,7 @@ class Areas:
 def picture_of(
     kind: str, matrix: Matrix, stops: Stops, origin: str | None, options: PictureOptions, what: Nearest | None = None
 ) -> Picture:
-    """What a map draws: times, access, nearest, or difference, of the nearest where it is named."""
+    """The picture of a map: times, access, nearest, or difference; a difference may be that of the nearest."""
     if origin is not None and origin not in stops.places:
         raise InputError(stops.path, f"no stop {origin}")
     if what is not None and kind == "nearest":

@@ -23,7 +23,7 @@ class Nearest:
     count: float
 
     def label(self) -> str:
-        """As it stands in a title."""
+        """The text for a title."""
         return f"nearest {self.thing()}" if self.count == 1 else f"{decimal(self.count)} nearest {self.thing()}"
 
     def thing(self) -> str:
@@ -52,7 +52,7 @@ def picture_of_nearest(matrix: Matrix, options: PictureOptions, what: Nearest) -
 
 
 def picture_of_nearest_difference(matrix: Matrix, stops: Stops, options: PictureOptions, what: Nearest) -> Picture:
-    """The same in a scenario, compared with the base."""
+    """The change of the time to the nearest in a scenario, compared with the base."""
     pair = pair_of(matrix, options.base, options.scenario, options.share)
     before = what.seconds(matrix, pair.base, pair.share)[pair.before]
     after = what.seconds(matrix, pair.other, pair.share)[pair.after]

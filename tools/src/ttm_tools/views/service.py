@@ -1,4 +1,4 @@
-"""What is shown of service: tables by route and direction, by route, in all, or by stop; what a scenario costs."""
+"""Service as tables by route and direction, by route, in all, or by stop, and what a scenario costs."""
 
 from dataclasses import fields
 from typing import Any, BinaryIO, Iterator, Sequence

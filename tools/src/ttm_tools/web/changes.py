@@ -28,7 +28,7 @@ NAME = "changed"
 
 
 def actions_of(body: Any) -> list[Values]:
-    """The actions that the page sends, each of a kind with its values, which the plan looks at further."""
+    """The actions that the page sends, each of a kind with its values; the plan checks the values."""
     found = body.get("actions") if isinstance(body, dict) else None
     if not isinstance(found, list) or len(found) > MOST_ACTIONS:
         raise ArgumentError(f"actions is not a list of at most {MOST_ACTIONS}")
@@ -71,7 +71,7 @@ def decimal(value: Any, name: str) -> Decimal:
 
 @dataclass(frozen=True)
 class Namer:
-    """Finds what numbers of the page stand for."""
+    """Finds the identifiers of the page's numbers."""
 
     stops: Sequence[str]  # by the numbers of places
     routes: Sequence[Route]  # by their numbers

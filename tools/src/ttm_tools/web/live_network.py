@@ -20,7 +20,7 @@ from .point import Point, Walk, laid_out
 from .question import Question
 
 Seconds = npt.NDArray[np.int32]
-NEVER = -1  # in place of seconds, where a stop isn't reached
+NEVER = -1  # instead of seconds: not reached
 
 
 @dataclass(frozen=True)
@@ -28,10 +28,10 @@ class Plan:
     """Of what a network is."""
 
     folder: str  # the feed
-    files: list[str]  # of its scenarios; none of today's where that is the feed as it is
+    files: list[str]  # of its scenarios; today has none if it is the feed as it is
     walk: int  # seconds, the longest walk
     actions: list[dict[str, Any]]  # a person's changes, as the page sends them
-    text: str  # of the plan of its scenarios; empty where there is none
+    text: str  # of the plan of its scenarios; empty without a plan
     sentences: list[str]  # what the plan's actions did
     own: Path | None  # a folder that goes with it
     trips: Timetable | None = None  # those that the scenarios add; None where they add none

@@ -1,4 +1,4 @@
-"""What an exploration begins with."""
+"""The options that an exploration begins with."""
 
 import datetime
 from dataclasses import dataclass, field
@@ -26,8 +26,8 @@ class ExploreOptions:
     plan: str | None = None
     opportunities: list[str] = field(default_factory=list)
     footpaths: str | None = None
-    streets: str | None = None  # a file of OpenStreetMap, along whose streets walks are made
-    grid: float | None = None  # metres, the side of the cells that are made
+    streets: str | None = None  # a file of OpenStreetMap, along whose streets walks go
+    grid: float | None = None  # metres, the side of generated cells
     back: int = int(DAYS_BEFORE.default)
     ahead: int = int(DAYS_AFTER.default)
     ground: str | None = None  # a file of `ttm-tools ground`

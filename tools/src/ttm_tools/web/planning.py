@@ -1,4 +1,4 @@
-"""A plan of what somebody changes, carried out on a feed that was read once."""
+"""Carries out a plan of the changes made on the page, on a feed that was read once."""
 
 import contextlib
 import os
@@ -26,7 +26,7 @@ PLAN, FEED, SCENARIOS = "plan.toml", "feed", "scenarios"
 
 
 def text_of(plan: str, actions: Sequence[Values]) -> str:
-    """The plan of the command, and behind it a scenario of what somebody changed."""
+    """The plan of the command, followed by a scenario of the changes made on the page."""
     if not actions:
         return plan
     import tomllib

@@ -26,7 +26,7 @@ Walk = tuple[str, int]  # a stop, and seconds
 
 @dataclass(frozen=True)
 class Point:
-    """Where somebody clicked, in degrees."""
+    """A point of the map, in degrees."""
 
     latitude: float
     longitude: float
@@ -44,7 +44,7 @@ class Point:
 
 
 def walks_from(point: Point, stops: Stops, walking: Walking, streets: Streets | None) -> list[Walk]:
-    """The stops to which one walks from a point, along streets where they are known, else by straight lines."""
+    """The stops within a walk of a point, along streets if there are any, else in straight lines."""
     metres = walking.max_seconds * walking.speed
     near = stops_near(point, stops, walking.max_straight_metres if streets is None else metres)
     alone = with_point(near, point)

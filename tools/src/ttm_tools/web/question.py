@@ -1,4 +1,4 @@
-"""What the page requests, each value checked before it is used."""
+"""Questions of the page; each value is checked before it is used."""
 
 import re
 from dataclasses import dataclass

@@ -1,4 +1,4 @@
-"""What is kept of an exploration: a study that computes all of it, in a folder of its own."""
+"""Saves an exploration as a study that computes all of it, in a folder of its own."""
 
 import os
 import shlex
@@ -52,7 +52,7 @@ def save(options: ExploreOptions, plan: Plan, columns: Sequence[str], body: Any,
 
 
 def point_in(origin: Any) -> Point | None:
-    """The point of the map from which journeys begin, where that is no place of the page."""
+    """The point of the map at which journeys begin; None for a place of the page."""
     if not isinstance(origin, dict):
         return None
     found = origin_of({str(key): str(value) for key, value in origin.items() if key in ("lat", "lon")}, 0)

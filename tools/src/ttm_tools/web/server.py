@@ -38,7 +38,7 @@ def application(session: ExploreSession, guard: Guard) -> Flask:
 
 
 def refusal(guard: Guard) -> Response | None:
-    """Refuses a request that isn't of the page, before anything else is looked at."""
+    """Refuses a request that isn't of the page, before anything else is checked."""
     status = guard.refusal(request.path, request.method, request.headers)
     if status is None and request.method == "POST":
         length = request.content_length  # not known of a body in pieces, which is no page's
@@ -52,7 +52,7 @@ def with_headers(response: Response) -> Response:
 
 
 def answered(answer: Callable[[ExploreSession], Answer], session: ExploreSession, token: str) -> Answer:
-    """An answer, or in one line why there is none; the guard has looked at the token."""
+    """An answer, or a line that says why there is none; the guard has checked the token."""
     try:
         return answer(session)
     except Superseded:
@@ -111,7 +111,7 @@ def study(session: ExploreSession) -> Answer:
 
 
 def body_sent() -> Any:
-    """What the page sends as JSON; None where it is none."""
+    """The JSON that the page sends; None for anything else."""
     return request.get_json(silent=True)
 
 

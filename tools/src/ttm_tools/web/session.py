@@ -1,4 +1,4 @@
-"""All that is known while somebody explores: the places, the network that answers, and how another takes its place."""
+"""An exploration: its places, the network that answers, and how another one replaces it."""
 
 import contextlib
 import json
@@ -70,7 +70,7 @@ class ExploreSession:
 
     @cached_property
     def streets(self) -> Streets | None:
-        """The streets along which one walks from any point; they are read when they are first needed."""
+        """The streets for walks from any point, which are read when they are first needed."""
         return None if self.options.streets is None else read_streets(self.options.streets)
 
     @cached_property
@@ -79,7 +79,7 @@ class ExploreSession:
         return routes_of(self.base, self.options.date, numbers)
 
     def read_ahead(self) -> threading.Thread:
-        """Reads what changes and journeys need, while somebody looks at the page."""
+        """Starts to read what changes and journeys will need."""
         thread = threading.Thread(target=lambda: self.routes, daemon=True)
         thread.start()
         return thread

@@ -21,8 +21,9 @@ CELLS = "cells"
 
 
 def with_generated(options: ExploreOptions, room: Path) -> tuple[ExploreOptions, list[str]]:
-    """What is explored, with a feed and walks that are made in a room, and sentences about them; the walks take at most
-    as long as the longest walk of the command.
+    """The options with a feed and walks that are generated in a room, and sentences about them.
+
+    The walks take at most as long as the longest walk of the command.
     """
     if options.grid is None and options.streets is None:
         return options, []
@@ -44,7 +45,7 @@ def with_walks(options: ExploreOptions, room: Path) -> tuple[ExploreOptions, lis
 
 
 def with_cells(options: ExploreOptions, room: Path, side: float) -> tuple[ExploreOptions, list[str]]:
-    """A feed whose stops include the cells from whose middle one walks to a stop, and walks between all of them."""
+    """A feed whose stops include the cells within a walk of a stop, and walks between all of them."""
     walking, folder = Walking(max_seconds=options.walk), room / CELLS
     cells = grid.filled(grid.grid_near(read_stops(options.feed), side, walking.max_straight_metres), []).points
 

@@ -116,7 +116,7 @@ def own_events(written: Written) -> Events:
 
 
 def allowed(table: Table, name: str, rows: Codes) -> Mask:
-    """What records of stop_times.txt say of boarding or alighting: it is allowed where there is no record."""
+    """Whether records of stop_times.txt allow boarding, or alighting; a call without a record allows both."""
     found = np.ones(len(rows), dtype=np.bool_)
     stated = np.flatnonzero(rows >= 0)
     found[stated] = match_values(table[name].at(rows[stated]), lambda text: number(text) != NOT_ALLOWED)

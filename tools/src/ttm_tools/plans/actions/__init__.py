@@ -1,1 +1,1 @@
-"""What the actions of a plan do to a scenario; `..action_list` lists them."""
+"""The functions that carry out the actions of a plan; `..action_list` lists them."""

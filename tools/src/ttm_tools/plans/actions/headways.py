@@ -92,7 +92,7 @@ def copy_of(state: State, typical: Trip, number: int, time: int, service: str) -
     name = state.base.trips[typical.source] if typical.source >= 0 else typical.label
     later = time - int(typical.depart[0])
     arrive, depart = typical.arrive + later, typical.depart + later
-    arrive[0] = depart[0]  # nobody arrives there
+    arrive[0] = depart[0]  # a first call has no arrival of its own
     return replace(typical, label=f"{name}#{number}", service=service, arrive=arrive, depart=depart, headways=())
 
 

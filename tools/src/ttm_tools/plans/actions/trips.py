@@ -158,7 +158,7 @@ def gone_on(trip: Trip, further: Whole, run: Whole, dwell: int) -> Trip:
     arrive = left + np.cumsum(run) + dwell * np.arange(len(run))
     depart = arrive + dwell
     depart[-1] = arrive[-1]
-    none = np.full(len(further) + 1, NO_ROW)  # one may board where a trip ended
+    none = np.full(len(further) + 1, NO_ROW)  # boarding is allowed where the trip ended
     return replace(
         trip,
         stop=np.concatenate([trip.stop, further]),

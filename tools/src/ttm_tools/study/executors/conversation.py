@@ -54,7 +54,7 @@ class PendingAnswer:
         return self.future.done()
 
     def end(self) -> str | None:
-        """Names the matrix where there is one; else gives the line of the answer."""
+        """Gives the matrix its final name, and returns None; if there is no matrix, returns the line of the answer."""
         try:
             answer = self.future.result()
         except EngineError as fault:

@@ -57,7 +57,7 @@ class Hosts(contextlib.AbstractContextManager["Hosts"]):
         return [part for part in parts if not self.is_ending or part.number in self.done()]
 
     def done(self) -> set[int]:
-        """The numbers of the parts that parallel's log says were done; none where it can't be read."""
+        """The numbers of the parts that are done, by the log of parallel; none if it can't be read."""
         with contextlib.suppress(OSError, KeyError, ValueError, IndexError):
             lines = self.log.read_text(encoding="utf-8", errors="replace").splitlines()
             ended = list(csv.DictReader(lines, delimiter="\t", quoting=csv.QUOTE_NONE))

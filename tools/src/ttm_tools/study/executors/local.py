@@ -76,7 +76,7 @@ def missing_of(parts: Sequence[Part]) -> list[Part]:
 
 
 def log_ending(count: int) -> None:
-    """Says what becomes of the parts that run when somebody presses Ctrl-C."""
+    """Says what Ctrl-C does with the running parts."""
     if count:
         parts = quantity(count, "running part")
         say(f"interrupted: waiting for {parts}, which will be kept; Ctrl-C again stops at once")
@@ -90,7 +90,7 @@ class Pool:
         self.waiting = list(reversed(missing))
         self.said = time.monotonic()
         self.running: dict[int, tuple[Part, PartRun]] = {}
-        self.is_ending = False  # whether no more parts begin, since somebody pressed Ctrl-C
+        self.is_ending = False  # after Ctrl-C: no more parts begin
         self.has_said_so = False
 
     @property
@@ -121,7 +121,7 @@ class Pool:
         return [self.running.pop(number) for number in numbers]
 
     def tell(self) -> None:
-        """Says once a minute, where there is no terminal, that parts go on of which none has ended."""
+        """Without a terminal, says once a minute that parts are running, if none has ended since."""
         if not sys.stderr.isatty() and time.monotonic() - self.said > SECONDS_BETWEEN_LINES:
             self.said = time.monotonic()
             say(f"parts: {len(self.running)} running, {len(self.waiting)} waiting")
@@ -155,7 +155,7 @@ def ends_gently(begin_no_more: Callable[[], None]) -> Iterator[None]:
 
 
 def ends_of(pool: Pool) -> Generator[Failed | None, None, None]:
-    """What became of each part, as they end; all that run are ended where this is left."""
+    """Yields the outcome of each part as it ends; if the caller stops early, the running parts are ended."""
     try:
         while pool.goes_on:
             pool.fill()
@@ -175,8 +175,9 @@ def ended(part: Part, running: PartRun) -> Failed | None:
 
 
 def shown(ended: Iterator[Failed | None], total: int) -> Iterator[Failed | None]:
-    """The parts as they end, with a bar on a terminal, and elsewhere with a line a minute at the most: how many are
-    done, and how long it will take.
+    """Yields the parts as they end, and shows how many are done and how long the others will take.
+
+    A terminal has a progress bar, other outputs at most one line a minute.
     """
     if sys.stderr.isatty():
         yield from progress.track(ended, total, "parts", "parts")

@@ -50,7 +50,7 @@ class ExecutorOptions:
 
     @property
     def arguments(self) -> list[str]:
-        """The options as they are handed on, such as --partition=long."""
+        """The options for sbatch or parallel, such as --partition=long."""
         return [f"--{option.lstrip('-')}" for option in self.options]
 
 

@@ -1,6 +1,7 @@
-"""A part of a study as a task of another machine that shares its folder: what the task needs to know stands in
-parts/run.json, and `parts/one_part.sh NUMBER` is `ttm-tools study --part NUMBER` in that folder: so one place
-decides what a whole part is.
+"""A part of a study as a task of another machine that shares its folder.
+
+`parts/run.json` has what the task needs to know. `parts/one_part.sh NUMBER` runs `ttm-tools study --part NUMBER` in
+that folder, so one place decides what a complete part is.
 """
 
 import os

@@ -136,7 +136,7 @@ def classes_drawn(results: StudyMatrix, drawn: StudyMap) -> Any:
 
 
 def ground_for(results: StudyMatrix) -> tuple[AreaGround, Walking]:
-    """Where the places of the matrix lie, and how one walks on from them."""
+    """The positions of the matrix' places, and how travellers walk on from them."""
     study, (matrix, stops) = results.study, results.open()
     there = stops.of(matrix.stops)
     streets = study.at(study.walks.streets) if study.walks.streets else None

@@ -1,4 +1,4 @@
-"""The page of a study: one file to look at, and to send."""
+"""The page of a study: one file to view and to send."""
 
 from typing import Any, Sequence
 
@@ -16,7 +16,7 @@ from .tables import Records, StudyMatrix
 PAGE = "page.html"
 LEAST, MOST, OTHERWISE = 1.0, 250.0, 30.0  # minutes that a limit of the page may have, and if it has none of these
 COUNTS = (("counted", COUNTED), ("people", PEOPLE))  # stages and the files that they write
-SEED = 1  # of the draw of origins where there is no room for all
+SEED = 1  # of the draw of origins, if the page can't hold all
 
 
 def page_stages(results: StudyMatrix, records: Records) -> list[Stage]:

@@ -1,5 +1,5 @@
-"""The results of a study, each one entry: its files, what they are, and the function that gives its stages, by its
-module, in the order in which they are made. What runs and the table of docs/reference/study-file.md come from them.
+"""The results of a study, each one entry: its files, what they are, and the function that returns its stages, by its
+module. Stages run in this order, and the table of docs/reference/study-file.md lists them.
 """
 
 from dataclasses import dataclass

@@ -33,8 +33,8 @@ from ..stages import Record, Stage
 ACCESS_TABLE = "access.csv"
 Records = dict[str, Record]
 PAIRS = "_pairs"  # behind a scenario's name, the file of its pairs
-STOPS, POINTS = "stops", "points"  # what is counted where nothing else is named
-LOSE = 10.0  # percent of the base's access, from which on somebody counts as a loser
+STOPS, POINTS = "stops", "points"  # what is counted by default
+LOSE = 10.0  # percent of the base's access; people who lose this much count as losers
 
 
 @dataclass(frozen=True)
@@ -160,7 +160,7 @@ def people_stages(results: StudyMatrix, records: Records) -> list[Stage]:
 
 
 def nearest_people_stages(results: StudyMatrix, records: Records) -> list[Stage]:
-    """The same of the time to the nearest."""
+    """How the time to the nearest is spread over people, and how many are within bands."""
     return stages_of_people(results, records.get("nearest"), "_nearest", results.study.results.nearest_bands)
 
 

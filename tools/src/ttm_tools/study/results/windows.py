@@ -1,5 +1,5 @@
-"""What is made of the matrices of all windows and days: access and its spread over people by window, and pictures of
-them by time of day; and what a study's report says of them.
+"""Results of the matrices of all windows and days: access and its spread over people by window, pictures of both by
+time of day, and their part of the report.
 """
 
 from pathlib import Path

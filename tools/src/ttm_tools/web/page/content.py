@@ -1,4 +1,4 @@
-"""What a page is made of: places, travel times in minutes, access, and lines, as numbers."""
+"""The content of a page as numbers: places, travel times in minutes, access, and lines."""
 
 import itertools
 from dataclasses import dataclass
@@ -37,7 +37,7 @@ class PageOptions:
 
 @dataclass(frozen=True)
 class PagePlaces:
-    """The places of a page, and what of the matrix stands for them."""
+    """The places of a page, and the rows and columns of the matrix that they have."""
 
     places: Stops
     columns: list[str]  # the stops to which travel times are shown, in the order of places
@@ -63,8 +63,8 @@ class Content:
     ground: PagePlaces
     counts: Counts  # by place
     people: int  # the number of last columns of counts that are people
-    hidden: list[str]  # what is counted, and lies in part at stops that aren't shown
-    away: list[str]  # what is counted, and lies at no place at which journeys end
+    hidden: list[str]  # counts of which a part is at stops that aren't shown
+    away: list[str]  # counts of which all is at places where no journeys end
     measures: list[PageMeasure]
     times: list[list[PageTimes]]  # by scenario and share: the cells, and access by origin and measure
 
@@ -118,7 +118,7 @@ def measures_of(matrix: Matrix, names: Sequence[str], sought: Sequence[str], opt
 
 
 def content_of(whole: Matrix, matrix: Matrix, stops: Stops, options: PageOptions) -> Content:
-    """What is read for a page of a matrix, or of its points alone; access counts what lies at all stops."""
+    """Reads the content of a page of a matrix, or of its points alone; access counts what is at any stop."""
     return content_with(
         whole, ground_of(matrix, stops, options), *counts_of(whole.stops_and_origins(), options), options
     )

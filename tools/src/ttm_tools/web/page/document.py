@@ -45,12 +45,12 @@ class Frame:
     meanings: list[str]  # for each share
     sources: list[tuple[str, str]]
     sentences: list[str]  # what a reader needs to know of what is shown
-    minutes: int  # at which the slider stands first
+    minutes: int  # at which the slider begins
     walking: Walking = Walking()  # on from a stop
     tiles: str | None = None  # where a map is fetched from that is drawn below
     attribution: str = ""
     leaflet: str = LEAFLET
-    streets: PageStreets | None = None  # along which one walks on
+    streets: PageStreets | None = None  # along which travellers walk on
     ground: PageGround | None = None  # what is drawn below all else
 
 
@@ -127,7 +127,7 @@ def as_json(head: dict[str, Any]) -> str:
 
 @dataclass(frozen=True)
 class PageKind:
-    """Of which files a page is made: those of the page to send, or of one with a live source."""
+    """The files that a page consists of: those of the page to send, or of one with a live source."""
 
     template: str = "page.html"
     folders: tuple[Path, ...] = (ASSETS,)

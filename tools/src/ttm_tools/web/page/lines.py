@@ -28,7 +28,7 @@ class Lines:
 
 
 def change_of(before: OnGrid, after: OnGrid, projection: Projection) -> LineChange:
-    """The same in degrees."""
+    """What differs between the pieces of the grid before and after, in degrees."""
     found = on_grid(before, after)
     return LineChange(*(in_degrees(some, projection) for some in (found.taken, found.changed, found.added)))
 

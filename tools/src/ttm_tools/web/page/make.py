@@ -19,7 +19,7 @@ from .lines import Lines, page_lines, scenario_files
 from .settings import PageSettings
 from .streets import MOST_NODES, page_streets
 
-MINUTES, MOST_MINUTES = 30, 120  # of the slider: where it stands first, and where it ends
+MINUTES, MOST_MINUTES = 30, 120  # of the slider: where it begins, and its maximum
 
 
 @dataclass(frozen=True)
@@ -33,7 +33,7 @@ class Page:
 
 
 def options_of(matrix: Matrix, what: str, settings: PageSettings) -> PageOptions:
-    """What of the matrix is shown, stops or points; that it has it is looked at."""
+    """The scenarios and percentiles to show, of stops or points; refuses those that the matrix lacks."""
     base = matrix.scenario(settings.base or matrix.base)
     others = [matrix.scenario(name) for name in settings.scenarios or matrix.compared]
     scenarios = list(dict.fromkeys([base, *others]))
@@ -62,7 +62,7 @@ def page_of(matrix: Matrix, settings: PageSettings) -> Page:
 
 
 def with_streets(frame: Frame, ground: PagePlaces, settings: PageSettings) -> Frame:
-    """The same with the streets of the settings; if they are more than a page takes, this is reported."""
+    """Adds the streets of the settings; if they are more than a page takes, this is reported."""
     if settings.streets is None:
         return frame
     columns = ground.at(ground.columns)

@@ -22,14 +22,14 @@ LEVEL = 9
 
 @dataclass(frozen=True)
 class Element:
-    """What stands in one element of the page, found by its name."""
+    """The text of one element of the page, which is found by its name."""
 
     name: str
     text: str
 
 
 def part(name: str, numbers: npt.NDArray[Any]) -> Element:
-    """An array as it lies in memory, the least byte of each number first."""
+    """An array as little-endian bytes, compressed and in base64."""
     little = np.ascontiguousarray(numbers, numbers.dtype.newbyteorder("<"))
     return Element(name, base64.b64encode(zlib.compress(little.tobytes(), LEVEL)).decode("ascii"))
 

@@ -19,7 +19,7 @@ def in_order(places: Stops) -> Stops:
 
 
 def degrees_of(places: Stops) -> Whole:
-    """Latitude and longitude of each in millionths of a degree, NOWHERE where there is no place."""
+    """Latitude and longitude of each place in millionths of a degree, NOWHERE for one without coordinates."""
     degrees = np.stack([places.latitudes, places.longitudes], axis=1) * MICRO
     return np.where(np.isnan(degrees), NOWHERE, np.rint(degrees)).astype(np.int32)
 

@@ -17,12 +17,12 @@ FEED = "stops routes trips stop_times calendar calendar_dates frequencies transf
 
 @dataclass(frozen=True)
 class RunArguments:
-    """The arguments of the run, as far as they are reported."""
+    """The arguments of the run that are reported."""
 
     text: str = ""
 
     def value(self, name: str) -> str | None:
-        """What stands behind an option, or None."""
+        """The value of an option, or None."""
         try:
             texts = shlex.split(self.text)
         except ValueError as fault:

@@ -27,8 +27,8 @@ class PageStreets:
     degrees: Numbers  # latitude and longitude of each node in millionths of a degree
     begin: Numbers  # of each connection, ascending
     end: Numbers
-    at: Numbers  # of each place of the page the node where it is put, NO_NODE for none
-    beside: npt.NDArray[np.float32]  # of each place the metres to there
+    at: Numbers  # the node of each place of the page, NO_NODE for none
+    beside: npt.NDArray[np.float32]  # metres from each place to its node
     speed: float  # metres a second
 
     def parts(self) -> Iterator[Element]:
@@ -40,7 +40,7 @@ class PageStreets:
 
 
 def page_streets(path: str, places: Stops, columns: Numbers, walking: Walking, near: float) -> PageStreets | None:
-    """The streets within a walk of the columns' places that are drawn as marks; None where there is no such place."""
+    """The streets within a walk of the columns' places that are drawn as marks; None if no place is."""
     are_areas = np.array([name in places.areas for name in places.identifiers], dtype=np.bool_)
     is_cell = (places.sides()[:, 0] > 0) | are_areas
     bare = [column for column in columns.tolist() if places.placed[column] and not is_cell[column]]

@@ -20,7 +20,7 @@ const OWN = 9; // places of other routes that weigh as much as one of what is be
 const CARD = 12, BELOW_TOOLS = 64; // pixels from the card to the edges of the map
 const NEAR_LINE = 12; // pixels from a route's line at which a click takes it
 const routes = {
-  all: [], // as the server tells them
+  all: [], // as the server sends them
   chosen: -1,
   stops: [], // of a new line, or of a longer route
   redo: [], // changes that were undone

@@ -1,4 +1,4 @@
-// Places that are areas: their rings on the map, which of them lies where, and how one is painted.
+// Places that are areas: their rings on the map, which of them is at a point, and how they are painted.
 
 import { isWithin } from "../core/geometry.js";
 import { onWorld } from "./projection.js";

@@ -5,7 +5,7 @@
 
 import { paintSmall } from "./marks.js";
 
-const PARTS = 4; // of a pixel, across and down, at which stamps are drawn: a mark lies at most an eighth aside
+const PARTS = 4; // of a pixel, across and down, at which stamps are drawn: a mark is off by at most an eighth
 const STAMP = 8; // pixels that a mark may reach from its middle
 const PAIRS = 1 << 16; // of two alphas
 /** What becomes of a pixel over another one, by their alphas: the alpha of both, and how many of 256 parts of their

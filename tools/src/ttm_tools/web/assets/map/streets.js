@@ -1,12 +1,12 @@
-// Areas that are reached along streets: from a stop one walks on along them for the time that is left.
+// Areas that are reached along streets: from a stop travellers walk on along them for the time that is left.
 
 import { metresBetween } from "../core/geometry.js";
 import { onWorld } from "./projection.js";
 import { ReachedAreas } from "./reached.js";
 import { head, inflated, numbers } from "../page/data.js";
 
-const DRAWERS = 1024; // by which metres that are left are put in order
-const AT_ONCE = 400; // pieces of streets that are painted together
+const DRAWERS = 1024; // buckets of the metres that are left
+const AT_ONCE = 400; // pieces of streets per stroke
 /** The streets of the page: nodes, and one-way connections by the node at which they begin. */
 class Streets {
   constructor() {

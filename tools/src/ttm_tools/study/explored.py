@@ -6,17 +6,18 @@ from typing import Any, Collection, Iterator
 
 from ..core.errors import InputError
 from ..core.times import day_of
-from ..study.settings import Study
-from ..study.study_file import read_study
-from .options import ExploreOptions
+from ..web.options import ExploreOptions
+from .settings import Study
+from .study_file import read_study
 
 SAME = ("trips", "walk", "back", "ahead")  # names of [run] that are names of options
 WALKS = {"footpaths", "streets", "grid"}  # options that name or make walks
 
 
 def options_of_study(path: str, options: ExploreOptions, given: Collection[str]) -> tuple[ExploreOptions, list[str]]:
-    """The settings of a study's file, in place of which the options that are given hold; and sentences on what of the
-    study the page does not show. A study whose feed must be prepared first is refused.
+    """The settings of a study's file, and sentences on what the page does not show of the study.
+
+    Options that are given replace settings. A study whose feed must be prepared first is refused.
     """
     study = read_study(path)
     if not study.feed.ready or study.points.are_any:
