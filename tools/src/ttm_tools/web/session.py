@@ -24,6 +24,7 @@ from ..streets.walks import Pace
 from ..streets.osm import Streets, read_streets
 from . import planning
 from .changes import Namer, Values
+from .costs import cost_of
 from .journeys import JourneyQuestion, Journeys
 from .lines import FeedLines
 from .memory import give_back
@@ -166,6 +167,13 @@ class Exploration:
         lines = [{kind: getattr(change, kind).ravel().tolist() for kind in kinds} for change in changes]
         told = standing.plan.sentences
         return {"version": standing.version, "scenarios": standing.scenarios, "told": told, "lines": lines}
+
+    def cost(self, actions: list[Values]) -> dict[str, Any]:
+        """What the last of some changes costs on the day, after those before it; nothing is computed of journeys."""
+        with self.reading:
+            named = [Namer(self.ground.columns, self.of_routes).action(action) for action in actions]
+            before = planning.text_of("", named[:-1])
+            return cost_of(self.base, before, planning.text_of("", named), self.options.date, self.room)
 
     @cached_property
     def routes(self) -> bytes:
