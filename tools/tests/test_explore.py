@@ -174,7 +174,7 @@ def test_a_route_is_taken_out_undone_and_redone_by_clicks(served: Explored, brow
     browser.awaited("await routes.read_")
     browser.press("input[name=click][value=route]")
     between(browser, "C", "D")
-    assert browser.text("route-told") == "Route 2 (Q): 4 departures on 2026-05-04."
+    assert browser.text("route-told") == "Route 2 (Q): 4 departures on Mon 4 May 2026."
     browser.press("#take-out")
     changed(browser)
     assert browser.run("return head.scenarios") == ["today", "changed"]
@@ -309,6 +309,34 @@ def test_a_plan_is_compared_with_today_and_a_change_comes_beside_it(
         ]
 
 
+def test_the_card_says_what_a_change_costs_before_it_is_applied(served: Explored, browser: Browser) -> None:
+    """Route R leaves A every ten minutes from 08:00 to 09:50, and takes ten minutes."""
+    browser.click("A")
+    browser.awaited("await routes.read_;")
+    browser.run("routes.choose(0)")
+
+    def costs(name: str, **values: str) -> str:
+        for field, value in values.items():
+            script = "const it = element(arguments[0]); it.value = arguments[1]; it.dispatchEvent(new Event('input'));"
+            browser.run(script, f"{name}-{field}", value)
+        browser.awaited("await show(); await new Promise((it) => setTimeout(it, 400)); await cost.asked_;")
+        return browser.text("headway-cost" if name == "headway" else "line-cost")
+
+    assert (
+        costs("headway", **{"from": "08:00", "to": "10:00", "every": "5"}) == "+12 departures, +2 vehicle hours a day"
+    )
+    assert costs("headway", every="30") == "\u22128 departures, \u22121.3 vehicle hours a day"
+    assert costs("headway", every="10") == "±0 departures, ±0 vehicle hours a day"
+    assert costs("headway", every="0") == ""
+    assert browser.run("return live.actions.length") == 0
+    browser.awaited("await routes.add({ do: 'remove_route', route: 0 });")
+    browser.run("setMode('stops'); routes.keepStops([head.identifiers.indexOf('A'), head.identifiers.indexOf('D')])")
+    said = costs("line", first="08:00", last="08:30", every="15", speed="60", dwell="0")
+    metres = browser.run("return page.map.distance([47.0, 8.0], [47.02, 8.04])")
+    hours = round(6 * metres / 1000 / 60, 1)
+    assert said == f"+6 departures, +{hours:g} vehicle hours a day"
+
+
 def test_an_address_holds_the_view_with_its_changes(served: Explored, browser: Browser) -> None:
     slide(browser, "last", 485)
     slide(browser, "trips", 3)
@@ -350,7 +378,10 @@ def test_a_saved_study_computes_the_same_numbers(served: Explored, browser: Brow
 
 SAVED = """
 const texts = window.texts = [], old = CanvasRenderingContext2D.prototype.fillText;
-CanvasRenderingContext2D.prototype.fillText = function (text, ...more) { texts.push(text); old.call(this, text, ...more); };
+CanvasRenderingContext2D.prototype.fillText = function (text, ...more) {
+  texts.push(text);
+  old.call(this, text, ...more);
+};
 const picture = await createImageBitmap(await keep.picture()), canvas = document.createElement("canvas");
 CanvasRenderingContext2D.prototype.fillText = old;
 Object.assign(canvas, { width: picture.width, height: picture.height });
@@ -403,7 +434,7 @@ def test_by_keyboard_and_on_a_phone(served: Explored, browser: Browser) -> None:
     browser.driver.find_element("css selector", "input[name=click][value=end]").send_keys(DOWN)
     browser.awaited("await routes.read_")
     browser.type("route", DOWN, DOWN)
-    assert browser.text("route-told") == "Route 2 (Q): 4 departures on 2026-05-04."
+    assert browser.text("route-told") == "Route 2 (Q): 4 departures on Mon 4 May 2026."
     browser.type("take-out", ENTER)
     changed(browser)
     browser.press("#tabs button[value=change]")

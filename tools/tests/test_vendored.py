@@ -6,10 +6,12 @@ from pathlib import Path
 import pytest
 
 from ttm_tools.core.shipped import IN_DEBIAN, VENDORED
+from ttm_tools.views.texts import INTER
 from ttm_tools.web.styling import FONT
 
 LISTED = {
     VENDORED: ({"leaflet.min.js", "leaflet.css"}, "Redistribution and use in source and binary forms"),
+    INTER: ({"Inter-Regular.ttf", "Inter-Bold.ttf"}, "SIL OPEN FONT LICENSE"),
     FONT: ({f"Inter-{weight}.woff2" for weight in ("Regular", "SemiBold", "Bold")}, "SIL OPEN FONT LICENSE"),
 }
 
@@ -20,7 +22,7 @@ def checksums(folder: Path) -> dict[str, str]:
     return {name: digest for digest, name in (line.split("  ") for line in lines)}
 
 
-@pytest.mark.parametrize("folder", LISTED, ids=["leaflet", "inter"])
+@pytest.mark.parametrize("folder", LISTED, ids=["leaflet", "pictures", "pages"])
 def test_each_file_has_its_checksum_and_the_folder_a_licence(folder: Path) -> None:
     names, words = LISTED[folder]
     assert {path.name for path in folder.iterdir()} == names | {"SHA256SUMS", "LICENSE.txt"}

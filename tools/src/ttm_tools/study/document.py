@@ -9,17 +9,30 @@ from typing import Iterable, Sequence
 from urllib.parse import quote
 
 from ..core.text import markdown as plain, printed
+from ..web.styling import font_style
 
 STYLE = """\
-body { font: 16px/1.5 sans-serif; margin: 0; color: #222; }
+body { font: 16px/1.5 Inter, sans-serif; margin: 0; color: #14171a; }
 main { max-width: 74em; margin: 2em auto; padding: 0 1em; }
+h1 { font-size: 30px; line-height: 36px; letter-spacing: -0.02em; margin: 0 0 12px; }
+.lead { font-size: 20px; line-height: 28px; margin: 0 0 12px; }
+.loss { color: #a21328; }
+.gain { color: #1b5a9c; }
+.chips { margin: 12px 0 24px; }
+.chips span { display: inline-block; background: #f3f2ee; color: #545b62; font-size: 14px; border-radius: 999px;
+  padding: 2px 12px; margin: 0 8px 8px 0; }
+.figures { display: grid; gap: 16px; max-width: 60em; }
+.figures p { margin: 0; max-width: none; }
 h1, h2, h3, p, li { max-width: 60em; overflow-wrap: anywhere; }
 .wide { overflow-x: auto; margin: 1em 0; }
 .wide:focus-visible { outline: 3px solid #0b57a4; outline-offset: 2px; }
 table { border-collapse: collapse; font-size: 0.9em; }
-caption { text-align: left; font-weight: bold; padding: 0.2em 0; box-sizing: border-box; }
+caption { text-align: left; font-weight: bold; padding: 0.4em 0; box-sizing: border-box; }
 @media screen { caption { max-width: calc(100vw - 3em); } } /* of a table that is wider than the screen */
-th, td { border: 1px solid #bbb; padding: 0.2em 0.6em; text-align: left; vertical-align: top; }
+th, td { border-bottom: 1px solid #dfe2e4; padding: 0.4em 0.8em; text-align: left; vertical-align: top; }
+th { font-weight: 400; color: #545b62; vertical-align: bottom; }
+thead th { border-bottom: 1px solid #14171a; }
+tr > :first-child { padding-left: 0; }
 td.number { text-align: right; white-space: nowrap; font-variant-numeric: tabular-nums; }
 code { background: #f2f2f2; overflow-wrap: anywhere; }
 td.sum { font-family: monospace; overflow-wrap: anywhere; }
@@ -29,6 +42,12 @@ img { max-width: 100%; height: auto; }
 @media print {
   body { font-size: 10.5pt; }
   main { max-width: none; margin: 0; padding: 0; }
+  h1 { font-size: 20pt; line-height: 24pt; }
+  .lead { font-size: 13pt; line-height: 18pt; }
+  .chips span { font-size: 8.5pt; padding: 0; margin-right: 3mm; background: none; }
+  .figures { gap: 2mm; }
+  .figures img { max-height: 125mm; }
+  .figures p + p img { max-height: 60mm; }
   .wide { overflow: visible; }
   table { display: table; width: calc(100% - 1mm); font-size: 7.5pt; }
   caption { font-size: 9pt; }
@@ -64,6 +83,18 @@ class Document:
     def paragraph(self, text: str) -> None:
         self.markdown.append(plain(text))
         self.body.append(f"<p>{html.escape(text)}</p>")
+
+    def block(self, markdown: str, body: str) -> None:
+        """A block in both forms as they are."""
+        self.markdown.append(markdown)
+        self.body.append(body)
+
+    def figures(self, pictures: Sequence[tuple[str, str]]) -> None:
+        """Pictures with a text for each, which fit on one sheet together."""
+        before = len(self.body)
+        for path, text in pictures:
+            self.picture(path, text)
+        self.body[before:] = ['<div class="figures">', *self.body[before:], "</div>"]
 
     def items(self, texts: Iterable[str]) -> None:
         listed = list(texts)
@@ -105,7 +136,7 @@ class Document:
         title = html.escape(self.title)
         head = f'<!DOCTYPE html>\n<html lang="en"><head><meta charset="utf-8"><title>{title}</title>'
         look = '<meta name="viewport" content="width=device-width, initial-scale=1">'
-        begin = f"{head}{look}<style>\n{STYLE}\n</style></head><body>\n<main>\n<h1>{title}</h1>"
+        begin = f"{head}{look}<style>\n{font_style()}{STYLE}\n</style></head><body>\n<main>\n<h1>{title}</h1>"
         return "\n".join([begin, *self.body, "</main>\n</body></html>"]) + "\n"
 
 

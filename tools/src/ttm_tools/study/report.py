@@ -14,6 +14,7 @@ from ..places.folder import UNREACHED
 from ..places.grid import OUTSIDE
 from .counted import NOT_COUNTED, REACH_NOTHING
 from .document import Document
+from .opening import write_opening
 from .outside import sentence_on_outside
 from .results.maps import AREAS, maps_of
 from .results.page import PAGE
@@ -72,6 +73,7 @@ def report_of(results: StudyMatrix, records: Records) -> Document:
     for text in (study.about.question, study.about.note):
         if text:
             document.paragraph(text)
+    write_opening(document, results, records)
     document.heading("Figures")
     write_figures(document, results, records)
     document.heading("Inputs")

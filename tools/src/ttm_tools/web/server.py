@@ -29,9 +29,10 @@ def application(session: ExploreSession, guard: Guard) -> Flask:
     server = Flask(__name__, static_folder=None, template_folder=None)
     server.before_request(lambda: refusal(guard))
     server.after_request(with_headers)
-    answers = {"": page, "times": times, "journey": journey, "routes": routes, "changes": changes, "study": study}
-    for name, answer in answers.items():
-        methods = ["POST" if answer in (changes, study) else "GET"]
+    answers = {"": page, "times": times, "journey": journey, "routes": routes}
+    sent = {"changes": changes, "cost": cost, "study": study}
+    for name, answer in {**answers, **sent}.items():
+        methods = ["POST" if name in sent else "GET"]
         view = functools.partial(answered, answer, session)
         server.add_url_rule(f"/<token>/{name}", name or "page", view, methods=methods, provide_automatic_options=False)
     return server
@@ -99,6 +100,14 @@ def changes(session: ExploreSession) -> Answer:
     """Begins the network of a tab's changes, or of another longest walk."""
     body = body_sent()
     return session.change(tab_of(texts_of(body, "tab")), actions_of(body), walk_of(body)), 200
+
+
+def cost(session: ExploreSession) -> Answer:
+    """Departures and vehicle hours of the last of a tab's changes, which is not applied."""
+    actions = actions_of(body_sent())
+    if not actions:
+        raise ArgumentError("actions is empty, so there is no cost")
+    return session.cost(actions), 200
 
 
 def study(session: ExploreSession) -> Answer:

@@ -22,6 +22,7 @@ from ..plans.plan_file import read_plan
 from ..streets.osm import Streets, read_streets
 from . import planning
 from .changes import Namer, Values
+from .costs import cost_of
 from .journeys import JourneyQuestion, Journeys
 from .latest_only import LatestOnly
 from .lines import FeedLines
@@ -168,6 +169,13 @@ class ExploreSession:
         lines = [{kind: getattr(change, kind).ravel().tolist() for kind in kinds} for change in changes]
         told = live.plan.sentences
         return {"version": live.version, "scenarios": live.scenarios, "told": told, "lines": lines}
+
+    def cost(self, actions: list[Values]) -> dict[str, Any]:
+        """What the last of some changes costs on the day, after those before it; nothing is computed of journeys."""
+        with self.reading:
+            named = [Namer(self.ground.columns, self.of_routes).action(action) for action in actions]
+            before = planning.text_of("", named[:-1])
+            return cost_of(self.base, before, planning.text_of("", named), self.options.date, self.room)
 
     @cached_property
     def routes(self) -> bytes:

@@ -50,6 +50,12 @@ RESULTS = (
         " `COLUMN_maps.png` (at most 48 windows)",
         "results.windows.window_stages",
     ),
+    StudyResult(
+        "`people/`",
+        "`order.png`, each person (or stop) from the greatest loss of access to the greatest gain; `groups.png`, who"
+        " loses and who gains in each group of people",
+        "results.changes.change_stages",
+    ),
     StudyResult("`isochrones/STOP.geojson`", "areas, of each scenario", "results.maps.areas_stages"),
     StudyResult(
         "`maps/`",

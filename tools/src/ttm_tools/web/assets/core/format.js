@@ -28,6 +28,13 @@ export function toldChange(number) {
   return `${number > 0 ? "+" : ""}${told(number)}`;
 }
 
+/** What a change costs on the day: +78 departures, +38 vehicle hours. */
+export function costTold({ departures, hours }) {
+  const sign = (number) => (number > 0 ? "+" : number < 0 ? "\u2212" : "±");
+  const text = (number, name) => `${sign(number)}${counted(Math.abs(number), name)}`;
+  return `${text(departures, "departures")}, ${text(hours, "vehicle hours")} a day`;
+}
+
 export function places(count) {
   return `${told(count)} ${count === 1 ? "place" : "places"}`;
 }

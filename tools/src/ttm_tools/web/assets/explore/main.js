@@ -4,6 +4,7 @@ import "./live.js";
 import "./sliders.js";
 import "./journey.js";
 import "./routes.js";
+import "./cost.js";
 import "./beside.js";
 import "./keep.js";
 import "./point.js";

@@ -1,7 +1,7 @@
 // Changes of the network: a route is chosen on the map or in the list, and each change is an action of a plan.
 
 import { CHANGED_LINES } from "../core/constants.js";
-import { minutesOfClock, told } from "../core/format.js";
+import { dateTold, minutesOfClock, told } from "../core/format.js";
 import { farFrom } from "../core/geometry.js";
 import { table } from "../core/table.js";
 import { areRight, clearErrors, clockIn, toldAtField } from "./fields.js";
@@ -19,7 +19,7 @@ import { nameSearched, show } from "../ui/view.js";
 const OWN = 9; // places of other routes that weigh as much as one of what is being changed
 const CARD = 12, BELOW_TOOLS = 64; // pixels from the card to the edges of the map
 const NEAR_LINE = 12; // pixels from a route's line at which a click takes it
-const routes = {
+export const routes = {
   all: [], // as the server sends them
   chosen: -1,
   stops: [], // of a new line, or of a longer route
@@ -50,8 +50,7 @@ const routes = {
     const value = (name) => element(name).value, whole = (name) => Math.round(Number(value(name)));
     const own = () => ({ route: this.chosen });
     const period = ["headway-from", "headway-to"];
-    const headway = (every) =>
-      this.add({ do: "headway", ...own(), every: every(), from: clockIn(period[0]), to: clockIn(period[1]) });
+    const headway = (every) => this.add(this.headwayAction(every()));
     for (const name of ["route-card", "line-card"]) {
       element(name).addEventListener("submit", (event) => event.preventDefault());
     }
@@ -69,8 +68,7 @@ const routes = {
     on("extend", right(["line-speed", "line-dwell"], () =>
       this.add({ do: "extend", ...own(), way: whole("way"), ...pace() })));
     const line = ["line-name", "line-speed", "line-dwell", "line-first", "line-last", "line-every"];
-    on("add-line", right(line, () => this.add({ do: "add_line", name: value("line-name"), ...pace(), both: true,
-      first: clockIn("line-first"), last: clockIn("line-last"), every: 60 * whole("line-every") })));
+    on("add-line", right(line, () => this.add(this.lineAction())));
     on("forget-stops", () => this.keepStops([]));
     on("undo", () => this.undo());
     on("redo", () => this.redone());
@@ -81,6 +79,19 @@ const routes = {
     for (const radio of document.querySelectorAll("input[name=click]")) {
       radio.addEventListener("change", () => this.showCard());
     }
+  },
+
+  /** The action of the route's card, with so many seconds between departures. */
+  headwayAction(every) {
+    return { do: "headway", route: this.chosen, every, from: clockIn("headway-from"), to: clockIn("headway-to") };
+  },
+
+  /** The action of the card of a new line. */
+  lineAction() {
+    const value = (name) => element(name).value, whole = (name) => Math.round(Number(value(name)));
+    const pace = { stops: this.stops, speed: value("line-speed"), dwell: whole("line-dwell"), both: true };
+    const hours = { first: clockIn("line-first"), last: clockIn("line-last"), every: 60 * whole("line-every") };
+    return { do: "add_line", name: value("line-name"), ...pace, ...hours };
   },
 
   /** Shows the card of what is being changed. */
@@ -194,7 +205,7 @@ const routes = {
     if (route >= 0) {
       setMode("route");
       const { name, ways } = this.all[route], count = ways.reduce((sum, way) => sum + way.count, 0);
-      element("route-told").textContent = `Route ${name}: ${told(count)} departures on ${asked.date}.`;
+      element("route-told").textContent = `Route ${name}: ${told(count)} departures on ${dateTold(asked.date)}.`;
       fill("way", ...optionsOf(ways.map(({ stops, count: own }) =>
         `from ${nameOf(stops[0])} to ${nameOf(stops[stops.length - 1])} (${told(own)})`)));
       this.tellWay();
