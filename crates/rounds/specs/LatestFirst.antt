@@ -17,8 +17,8 @@ use Rattle.rounds.specs.Batches.{AreTimesFrom, IsBaseFor}
 use Rattle.rounds.specs.Query.{AreDepartures, IsWorkspaceFor}
 use Rattle.rounds.specs.Table.{batches_of}
 
--- a search from an origin at each of some departures, for journeys of at most so many rides; the departures from
--- position `from` on have been searched, and those of the last batch are the LANES from there on
+-- a search from an origin at each of some departures, for journeys of at most `rides` rides; the departures from position
+-- `from` on have been searched, the first LANES of them in the last batch
 pub record DepartureSearch : Type 0 where
   pub net : Net
   pub origin : ℕ
@@ -72,7 +72,7 @@ pub record HasBounds (s : DepartureSearch) (b : Bounds) : Type 0 where
       AreTimesFrom NEVER base s.net (record { stop = s.origin; time = cut base NEVER b.departure }) s.rides
       b.rounds.items
 
--- the search has come as far as its position: it has the durations of the last batch, and what the next one needs
+-- a search in progress: the durations of its last batch, and the bounds and workspace of the next batch
 pub record IsUnderWay (s : DepartureSearch) (lines : LineTable) (p : Progress) : Type 0 where
   pub whole : s.from % LANES ≡ 0
   pub few : s.from < length s.times + LANES

@@ -32,7 +32,7 @@ pub fn are_departures(times: &[u32]) -> bool
     0 < count && times[count - 1] < END_OF_AXIS
 }
 
-/// What a search keeps from batch to batch.
+/// The state that a search carries from batch to batch.
 #[derive(Drop)]
 pub(crate) struct Progress {
     pub workspace: Workspace<Lanes>,
@@ -162,7 +162,7 @@ impl<'a> LatestFirst<'a> {
         ensures whole { self.now.from % LANES_VALUE ≡ 0 }
         ensures few { self.now.from < length self.now.times + LANES_VALUE }
     {
-        // A look at a field brings the invariant into the proof.
+        // Reading a field brings the invariant into the proof.
         let _ = &self.progress;
         self.from
     }
@@ -187,7 +187,7 @@ fn no_durations(alloc: Global, stops: u32) -> Result<Vec<Lanes>, AllocError>
     Ok(vec![in alloc; [NEVER; LANES]; stops as usize]?)
 }
 
-/// Makes what a search keeps from batch to batch. Out of memory is the only error.
+/// Allocates the state of a search that has searched nothing yet. Out of memory is the only error.
 fn begin(alloc: Global, query: Query<'_>) -> Result<Progress, AllocError>
     requires { IsValidQuery query }
     ensures { IfOk result (λ progress.
