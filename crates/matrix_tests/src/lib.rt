@@ -7,6 +7,7 @@
 //! - `lanes`: trips, lines, walks and changes, sixteen or thirty-two departures at a time.
 //! - `lane_rows`: what narrow labels do in rows of sixteen and of forty-eight.
 //! - `windows`: the durations of a window beside those of each of its minutes, and one search for several networks.
+//! - `latest_first`: departures at any times, batch by batch from the latest, compared with each departure alone.
 #![tactic(auto)]
 
 #[cfg(test)]
@@ -21,6 +22,8 @@ mod horizons;
 mod lane_rows;
 #[cfg(test)]
 mod lanes;
+#[cfg(test)]
+mod latest_first;
 #[cfg(test)]
 mod networks;
 #[cfg(test)]

@@ -88,7 +88,7 @@ fn busy_trips(alloc: Global) -> Result<Vec<Trip>, AllocError> {
 }
 
 /// The network of these trips, over 8 stops.
-fn busy(alloc: Global) -> Result<SmallNetwork, AllocError> {
+pub(crate) fn busy(alloc: Global) -> Result<SmallNetwork, AllocError> {
     let changes = Vec::from_slice(alloc, &CHANGES)?;
     network_over(alloc, 8, &FOOTPATHS, changes, busy_trips(alloc)?)
 }

@@ -32,3 +32,4 @@ pub mod TripsAsRows
 pub mod TripsLeftOut
 pub mod UnboundedBatches
 pub mod WalksListed
+pub mod WideLabels

@@ -7,27 +7,34 @@ use Rattle.rounds.specs.declared.query.Query.{Query}
 use Rattle.rounds.specs.Batches.{IsInRange, departure_at}
 use Rattle.rounds.specs.Query.{AreDepartures}
 
-module _ (times : List ℕ) (are : AreDepartures times) where
-  -- a departure some positions on is later by a second for each at least
-  pub no_sooner : (j l : ℕ) → j + l < length times → slice_index times j + l ≤ slice_index times (j + l)
-  no_sooner j zero h =
+module _ (times : List ℕ) (ascend : (j : ℕ) → j + 1 < length times → slice_index times j < slice_index times (j + 1)) where
+  -- what lies some positions on is later by a second for each at least
+  pub rises : (j l : ℕ) → j + l < length times → slice_index times j + l ≤ slice_index times (j + l)
+  rises j zero h =
       let e : j + zero ≡ j = omega arith in
       let same = ap (λ (i : ℕ). slice_index times i) e in
       omega (arith, same)
-  no_sooner j (suc l) h =
+  rises j (suc l) h =
       let e : j + suc l ≡ j + l + 1 = omega arith in
       let same = ap (λ (i : ℕ). slice_index times i) e in
-      let low = no_sooner j l (omega (arith, h)) in
-      let up = are.ascend (j + l) (omega (arith, h)) in
+      let low = rises j l (omega (arith, h)) in
+      let up = ascend (j + l) (omega (arith, h)) in
       omega (arith, same, low, up)
 
-  -- those that come later are no sooner
-  pub ascends : (j i : ℕ) → j ≤ i → i < length times → slice_index times j ≤ slice_index times i
-  ascends j i le h =
+  -- what comes later is no sooner
+  pub rises_to : (j i : ℕ) → j ≤ i → i < length times → slice_index times j ≤ slice_index times i
+  rises_to j i le h =
       let e : j + (i - j) ≡ i = omega (arith, le) in
       let same = ap (λ (k : ℕ). slice_index times k) e in
-      let low = no_sooner j (i - j) (omega (arith, e, h)) in
+      let low = rises j (i - j) (omega (arith, e, h)) in
       omega (arith, same, low)
+
+module _ (times : List ℕ) (are : AreDepartures times) where
+  pub no_sooner : (j l : ℕ) → j + l < length times → slice_index times j + l ≤ slice_index times (j + l)
+  no_sooner = rises times are.ascend
+
+  pub ascends : (j i : ℕ) → j ≤ i → i < length times → slice_index times j ≤ slice_index times i
+  ascends = rises_to times are.ascend
 
   -- none is sooner than the first
   pub after_first : (j : ℕ) → j < length times → slice_index times 0 ≤ slice_index times j

@@ -16,3 +16,4 @@ pub mod CappedLabels
 pub mod Last
 pub mod Useful
 pub mod Skipped
+pub mod LatestFirst

@@ -22,7 +22,7 @@ pub record IsSearch (never : ℕ) (q : Query) (last : List ℕ) : Type 0 where
   pub ranks : All (λ row. length row ≤ never) q.lines.now.lines
   pub last_arrivals : AreLast q last
 
--- rows with space for so many minutes, stop by stop; the numbers past the departures hold NEVER
+-- rows with space for `minutes` numbers, stop by stop; the numbers past the departures hold NEVER
 pub record HaveRoom (q : Query) (minutes : ℕ) (labels : List (List ℕ)) : Type 0 where
   pub size : length labels ≡ q.network.now.stops * batches_of minutes
   pub unused : AreUnusedFrom q.network.now.stops (length q.times.now) minutes labels

@@ -1,4 +1,4 @@
--- A window, of which some minutes are searched: their departures, and which of them stands in for each minute.
+-- The searched minutes of a window, and their departures.
 use Rattle.std.specs.Prelude.{◌≡◌, ℕ, ◌*◌, ◌<◌, List, length, slice_index}
 use Rattle.trip_lanes.specs.declared.lanes.TheConstants.{LANES}
 use Rattle.useful_minutes.specs.Plan.{IsPlan, SkipsNothing}

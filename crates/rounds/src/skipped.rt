@@ -24,9 +24,9 @@ pub(crate) struct WindowPlan<'a> {
     pub window: Window,
     /// The minutes of the window that are searched, in ascending order.
     pub searched: &'a [u32],
-    /// For each minute the position of the searched minute that stands in for it.
+    /// For each minute, the position of the first searched minute that is no earlier.
     pub positions: &'a [u32],
-    /// The seconds from each minute to the one that stands in for it.
+    /// The seconds that each minute waits for it.
     pub waits: &'a [u32],
     /// The search number of each stop of the network.
     pub numbers: &'a [u32],

@@ -14,7 +14,7 @@ use trip_lanes::{LANES, LaneLabels, Lanes, since};
 
 /// Writes for a batch how long after its departure each stop is reached, by a ride or by a walk, among the durations of
 /// all departures, where those of a stop stand side by side.
-fn write_batch(
+pub(crate) fn write_batch(
     labels: &mut [Lanes],
     workspace: &Workspace<Lanes>,
     departures: Lanes,
