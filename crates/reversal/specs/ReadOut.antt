@@ -42,7 +42,7 @@ pub record IsNeverServed (h : ℕ) (n mirrored : Net) (first p k origin start : 
   pub labelled : IsDeadlineLabel h mirrored first p k origin end label
   pub unserved : end < start + label
 
--- the search may stop, as far as this start goes: no deadline is left, a searched one serves, or none ever will
+-- the search may stop for this start: no deadline is left, a searched one serves, or none ever will
 abbrev pub IsEnough : ℕ → Net → Net → ℕ → ℕ → ℕ → ℕ → ℕ → ℕ → List ℕ → List ℕ → Type 0
 IsEnough h n mirrored first through p k origin start times labels =
     ((time : ℕ) → IsDeadline n p time → time ≤ through)

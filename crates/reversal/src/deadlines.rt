@@ -61,8 +61,8 @@ fn walk_alone(feet: &Feet, a: StopNo, b: StopNo) -> u32
 
 /// Adds the deadlines of one trip, from `first` on.
 ///
-/// The events are visited from the last to the first, with the least arrival so far. The first event is left out, since
-/// nobody alights before a ride.
+/// The events are visited from the last to the first, with the least arrival of the later ones. The first event is left
+/// out, since no ride ends there.
 fn add_deadlines(
     times: &mut Vec<u32>,
     feet: &Feet,
@@ -86,7 +86,7 @@ fn add_deadlines(
     Ok(())
 }
 
-/// Adds a time if it is less than the least arrival so far and not before `first`. Returns the new least arrival.
+/// Adds a time if it is less than the least arrival and not before `first`. Returns the new least arrival.
 fn add_earlier(times: &mut Vec<u32>, time: u32, least: u32, first: u32) -> Result<u32, AllocError>
     ensures least { IfOk result (λ less. less ≡ min time least) }
     ensures times { OnOk result ((t : ℕ) → Contains times.new.items t ↔

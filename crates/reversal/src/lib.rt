@@ -21,7 +21,7 @@
 //!
 //! # Modules, in reading order
 //!
-//! - `mirror`: [`mirrored`], the mirrored network.
+//! - `mirror`: [`mirrored`], the mirrored network, and [`horizon_of`].
 //! - `deadlines`: [`deadlines_of`], and [`walks_to`], the walks alone that lead to a destination.
 //! - `read_out`: [`until_served`], the duration that the labels of deadlines give for one start.
 //! - `laws`: that mirrored networks are networks like any other, the law of reversal, and the law of the read-out.
@@ -36,5 +36,5 @@ mod read_out;
 
 pub use deadlines::{deadlines_of, walks_to};
 pub use laws::{durations_from_deadlines, journeys_reverse, mirrored_networks_are_networks};
-pub use mirror::mirrored;
+pub use mirror::{horizon_of, mirrored};
 pub use read_out::until_served;

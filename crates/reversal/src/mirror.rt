@@ -1,5 +1,5 @@
-//! [`mirrored`]: the mirrored network.
-ghost use Rattle.std.specs.Prelude.{◌≡◌, ◌≤◌, ◌<◌, ◌∷◌, ◌++◌, ℕ, [], All, IfErr, IfOk, OnOk, length, map, reverse};
+//! [`mirrored`]: the mirrored network; and [`horizon_of`], a horizon for it.
+ghost use Rattle.std.specs.Prelude.{◌≡◌, ◌+◌, ◌≤◌, ◌<◌, ◌∷◌, ◌++◌, ℕ, [], All, IfErr, IfOk, OnOk, length, map, reverse};
 ghost use Rattle.std.specs.Prelude.{slice_index_or, slice_set, replicate};
 ghost use Rattle.timetable.specs.declared.faults.NetFault.TheVariants.{Memory};
 ghost use Rattle.timetable.specs.Footpaths.{rows_of};
@@ -9,10 +9,19 @@ ghost use Rattle.reversal.specs.Mirror.{reversed_between};
 use std::alloc::{AllocError, Global};
 use timetable::{END_OF_AXIS, Event, Events, Feet, NetFault, Network, StopNo, Trip};
 
+/// Returns a horizon of the network: the last second of the axis, which no event is later than.
+pub fn horizon_of(network: &Network) -> u32
+    ensures horizon { IsHorizon result network.now.trips }
+    ensures last { result + 1 ≡ END_OF_AXIS }
+{
+    network.known();
+    END_OF_AXIS - 1
+}
+
 /// Builds the mirrored network. Out of memory is the only error.
 ///
-/// No event of the network may be later than `horizon`, which is a second of the axis; `END_OF_AXIS - 1` serves every
-/// network. Takes time and memory in proportion to the network, which stays as it is.
+/// No event of the network may be later than `horizon`, which is a second of the axis. Takes time and memory in
+/// proportion to the network, which stays as it is.
 pub fn mirrored(alloc: Global, network: &Network, horizon: u32) -> Result<Network, NetFault>
     requires horizon { IsHorizon horizon network.now.trips }
     requires axis { horizon < END_OF_AXIS }

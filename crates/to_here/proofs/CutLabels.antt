@@ -1,4 +1,4 @@
--- Labels that are cut are right as far as durations need them.
+-- Labels that are cut past the mirrored first start are labels of their deadlines.
 use Rattle.std.proofs.Common.{◌≡◌, inl, inr, ◌+◌, ◌-◌, subst, arith}
 use Rattle.std.proofs.lemmas.Bool.{cases_lt}
 use Rattle.timetable.specs.Journeys.{IsReached}

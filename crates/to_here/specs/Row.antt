@@ -22,7 +22,7 @@ abbrev pub AreFronts : Window → List ℕ → (ℕ → List ℕ) → List Origi
 AreFronts w times labels row = (o : ℕ) (x : OriginDurations) → slice_get row o ≡ Some x →
     IsFront w times (labels o) x.front x.durations.items
 
--- the labels of an origin, where labels stand origin by origin, so many for each
+-- the labels of an origin in a list of labels origin by origin, with `width` labels for each
 abbrev pub labels_for : List ℕ → ℕ → ℕ → List ℕ
 labels_for labels width o = slice_range labels (o * width) (o * width + width)
 

@@ -34,8 +34,8 @@ pub fn no_durations(alloc: Global, window: Window) -> Result<Vec<u32>, AllocErro
 /// Takes the labels of further deadlines, in ascending order, and returns the new front.
 ///
 /// `front` is the front of the deadlines before these. On entry, `durations` has the durations of the departures that
-/// it passed, and `NEVER` for the others; on return, the same of the new front. Takes one step for each deadline, and
-/// one for each departure that is served for the first time.
+/// it passed, and `NEVER` for the others; on return, those that the new front passed. Takes one step for each deadline,
+/// and one for each departure that is served for the first time.
 pub fn advance(
     window: Window,
     deadlines: &[u32],

@@ -1,10 +1,10 @@
 //! Theorems about the labels of deadlines, and the durations that follow from them.
 ghost use Rattle.to_here.specs.Laws.{CutLabelsSuffice, FrontsGiveDurations, FullFrontsAreEnough};
 
-/// A law: labels that are cut past the mirrored first start are right as far as durations need them.
+/// A law: labels that are cut past the mirrored first start give the same durations as whole ones.
 ///
-/// So narrow labels suffice for whole windows: a label at the cap stands for an origin from which no departure of the
-/// window is in time.
+/// So narrow labels suffice for whole windows: a label at the cap means that no departure of the window leaves the
+/// origin in time.
 pub fn cut_labels_suffice()
     ensures { CutLabelsSuffice }
 {}

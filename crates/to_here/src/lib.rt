@@ -8,9 +8,9 @@
 //! # Terms
 //!
 //! - *Deadline*, *label*, *served*: as in `reversal`.
-//! - *Front* of an origin: the number of departures that the deadlines searched so far serve. These departures are the
-//!   first ones of the window, since a traveller who starts earlier is never later. As deadlines ascend, the front only
-//!   grows, and a departure that it passes gets its duration once and for all.
+//! - *Front* of an origin: the number of departures that the searched deadlines serve. These are the first departures
+//!   of the window, since a traveller who starts earlier is never later. As deadlines ascend, the front only grows, and a
+//!   departure that it passes gets its duration once and for all.
 //! - *Last front*: the front of a search from a time that no deadline is later than. Once an origin has reached it, no
 //!   further deadline serves any of its departures.
 //!

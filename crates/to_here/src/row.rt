@@ -10,10 +10,10 @@ use crate::front::{advance, front_of, lower_to_walk, no_durations};
 use rounds::Window;
 use std::alloc::{AllocError, Global};
 
-/// The durations from one origin to the destination, as far as deadlines were searched.
+/// The durations from one origin to the destination, given the deadlines that were searched.
 #[derive(Drop)]
 pub struct OriginDurations {
-    /// How many departures of the window are served so far.
+    /// The number of departures that are served.
     pub front: u32,
     /// The seconds of each departure; `NEVER` for those that are not served.
     pub durations: Vec<u32>,

@@ -37,7 +37,7 @@ fn deadlines_in_two_slices(rt: HostRuntime) -> Result<(), Fail> {
     let mut durations = no_durations(rt.alloc(), window)?;
     assert_eq!(rt; durations.as_slice(), [NEVER; 4].as_slice());
 
-    // the second deadline serves nobody anew, the third the departures at 660 and 720
+    // the second deadline serves no further departure, the third those at 660 and 720
     let front = advance(window, &[900, 1_000], &[250, 400], 0, &mut durations);
     assert_eq!(rt; front, 1);
     assert_eq!(rt; durations.as_slice(), [300, NEVER, NEVER, NEVER].as_slice());

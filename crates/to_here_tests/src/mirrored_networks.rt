@@ -1,18 +1,18 @@
 //! Mirrored networks by hand.
 
-use crate::small_networks::{at, mirrored_at_the_end, two_trips};
+use crate::small_networks::{at, mirrored_of, two_trips};
 use std::test::Fail;
 use timetable::{END_OF_AXIS, Event, StopNo};
 
-/// `mirrored`.
+/// `mirrored`, `horizon_of`.
 #[test]
 fn a_trip_runs_backwards(rt: HostRuntime) -> Result<(), Fail> {
     let alloc = rt.alloc();
-    let network = mirrored_at_the_end(alloc, &two_trips(alloc)?)?.expect(&rt, "a network");
+    let network = mirrored_of(alloc, &two_trips(alloc)?)?.expect(&rt, "a network");
     let end = END_OF_AXIS - 1;
     assert_eq!(rt; network.trips().len(), 2);
 
-    // nobody boards at the first stop's mirror image, where nobody alighted before the trip's last stop
+    // boarding isn't allowed at the last stop, so in the mirrored network alighting isn't allowed at the first one
     let first = Event {
         alight: false,
         ..at(2, end - 300, end - 300)
@@ -32,7 +32,7 @@ fn a_trip_runs_backwards(rt: HostRuntime) -> Result<(), Fail> {
 #[test]
 fn footpaths_lead_the_other_way(rt: HostRuntime) -> Result<(), Fail> {
     let alloc = rt.alloc();
-    let network = mirrored_at_the_end(alloc, &two_trips(alloc)?)?.expect(&rt, "a network");
+    let network = mirrored_of(alloc, &two_trips(alloc)?)?.expect(&rt, "a network");
     let feet = network.feet();
     assert_eq!(rt; feet.stops(), 4);
     assert_eq!(rt; feet.leaving(StopNo(3)), [(StopNo(2), 120)].as_slice());
@@ -46,8 +46,8 @@ fn footpaths_lead_the_other_way(rt: HostRuntime) -> Result<(), Fail> {
 #[test]
 fn mirrored_twice_it_is_the_same(rt: HostRuntime) -> Result<(), Fail> {
     let alloc = rt.alloc();
-    let once = mirrored_at_the_end(alloc, &two_trips(alloc)?)?;
-    let twice = mirrored_at_the_end(alloc, &once)?.expect(&rt, "a network");
+    let once = mirrored_of(alloc, &two_trips(alloc)?)?;
+    let twice = mirrored_of(alloc, &once)?.expect(&rt, "a network");
     let network = two_trips(alloc)?.expect(&rt, "a network");
     assert_eq!(rt; twice.trips().len(), 2);
     assert_eq!(rt; network.trips().len(), 2);

@@ -1,6 +1,6 @@
 //! The durations to a destination, by searches from its deadlines and by searches from each origin.
 
-use crate::small_networks::{SmallNetwork, mirrored_at_the_end, two_trips};
+use crate::small_networks::{SmallNetwork, mirrored_of, two_trips};
 use reversal::{deadlines_of, walks_to};
 use rounds::{MOST_RIDES, Window, one_minute};
 use std::alloc::{AllocError, Global};
@@ -39,7 +39,7 @@ fn from_the_destination(
     window: Window,
     rides: u32,
 ) -> Result<Option<Vec<u32>>, AllocError> {
-    let mirrored = mirrored_at_the_end(alloc, network)?;
+    let mirrored = mirrored_of(alloc, network)?;
     let (Some(network), Some(mirrored)) = (network, &mirrored) else {
         return Ok(None);
     };

@@ -1,13 +1,13 @@
 //! A small network, and its mirrored network.
 
-use reversal::mirrored;
+use reversal::{horizon_of, mirrored};
 use std::alloc::{AllocError, Global};
-use timetable::{END_OF_AXIS, Event, Events, Feet, NetFault, Network, StopNo, Trip};
+use timetable::{Event, Events, Feet, Network, StopNo, Trip};
 
 /// A small network, if it is one, in a box: a box is dropped in one step.
 pub(crate) type SmallNetwork = Option<Box<Network>>;
 
-/// An event where everybody may board and alight.
+/// An event at which boarding and alighting are allowed.
 pub(crate) fn at(stop: u32, arrive: u32, depart: u32) -> Event {
     Event {
         stop: StopNo(stop),
@@ -60,8 +60,8 @@ pub(crate) fn network_of(alloc: Global, trips: &[&[Event]]) -> Result<SmallNetwo
     }
 }
 
-/// Two trips and a change between them: from stop 0 at 100 to stop 1 at 200, and on to stop 2 at 300, where nobody may
-/// board; and from stop 1 at 260 to stop 2 at 290.
+/// Two trips and a change between them: from stop 0 at 100 to stop 1 at 200, and on to stop 2 at 300, where
+/// boarding isn't allowed; and from stop 1 at 260 to stop 2 at 290.
 pub(crate) fn two_trips(alloc: Global) -> Result<SmallNetwork, AllocError> {
     let last = Event {
         board: false,
@@ -72,21 +72,15 @@ pub(crate) fn two_trips(alloc: Global) -> Result<SmallNetwork, AllocError> {
     network_of(alloc, &[&first, &second])
 }
 
-/// The mirrored network at the last second of the axis, which is a horizon of every network.
-fn at_the_end(alloc: Global, network: &Network) -> Result<Network, NetFault> {
-    network.known();
-    mirrored(alloc, network, END_OF_AXIS - 1)
-}
-
-/// The same in a box, if it is a network.
-pub(crate) fn mirrored_at_the_end(
+/// The mirrored network, in a box.
+pub(crate) fn mirrored_of(
     alloc: Global,
     network: &SmallNetwork,
 ) -> Result<SmallNetwork, AllocError> {
     let Some(network) = network else {
         return Ok(None);
     };
-    match at_the_end(alloc, network) {
+    match mirrored(alloc, network, horizon_of(network)) {
         Ok(mirrored) => Ok(Some(Box::new(alloc, mirrored)?)),
         Err(_) => Ok(None),
     }
