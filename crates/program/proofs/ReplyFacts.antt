@@ -165,6 +165,10 @@ pub at_err : {T E P : Type 0} {b : Bool} (r : Result T E) → OnErr r P → b �
 at_err (Ok v) h says is = absurd (let never : false ≡ true = sym says ∙ is in cc)
 at_err (Err e) h says is = h
 
+pub at_each_err : {T E P : Type 0} (r : Result T E) → P → OnErr r P
+at_each_err (Ok v) p = tt
+at_each_err (Err e) p = p
+
 pub at_ok : {T E P : Type 0} {b : Bool} (r : Result T E) → OnOk r P → b ≡ is_err r → b ≡ false → P
 at_ok (Ok v) h says is = h
 at_ok (Err e) h says is = absurd (let never : true ≡ false = sym says ∙ is in cc)
