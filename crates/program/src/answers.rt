@@ -5,11 +5,10 @@
 //! are promised in the same words with a report and without. So is why the workers gave no matrix: the program's gates
 //! let every lease be worked at.
 
-ghost use Rattle.std.specs.Prelude.{◌≡◌, ◌≤◌, ℕ, IfErr, List, OnOk, Option, true};
+ghost use Rattle.std.specs.Prelude.{◌≡◌, ◌≤◌, ℕ, IfErr, List, OnErr, OnOk, Option, true};
 ghost use Rattle.std.specs.Io.KnownBytes.{Appends};
 ghost use Rattle.std.specs.Process.{exit_status};
-ghost use Rattle.outputs.specs.Outputs.{after};
-ghost use Rattle.matrix_text.specs.Prefixes.{PutsPart};
+ghost use Rattle.outputs.specs.Outputs.{IsLost, after};
 ghost use Rattle.studies.specs.Inputs.{AreWithinLimit, inputs_of};
 ghost use Rattle.studies.specs.Settings.{SettingsFit};
 ghost use Rattle.studies.specs.Watched.{SawFault};
@@ -20,11 +19,10 @@ ghost use Rattle.program.specs.Gates.{told_anything, works_at_each};
 use crate::host::Host;
 use crate::study_files::StudyFiles;
 use command_line::{DONE, Task, fault_line, status};
-use matrix_text::{TextFault, put_all};
-use outputs::{Output, tell_made};
+use matrix_text::TextFault;
+use outputs::{Output, put_whole, tell_made};
 use reports::Report;
 use std::alloc::Global;
-use std::io::Write;
 use std::process::ExitCode;
 use studies::{
     Inputs, Settings, StudyFault, Unwatched, Watch, compute_study, ready_study, run_study,
@@ -56,7 +54,7 @@ impl<'a, 'b, H: Host> Gate for ReportGate<'a, 'b, H> {
 /// The matrix is the same with a report and without, and no promise of it or of the status asks whether there is one.
 ///
 /// Of the files the scenarios' alone are left where the rows were computed.
-pub(crate) fn answer_task<H: Host, O: Write, E: Output>(
+pub(crate) fn answer_task<H: Host, O: Output, E: Output>(
     host: &H,
     task: &Task,
     files: &mut StudyFiles,
@@ -66,7 +64,8 @@ pub(crate) fn answer_task<H: Host, O: Write, E: Output>(
     requires files { AreWithinLimit (files_of files.old) }
     requires settings { SettingsFit task.now.settings }
     ensures answered { spec.IsAnswered (files_of files.old) task.now.settings (O.contents out.old)
-        (O.contents out.new) (E.contents err.old) (after (E.contents err.new) (E.broke err.new)) (exit_status result) }
+        (after (O.contents out.new) (O.broke out.new))
+        (E.contents err.old) (after (E.contents err.new) (E.broke err.new)) (exit_status result) }
     ensures success { exit_status result ≡ DONE →
         spec.IsPrinted (files_of files.old) task.now.settings (O.contents out.old) (O.contents out.new) }
     ensures quiet { exit_status result ≡ DONE → err.new ≡ err.old }
@@ -81,7 +80,7 @@ pub(crate) fn answer_task<H: Host, O: Write, E: Output>(
 }
 
 /// The same, with a report. Its last lines come after the matrix is out or the line of a fault is told.
-fn answer_and_report<H: Host, O: Write, E: Output>(
+fn answer_and_report<H: Host, O: Output, E: Output>(
     host: &H,
     task: &Task,
     files: &mut StudyFiles,
@@ -92,7 +91,8 @@ fn answer_and_report<H: Host, O: Write, E: Output>(
     requires files { AreWithinLimit (files_of files.old) }
     requires settings { SettingsFit task.now.settings }
     ensures answered { spec.IsAnswered (files_of files.old) task.now.settings (O.contents out.old)
-        (O.contents out.new) (E.contents err.old) (after (E.contents err.new) (E.broke err.new)) (exit_status result) }
+        (after (O.contents out.new) (O.broke out.new))
+        (E.contents err.old) (after (E.contents err.new) (E.broke err.new)) (exit_status result) }
     ensures success { exit_status result ≡ DONE →
         spec.IsPrinted (files_of files.old) task.now.settings (O.contents out.old) (O.contents out.new) }
     ensures quiet { exit_status result ≡ DONE → err.new ≡ err.old }
@@ -133,7 +133,7 @@ pub(crate) fn report_refused<H: Host, E: Output>(
 /// error says why, by what this gate may decide, and it is the one that the watch was told.
 ///
 /// The rows need the files no more: once the study is ready, the bytes of all but the scenarios' are freed.
-fn put_study<H: Host, G: Gate + Sync, W: Watch, O: Write>(
+fn put_study<H: Host, G: Gate + Sync, W: Watch, O: Output>(
     host: &H,
     files: &mut StudyFiles,
     settings: &Settings,
@@ -146,7 +146,7 @@ fn put_study<H: Host, G: Gate + Sync, W: Watch, O: Write>(
     ensures printed { OnOk result (spec.IsPrinted (files_of files.old) settings.now (O.contents out.old)
         (O.contents out.new)) }
     ensures why { IfErr result (λ fault. spec.IsWhy (G.decides gate.now) (G.was_told gate.now) fault
-        (files_of files.old) settings.now (O.contents out.old) (O.contents out.new)) }
+        (files_of files.old) settings.now (O.contents out.old) (after (O.contents out.new) (O.broke out.new))) }
     ensures told_fault { IfErr result (λ fault.
         SawFault (W.saw watch.now) fault (files_of files.old) settings.now) }
     ensures scenarios { files.new.scenarios.items ≡ files.old.scenarios.items }
@@ -163,7 +163,7 @@ fn put_study<H: Host, G: Gate + Sync, W: Watch, O: Write>(
 }
 
 /// Puts out the matrix of a study of the program's own, or tells why there is none.
-pub(crate) fn answer<H: Host, O: Write, E: Output>(
+pub(crate) fn answer<H: Host, O: Output, E: Output>(
     host: &H,
     inputs: &Inputs<'_>,
     settings: &Settings,
@@ -172,7 +172,8 @@ pub(crate) fn answer<H: Host, O: Write, E: Output>(
 ) -> ExitCode
     requires files { AreWithinLimit (inputs_of inputs.now) }
     requires settings { SettingsFit settings.now }
-    ensures answered { spec.IsAnswered (inputs_of inputs.now) settings.now (O.contents out.old) (O.contents out.new)
+    ensures answered { spec.IsAnswered (inputs_of inputs.now) settings.now (O.contents out.old)
+        (after (O.contents out.new) (O.broke out.new))
         (E.contents err.old) (after (E.contents err.new) (E.broke err.new)) (exit_status result) }
     ensures success { exit_status result ≡ DONE →
         spec.IsPrinted (inputs_of inputs.now) settings.now (O.contents out.old) (O.contents out.new) }
@@ -185,7 +186,7 @@ pub(crate) fn answer<H: Host, O: Write, E: Output>(
 }
 
 /// Puts out the matrix of a study of the program's own. At an error it isn't out whole.
-fn put_own<H: Host, O: Write>(
+fn put_own<H: Host, O: Output>(
     host: &H,
     inputs: &Inputs<'_>,
     settings: &Settings,
@@ -196,7 +197,7 @@ fn put_own<H: Host, O: Write>(
     ensures printed { OnOk result (spec.IsPrinted (inputs_of inputs.now) settings.now (O.contents out.old)
         (O.contents out.new)) }
     ensures why { IfErr result (λ fault. spec.IsWhy works_at_each told_anything fault (inputs_of inputs.now)
-        settings.now (O.contents out.old) (O.contents out.new)) }
+        settings.now (O.contents out.old) (after (O.contents out.new) (O.broke out.new))) }
 {
     match run_study(host, host.alloc(), inputs, settings, &Open) {
         Ok(text) => put_text(&text, out),
@@ -204,13 +205,13 @@ fn put_own<H: Host, O: Write>(
     }
 }
 
-/// Puts out the text of a matrix. At an error it isn't out whole.
-fn put_text<O: Write>(text: &[u8], out: &mut O) -> Result<(), StudyFault>
+/// Puts out the text of a matrix. At an error a call of the output broke, and the text isn't out whole.
+fn put_text<O: Output>(text: &[u8], out: &mut O) -> Result<(), StudyFault>
     ensures whole { OnOk result (Appends (O.contents out.old) (O.contents out.new) text.now) }
-    ensures part { IfErr result (λ fault. (fault ≡ StudyFault.Text TextFault.Write)
-        × PutsPart (O.contents out.old) (O.contents out.new) text.now) }
+    ensures fault { IfErr result (λ fault. fault ≡ StudyFault.Text TextFault.Write) }
+    ensures lost { OnErr result (IsLost (O.contents out.old) (after (O.contents out.new) (O.broke out.new)) text.now) }
 {
-    match put_all(text, out) {
+    match put_whole(text, out) {
         Ok(()) => Ok(()),
         Err(fault) => Err(StudyFault::Text(fault)),
     }

@@ -3,8 +3,8 @@
 //! It is allocated before the files are read, and the line needs no other memory. So a file that is too long is never
 //! reported as *out of memory*.
 
-ghost use Rattle.std.specs.Prelude.{◌≡◌, ◌≤◌, ◌+◌, ◌++◌, [], IfOk, codes, length, option_map, string_bytes, vec_capacity};
-ghost use Rattle.std.specs.Prelude.{vec_len};
+ghost use Rattle.std.specs.Prelude.{◌≡◌, ◌≤◌, ◌+◌, ◌++◌, [], IfOk, codes, length, option_map, string_bytes};
+ghost use Rattle.std.specs.Prelude.{vec_capacity, vec_len};
 ghost use Rattle.command_line.specs.Lines.{line, path_rest};
 ghost use Rattle.program.specs.Rooms as spec;
 ghost use Rattle.program.specs.Talk.{question_asks};

@@ -24,9 +24,9 @@ use command_line::{
     question_of, question_status, status,
 };
 use itoa::Buffer;
-use matrix_text::{TextFault, put_all};
+use matrix_text::TextFault;
+use outputs::{Output, put_whole};
 use std::alloc::{AllocError, Global};
-use std::io::Write;
 use studies::{Kept, Question, answer};
 use workers::Open;
 
@@ -170,8 +170,9 @@ fn reply_by_study<H: Host>(
     }
 }
 
-/// Puts out an answer, or that memory was short for it. At an error it isn't known to be out.
-pub(crate) fn put_reply<O: Write>(
+/// Puts out an answer, or that memory was short for it. At an error a call of the output broke, and the answer isn't
+/// known to be out.
+pub(crate) fn put_reply<O: Output>(
     alloc: Global,
     reply: &Result<Reply, AllocError>,
     out: &mut O,
@@ -180,6 +181,7 @@ pub(crate) fn put_reply<O: Write>(
         × Appends (O.contents out.old) (O.contents out.new) bytes) }
     ensures err { OnErr result ((bytes : List ℕ) × spec.IsOut reply.now bytes
         × PutsPrefix (O.contents out.old) (O.contents out.new) bytes) }
+    ensures broke { OnErr result (O.broke out.new) }
 {
     match reply {
         Ok(reply) => match head(alloc, reply) {
@@ -203,23 +205,25 @@ fn head(alloc: Global, reply: &Reply) -> Result<Vec<u8>, AllocError>
 }
 
 /// Puts out two texts, one after the other, and flushes them.
-fn put_both<O: Write>(first: &[u8], last: &[u8], out: &mut O) -> Result<(), TextFault>
+fn put_both<O: Output>(first: &[u8], last: &[u8], out: &mut O) -> Result<(), TextFault>
     ensures ok { OnOk result (Appends (O.contents out.old) (O.contents out.new) (first.now ++ last.now)) }
     ensures err { OnErr result (PutsPrefix (O.contents out.old) (O.contents out.new) (first.now ++ last.now)) }
+    ensures broke { OnErr result (O.broke out.new) }
 {
-    match put_all(first, out) {
+    match put_whole(first, out) {
         Ok(()) => put_last(last, out),
         Err(fault) => Err(fault),
     }
 }
 
 /// Puts out a text, and flushes what is put out.
-fn put_last<O: Write>(text: &[u8], out: &mut O) -> Result<(), TextFault>
+fn put_last<O: Output>(text: &[u8], out: &mut O) -> Result<(), TextFault>
     ensures ok { OnOk result (Appends (O.contents out.old) (O.contents out.new) text.now) }
     ensures err { OnErr result (PutsPrefix (O.contents out.old) (O.contents out.new) text.now) }
+    ensures broke { OnErr result (O.broke out.new) }
 {
-    match put_all(text, out) {
-        Ok(()) => match out.flush() {
+    match put_whole(text, out) {
+        Ok(()) => match out.hand_on() {
             Ok(()) => Ok(()),
             Err(_) => Err(TextFault::Write),
         },
