@@ -5,15 +5,17 @@
 //! are promised in the same words with a report and without. So is why the workers gave no matrix: the program's gates
 //! let every lease be worked at.
 
-ghost use Rattle.std.specs.Prelude.{◌≡◌, ◌≤◌, ℕ, IfErr, List, OnErr, OnOk, Option, true};
+ghost use Rattle.std.specs.Prelude.{◌≡◌, ◌≤◌, ℕ, IfErr, IfOk, List, OnErr, OnOk, Option, true};
 ghost use Rattle.std.specs.Io.KnownBytes.{Appends};
 ghost use Rattle.std.specs.Process.{exit_status};
 ghost use Rattle.outputs.specs.Outputs.{IsLost, after};
-ghost use Rattle.studies.specs.Inputs.{AreWithinLimit, inputs_of};
+ghost use Rattle.studies.specs.Inputs.{AreWithinLimit, InputFiles, inputs_of};
+ghost use Rattle.studies.specs.Ready.{IsReady};
 ghost use Rattle.studies.specs.Settings.{SettingsFit};
-ghost use Rattle.studies.specs.Watched.{SawFault};
+ghost use Rattle.studies.specs.Study.{IsStudyText, TellsBy};
+ghost use Rattle.studies.specs.Watched.{SawFault, listed};
 ghost use Rattle.program.specs.Answers as spec;
-ghost use Rattle.program.specs.Files.{files_of};
+ghost use Rattle.program.specs.Files.{AreFreed, files_of};
 ghost use Rattle.program.specs.Gates.{told_anything, works_at_each};
 
 use crate::host::Host;
@@ -25,7 +27,8 @@ use reports::Report;
 use std::alloc::Global;
 use std::process::ExitCode;
 use studies::{
-    Inputs, Settings, StudyFault, Unwatched, Watch, compute_study, ready_study, run_study,
+    Inputs, ReadyStudy, Settings, StudyFault, Unwatched, Watch, compute_study, ready_study,
+    run_study,
 };
 use work_book::{Lease, Settled};
 use workers::{Gate, Open, Verdict};
@@ -156,10 +159,33 @@ fn put_study<H: Host, G: Gate + Sync, W: Watch, O: Output>(
         Err(fault) => return Err(fault),
     };
     files.free();
-    match compute_study(host, host.alloc(), &study, settings, gate, watch) {
+    match compute_freed(host, files, &study, settings, gate, watch) {
         Ok(text) => put_text(&text, out),
         Err(fault) => Err(fault),
     }
+}
+
+/// The text of a study that is ready: only once the bytes of its files are freed, so that the rows can have the memory.
+fn compute_freed<H: Host, G: Gate + Sync, W: Watch>(
+    host: &H,
+    _files: &StudyFiles,
+    study: &ReadyStudy,
+    settings: &Settings,
+    gate: &G,
+    watch: &W,
+) -> Result<Vec<u8>, StudyFault>
+    requires freed { AreFreed _files.now }
+    requires settings { SettingsFit settings.now }
+    requires ready { (inputs : InputFiles) × IsReady inputs settings.now study.now }
+    requires listed { W.saw watch.now listed }
+    ensures text { IfOk result (λ text. (inputs : InputFiles) → IsReady inputs settings.now study.now →
+        IsStudyText inputs settings.now text.items) }
+    ensures told_fault { IfErr result (λ e. (inputs : InputFiles) → IsReady inputs settings.now study.now →
+        SawFault (W.saw watch.now) e inputs settings.now) }
+    ensures run { IfErr result (λ e. (inputs : InputFiles) → IsReady inputs settings.now study.now →
+        TellsBy (G.decides gate.now) (G.was_told gate.now) e inputs settings.now) }
+{
+    compute_study(host, host.alloc(), study, settings, gate, watch)
 }
 
 /// Puts out the matrix of a study of the program's own, or tells why there is none.

@@ -15,3 +15,4 @@ pub mod Cut
 pub mod CappedLabels
 pub mod Last
 pub mod Useful
+pub mod Memory
