@@ -217,6 +217,10 @@ def sixty_thousand_stops(room: Path) -> Run:
     return stops(room, 60_001)
 
 
+def the_most_stops(room: Path) -> Run:
+    return stops(room, 65_535)
+
+
 def past_a_gibibyte(room: Path) -> Run:
     """A file of one byte more than a file may have."""
     small(room)
@@ -276,6 +280,7 @@ RUNS = [
     ring_of_a_million,
     forty_one_thousand_stops,
     sixty_thousand_stops,
+    the_most_stops,
 ]
 
 Left = tuple[str, str, int]

@@ -18,6 +18,10 @@ pub record After : Type 1 where
 abbrev pub after : Option (List ℕ) → Type 0 → After
 after held broke = record { held = held; broke = broke }
 
--- the whole text is out; or a call broke, and no more than a part of the text is out
+-- a call broke, and no more than a part of the text is out
+abbrev pub IsLost : Option (List ℕ) → After → List ℕ → Type 0
+IsLost old new text = new.broke × PutsPart old new.held text
+
+-- the whole text is out, or it is lost in part
 abbrev pub IsTold : Option (List ℕ) → After → List ℕ → Type 0
-IsTold old new text = Appends old new.held text ⊎ (new.broke × PutsPart old new.held text)
+IsTold old new text = Appends old new.held text ⊎ IsLost old new text

@@ -2,7 +2,7 @@
 
 ghost use Rattle.std.specs.Prelude.{◌≡◌, ◌<◌, IfErr, OnErr, OnOk, length, ⊤};
 ghost use Rattle.std.specs.Io.{WritesAtMost};
-ghost use Rattle.std.specs.Io.KnownBytes.{Appends, WriteAppends};
+ghost use Rattle.std.specs.Io.KnownBytes.{Appends, Keeps, WriteAppends};
 ghost use Rattle.matrix_text.specs.Prefixes.{PutsPart};
 ghost use Rattle.outputs.specs.Outputs.{TakesNone};
 
@@ -20,6 +20,11 @@ pub trait Output: Write {
         ensures bound { WritesAtMost result bytes.now }
         ensures bytes { WriteAppends (Self.contents self.old) (Self.contents self.new) result bytes.now }
         ensures broke { 0 < length bytes.now → TakesNone result → broke self.new };
+
+    /// As [`Write::flush`].
+    fn hand_on(&mut self) -> io::Result<()>
+        ensures bytes { Keeps (Self.contents self.old) (Self.contents self.new) }
+        ensures broke { OnErr result (broke self.new) };
 }
 
 /// Each writer. Why a call of it broke is not known.
@@ -28,6 +33,10 @@ impl<W: Write> Output for W {
 
     fn put(&mut self, bytes: &[u8]) -> io::Result<usize> {
         self.write(bytes)
+    }
+
+    fn hand_on(&mut self) -> io::Result<()> {
+        self.flush()
     }
 }
 

@@ -4,3 +4,4 @@ pub mod BlockFacts
 pub mod TalkFacts
 pub mod ReplyFacts
 pub mod Refusals
+pub mod Rooms

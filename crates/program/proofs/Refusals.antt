@@ -10,8 +10,8 @@ use Rattle.studies.specs.NamedFile.{NamedBytes}
 use Rattle.studies.specs.Settings.{SettingsData}
 use Rattle.studies.specs.declared.fault.StudyFault.{StudyFault}
 
-pub is_refused : (given left : InputFiles) (s : SettingsData) (e : StudyFault) (out printed err : Option (List ℕ))
-    (told : After) (status : ℕ) → left.scenarios ≡ given.scenarios →
+pub is_refused : (given left : InputFiles) (s : SettingsData) (e : StudyFault) (out : Option (List ℕ)) (printed : After)
+    (err : Option (List ℕ)) (told : After) (status : ℕ) → left.scenarios ≡ given.scenarios →
     IsWhy works_at_each told_anything e given s out printed → TellsFault e left err told status →
     IsRefused given s out printed err told status
 is_refused given left s e out printed err told status same why line = record {

@@ -71,17 +71,17 @@ turn_of puts finds kept base known left out put block r h answers puts_it = reco
 
 -- a conversation, and what is told of its end
 pub ends_talk : (finds : Finds) (kept : InputFiles) (base : SettingsData)
-    (known left out put err : Option (List ℕ)) (told : After) (status : ℕ) (r : Result Unit TalkFault) →
-    OnOk r (IsWhole finds kept base known left out put)
+    (known left out : Option (List ℕ)) (put : After) (err : Option (List ℕ)) (told : After) (status : ℕ)
+    (r : Result Unit TalkFault) → OnOk r (IsWhole finds kept base known left out put.held)
     → IfErr r (λ fault. IsTalk finds kept base known left out put fault) → IsEnd r err told status
     → EndsTalk finds kept base known left out put err told status
 ends_talk finds kept base known left out put err told status (Ok u) whole cut end = inl (end.0, whole)
 ends_talk finds kept base known left out put err told status (Err fault) whole cut end = inr (fault, cut, end)
 
 -- what is said of files and settings is said of those that are the same
-pub same_talk : (finds : Finds) (i j : InputFiles) (s t : SettingsData) (known left out put err : Option (List ℕ))
-    (told : After) (status : ℕ) → i ≡ j → s ≡ t → EndsTalk finds i s known left out put err told status
-    → EndsTalk finds j t known left out put err told status
+pub same_talk : (finds : Finds) (i j : InputFiles) (s t : SettingsData) (known left out : Option (List ℕ))
+    (put : After) (err : Option (List ℕ)) (told : After) (status : ℕ) → i ≡ j → s ≡ t →
+    EndsTalk finds i s known left out put err told status → EndsTalk finds j t known left out put err told status
 same_talk finds i j s t known left out put err told status files settings h =
     subst (λ f. EndsTalk finds f t known left out put err told status) files
     (subst (λ v. EndsTalk finds i v known left out put err told status) settings h)
@@ -164,6 +164,10 @@ some_from (x ∷ xs) e same = cc
 pub at_err : {T E P : Type 0} {b : Bool} (r : Result T E) → OnErr r P → b ≡ is_err r → b ≡ true → P
 at_err (Ok v) h says is = absurd (let never : false ≡ true = sym says ∙ is in cc)
 at_err (Err e) h says is = h
+
+pub at_each_err : {T E P : Type 0} (r : Result T E) → P → OnErr r P
+at_each_err (Ok v) p = tt
+at_each_err (Err e) p = p
 
 pub at_ok : {T E P : Type 0} {b : Bool} (r : Result T E) → OnOk r P → b ≡ is_err r → b ≡ false → P
 at_ok (Ok v) h says is = h

@@ -2,15 +2,16 @@
 use Rattle.std.proofs.Common.{◌≡◌, ◌∙◌, ◌++◌, ℕ, Bool, true, false, List, [], ◌∷◌, refl, sym, ap, subst, Option}
 use Rattle.std.proofs.Common.{append_assoc, append-nil, inl, inr}
 use Rattle.std.proofs.KnownBytes.{Appends-nil, Appends-trans, Consumes-nil, Consumes-trans}
-use Rattle.std.specs.Io.KnownBytes.{Appends, Consumes, IsAtEnd}
+use Rattle.std.specs.Io.KnownBytes.{Appends, Consumes}
 use Rattle.std.specs.List.{concat}
-use Rattle.matrix_text.specs.Prefixes.{PutsPrefix}
+use Rattle.matrix_text.specs.Prefixes.{PutsPart, PutsPrefix}
+use Rattle.outputs.specs.Outputs.{After}
 use Rattle.studies.specs.Inputs.{InputFiles}
 use Rattle.studies.specs.Settings.{SettingsData}
 use Rattle.program.proofs.BlockFacts.{AreClosed, closed_are_blocks, more_blocks, more_closed}
 use Rattle.program.specs.Blocks.{AreBlocks}
 use Rattle.program.specs.Files.{Finds}
-use Rattle.program.specs.Talk.{AreReplies, IsBroken, IsCut, IsReply, IsStep, IsStop, IsTalk, IsTurn, IsWhole}
+use Rattle.program.specs.Talk.{AreReplies, IsBroken, IsReply, IsStep, IsStop, IsTalk, IsWhole}
 use Rattle.program.specs.declared.talk.TalkFault.{TalkFault}
 use Rattle.program.specs.declared.talk.TalkFault.TheVariants as stop
 
@@ -47,6 +48,11 @@ part_after a b c xs ys first next = record {
   split = append_assoc xs next.out next.left ∙ ap (λ l. xs ++ l) next.split;
   appended = Appends-trans a b c xs next.out first next.appended;
 }
+
+-- a part of a text that isn't out whole begins it
+pub part_begins : (a b : Option (List ℕ)) (xs : List ℕ) → PutsPart a b xs → PutsPrefix a b xs
+part_begins a b xs part =
+    record { out = part.out; left = part.left; split = part.split; appended = part.appended }
 
 -- a part of a text is a part of a longer one
 pub part_before : (a b : Option (List ℕ)) (xs ys : List ℕ) → PutsPrefix a b xs → PutsPrefix a b (xs ++ ys)
@@ -105,21 +111,23 @@ ends finds kept base a b c out mid put h step = elim step [
 ]
 
 -- it stops before the input's end
-pub stops : (finds : Finds) (kept : InputFiles) (base : SettingsData) (a b c out mid put : Option (List ℕ))
-    (fault : TalkFault) → AreAnswered finds kept base a b out mid → IsStop finds kept base b c mid put fault →
-    IsTalk finds kept base a c out put fault
+pub stops : (finds : Finds) (kept : InputFiles) (base : SettingsData) (a b c out mid : Option (List ℕ))
+    (put : After) (fault : TalkFault) → AreAnswered finds kept base a b out mid →
+    IsStop finds kept base b c mid put fault → IsTalk finds kept base a c out put fault
 stops finds kept base a b c out mid put stop.Write h stopped =
-    let t = stopped.1 in
-    record {
-      bytes = h.bytes ++ t.bytes;
-      consumed = Consumes-trans a b c h.bytes t.bytes h.consumed t.consumed;
-      blocks = _;
-      blocks_are = more_blocks h.blocks h.bytes t.bytes h.blocks_are t.some t.nothing_after;
-      replies = h.replies ++ t.reply ∷ [];
-      answered = more_replies finds kept base h.blocks h.replies _ t.reply h.answered t.answered;
-      part = subst (PutsPrefix out put) (sym (concat_more h.replies t.reply))
-          (part_after out mid put (concat h.replies) t.reply h.whole t.replied);
-    }
+    let t = stopped.1.1 in (
+      stopped.0,
+      record {
+        bytes = h.bytes ++ t.bytes;
+        consumed = Consumes-trans a b c h.bytes t.bytes h.consumed t.consumed;
+        blocks = _;
+        blocks_are = more_blocks h.blocks h.bytes t.bytes h.blocks_are t.some t.nothing_after;
+        replies = h.replies ++ t.reply ∷ [];
+        answered = more_replies finds kept base h.blocks h.replies _ t.reply h.answered t.answered;
+        part = subst (PutsPrefix out put.held) (sym (concat_more h.replies t.reply))
+            (part_after out mid put.held (concat h.replies) t.reply h.whole t.replied);
+      },
+    )
 stops finds kept base a b c out mid put stop.Read h stopped = record {
   bytes = h.bytes;
   lost = stopped.0.0;

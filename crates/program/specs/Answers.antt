@@ -10,14 +10,13 @@ use Rattle.std.specs.declared.io.ErrorKind.{ErrorKind}
 use Rattle.std.specs.declared.io.ErrorKind.TheVariants.{OutOfMemory}
 use Rattle.clap.specs.Words.{Text}
 use Rattle.command_line.specs.Lines.{line, line_of, opt_text, status_of}
-use Rattle.outputs.specs.Outputs.{After, IsTold}
+use Rattle.outputs.specs.Outputs.{After, IsLost, IsTold}
 use Rattle.command_line.specs.Words.{IsAsked, NamesFiles, is_conversation, rows_of_words, word_status_of}
 use Rattle.command_line.specs.Words.{Tells as TellsWords}
 use Rattle.command_line.specs.declared.statuses.TheConstants.{DONE, NOT_MOVED, REFUSED}
 use Rattle.command_line.specs.declared.task.Task.{Task}
 use Rattle.command_line.specs.declared.task.WordFault.{WordFault}
 use Rattle.command_line.specs.declared.task.WordFault.TheVariants as word
-use Rattle.matrix_text.specs.Prefixes.{PutsPart}
 use Rattle.matrix_text.specs.declared.faults.TextFault.TheVariants as text
 use Rattle.studies.specs.Inputs.{InputFiles}
 use Rattle.studies.specs.NamedFile.{NamedBytes}
@@ -44,31 +43,31 @@ pub record TellsFault (e : StudyFault) (i : InputFiles) (err : Option (List ℕ)
     pub line_is : TellsLine err told (line_of e (map (λ (f : NamedBytes). f.name) i.scenarios))
     pub status_is : status ≡ status_of e
 
--- no more than a part of the matrix is out
-pub record IsCutShort (i : InputFiles) (s : Settings) (out printed : Option (List ℕ)) : Type 0 where
+-- no more than a part of the matrix is out, for a call of the output broke
+pub record IsCutShort (i : InputFiles) (s : Settings) (out : Option (List ℕ)) (printed : After) : Type 0 where
   pub text : List ℕ
   pub text_is : IsStudyText i s text
-  pub part : PutsPart out printed text
+  pub lost : IsLost out printed text
 
 -- why the matrix isn't out whole: the first fault of the inputs, or out of memory, or a run of workers that gave no
--- matrix, where a gate decides so of the leases, and nothing is out; or the output took no more
-abbrev pub IsWhy : Decides → WasTold → StudyFault → InputFiles → Settings → Option (List ℕ) → Option (List ℕ) → Type 0
+-- matrix, where a gate decides so of the leases, and nothing is out; or a call of the output broke
+abbrev pub IsWhy : Decides → WasTold → StudyFault → InputFiles → Settings → Option (List ℕ) → After → Type 0
 IsWhy decides was_told e i s out printed =
-    ((printed ≡ out) × TellsBy decides was_told e i s) ⊎ ((e ≡ fault.Text text.Write) × IsCutShort i s out printed)
+    ((printed.held ≡ out) × TellsBy decides was_told e i s)
+    ⊎ ((e ≡ fault.Text text.Write) × IsCutShort i s out printed)
 
 -- the matrix isn't out whole, and it is told why
-pub record IsRefused (i : InputFiles) (s : Settings) (out printed err : Option (List ℕ)) (told : After) (status : ℕ) :
-    Type 0
+pub record IsRefused (i : InputFiles) (s : Settings) (out : Option (List ℕ)) (printed : After) (err : Option (List ℕ))
+    (told : After) (status : ℕ) : Type 0
   where
     pub fault : StudyFault
     pub why : IsWhy works_at_each told_anything fault i s out printed
     pub is_told : TellsFault fault i err told status
 
 -- what a study leaves behind
-abbrev pub IsAnswered : InputFiles → Settings → Option (List ℕ) → Option (List ℕ) → Option (List ℕ) → After → ℕ →
-    Type 0
+abbrev pub IsAnswered : InputFiles → Settings → Option (List ℕ) → After → Option (List ℕ) → After → ℕ → Type 0
 IsAnswered i s out printed err told status =
-    ((status ≡ DONE) × IsPrinted i s out printed) ⊎ IsRefused i s out printed err told status
+    ((status ≡ DONE) × IsPrinted i s out printed.held) ⊎ IsRefused i s out printed err told status
 
 -- ---- what status 0 says of a run of the program
 
@@ -124,71 +123,69 @@ EndsWell finds words known left out printed =
 -- ---- what a run of the program leaves behind, whatever its status
 
 -- nothing is put out, and out of memory is told
-abbrev pub GivesUp : Option (List ℕ) → Option (List ℕ) → Option (List ℕ) → After → ℕ → Type 0
-GivesUp out printed err told status = (printed ≡ out) × IsShort err told status
+abbrev pub GivesUp : Option (List ℕ) → After → Option (List ℕ) → After → ℕ → Type 0
+GivesUp out printed err told status = (printed.held ≡ out) × IsShort err told status
 
 -- the program's own study is answered; or memory was short for its settings
-abbrev pub EndsExample : Option (List ℕ) → Option (List ℕ) → Option (List ℕ) → After → ℕ → Type 0
+abbrev pub EndsExample : Option (List ℕ) → After → Option (List ℕ) → After → ℕ → Type 0
 EndsExample out printed err told status =
     ((s : Settings) × IsExampleSettings s × IsAnswered example_files s out printed err told status)
     ⊎ GivesUp out printed err told status
 
 -- the files of a conversation are refused, or memory was short for what is kept of them, and it is told why
-pub record IsNotKept (i : InputFiles) (s : Settings) (out printed err : Option (List ℕ)) (told : After) (status : ℕ) :
-    Type 0
+pub record IsNotKept (i : InputFiles) (s : Settings) (out : Option (List ℕ)) (printed : After) (err : Option (List ℕ))
+    (told : After) (status : ℕ) : Type 0
   where
     pub fault : StudyFault
     pub why : Tells fault i s
     pub is_told : TellsFault fault i err told status
-    pub nothing_out : printed ≡ out
+    pub nothing_out : printed.held ≡ out
 
 -- nothing can be kept of the files, or questions of what is kept are answered
 abbrev pub EndsConversation : Finds → InputFiles → Settings → Option (List ℕ) → Option (List ℕ) → Option (List ℕ) →
-    Option (List ℕ) → Option (List ℕ) → After → ℕ → Type 0
+    After → Option (List ℕ) → After → ℕ → Type 0
 EndsConversation finds i s known left out printed err told status =
     IsNotKept i s out printed err told status ⊎ EndsTalk finds i s known left out printed err told status
 
 -- the study of a task is answered, or the questions of its conversation
-abbrev pub EndsFiles : Finds → InputFiles → Task → Option (List ℕ) → Option (List ℕ) → Option (List ℕ) →
-    Option (List ℕ) → Option (List ℕ) → After → ℕ → Type 0
+abbrev pub EndsFiles : Finds → InputFiles → Task → Option (List ℕ) → Option (List ℕ) → Option (List ℕ) → After →
+    Option (List ℕ) → After → ℕ → Type 0
 EndsFiles finds files task known left out printed err told status =
     ((task.asks ≡ false) × IsAnswered files task.settings out printed err told status)
     ⊎ ((task.asks ≡ true) × EndsConversation finds files task.settings known left out printed err told status)
 
 -- of a task it is told which of its files isn't read first, and nothing is put out; or its study is answered, or the
 -- questions of its conversation
-abbrev pub EndsTask : Finds → Task → Option (List ℕ) → Option (List ℕ) → Option (List ℕ) → Option (List ℕ) →
-    Option (List ℕ) → After → ℕ → Type 0
+abbrev pub EndsTask : Finds → Task → Option (List ℕ) → Option (List ℕ) → Option (List ℕ) → After → Option (List ℕ) →
+    After → ℕ → Type 0
 EndsTask finds task known left out printed err told status =
-    ((printed ≡ out) × AreUnread finds (asks_of task) err told status)
+    ((printed.held ≡ out) × AreUnread finds (asks_of task) err told status)
     ⊎ ((files : InputFiles) × AreNamed finds task files
     × EndsFiles finds files task known left out printed err told status)
 
 -- a text is put out whole, and nothing is told; or it is lost in part, which is a write fault
-abbrev pub IsShown : List ℕ → Option (List ℕ) → Option (List ℕ) → Option (List ℕ) → After → ℕ → Type 0
+abbrev pub IsShown : List ℕ → Option (List ℕ) → After → Option (List ℕ) → After → ℕ → Type 0
 IsShown text out printed err told status =
-    ((status ≡ DONE) × Appends out printed text × (told.held ≡ err))
-    ⊎ ((status ≡ NOT_MOVED) × PutsPart out printed text × IsTold err told (line (codes "write fault")))
+    ((status ≡ DONE) × Appends out printed.held text × (told.held ≡ err))
+    ⊎ ((status ≡ NOT_MOVED) × IsLost out printed text × IsTold err told (line (codes "write fault")))
 
 -- a text is told, with this status, and nothing is put out
-abbrev pub IsSaid : List ℕ → (wanted : ℕ) → Option (List ℕ) → Option (List ℕ) → Option (List ℕ) → After → ℕ →
-    Type 0
-IsSaid text wanted out printed err told status = (status ≡ wanted) × (printed ≡ out) × IsTold err told text
+abbrev pub IsSaid : List ℕ → (wanted : ℕ) → Option (List ℕ) → After → Option (List ℕ) → After → ℕ → Type 0
+IsSaid text wanted out printed err told status = (status ≡ wanted) × (printed.held ≡ out) × IsTold err told text
 
 -- a text is shown where its status is that of help, and else told
-abbrev pub IsPut : List ℕ → (wanted : ℕ) → Option (List ℕ) → Option (List ℕ) → Option (List ℕ) → After → ℕ →
-    Type 0
+abbrev pub IsPut : List ℕ → (wanted : ℕ) → Option (List ℕ) → After → Option (List ℕ) → After → ℕ → Type 0
 IsPut text wanted out printed err told status =
     ((wanted ≡ DONE) × IsShown text out printed err told status)
     ⊎ ((wanted ≢ DONE) × IsSaid text wanted out printed err told status)
 
 -- so is what `clap` says of the words; or memory was short for it
-abbrev pub EndsText : (wanted : ℕ) → Option (List ℕ) → Option (List ℕ) → Option (List ℕ) → After → ℕ → Type 0
+abbrev pub EndsText : (wanted : ℕ) → Option (List ℕ) → After → Option (List ℕ) → After → ℕ → Type 0
 EndsText wanted out printed err told status =
     ((text : List ℕ) × IsPut text wanted out printed err told status) ⊎ GivesUp out printed err told status
 
 -- what is left behind of words that ask for no study
-abbrev pub EndsFault : WordFault → Option (List ℕ) → Option (List ℕ) → Option (List ℕ) → After → ℕ → Type 0
+abbrev pub EndsFault : WordFault → Option (List ℕ) → After → Option (List ℕ) → After → ℕ → Type 0
 EndsFault (word.Words e) out printed err told status =
     EndsText (word_status_of (word.Words e)) out printed err told status
 EndsFault (word.Bad o) out printed err told status =
@@ -196,15 +193,15 @@ EndsFault (word.Bad o) out printed err told status =
 EndsFault word.Memory out printed err told status = GivesUp out printed err told status
 
 -- the words ask for a task, and what is left behind is that task's; or it is that of what is wrong with them
-abbrev pub EndsWords : Finds → List Text → Option (List ℕ) → Option (List ℕ) → Option (List ℕ) → Option (List ℕ) →
+abbrev pub EndsWords : Finds → List Text → Option (List ℕ) → Option (List ℕ) → Option (List ℕ) → After →
     Option (List ℕ) → After → ℕ → Type 0
 EndsWords finds words known left out printed err told status =
     ((task : Task) × IsTaskOf words task × EndsTask finds task known left out printed err told status)
     ⊎ ((fault : WordFault) × TellsWords fault words × EndsFault fault out printed err told status)
 
 -- without words but the program's name its own study is answered, and with words what they ask for
-abbrev pub Ends : Finds → List Text → Option (List ℕ) → Option (List ℕ) → Option (List ℕ) → Option (List ℕ) →
-    Option (List ℕ) → After → ℕ → Type 0
+abbrev pub Ends : Finds → List Text → Option (List ℕ) → Option (List ℕ) → Option (List ℕ) → After → Option (List ℕ) →
+    After → ℕ → Type 0
 Ends finds words known left out printed err told status =
     ((length words ≤ 1) × EndsExample out printed err told status)
     ⊎ ((2 ≤ length words) × EndsWords finds words known left out printed err told status)
@@ -215,9 +212,9 @@ TellsUnread OutOfMemory err told status = IsShort err told status
 TellsUnread _ err told status = (status ≡ REFUSED) × IsTold err told (line (codes "words that are not UTF-8"))
 
 -- the words that the host gives are answered, or memory was short for them; or it gives none, and that is told
-abbrev pub EndsRun : Gives → Finds → Option (List ℕ) → Option (List ℕ) → Option (List ℕ) → Option (List ℕ) →
-    Option (List ℕ) → After → ℕ → Type 0
+abbrev pub EndsRun : Gives → Finds → Option (List ℕ) → Option (List ℕ) → Option (List ℕ) → After → Option (List ℕ) →
+    After → ℕ → Type 0
 EndsRun gives finds known left out printed err told status =
     ((words : List Text) × gives (Ok words)
     × (Ends finds words known left out printed err told status ⊎ GivesUp out printed err told status))
-    ⊎ ((e : Error) × gives (Err e) × (printed ≡ out) × TellsUnread (error_kind e) err told status)
+    ⊎ ((e : Error) × gives (Err e) × (printed.held ≡ out) × TellsUnread (error_kind e) err told status)

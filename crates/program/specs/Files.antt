@@ -12,7 +12,7 @@ use Rattle.command_line.specs.declared.files.ReadFault.TheVariants as read
 use Rattle.command_line.specs.declared.statuses.TheConstants.{NO_ROOM}
 use Rattle.command_line.specs.declared.task.Task.{Task}
 use Rattle.gtfs_tables.specs.Files as files
-use Rattle.studies.specs.FeedFiles.{files_read}
+use Rattle.studies.specs.FeedFiles.{files_read, no_files}
 use Rattle.studies.specs.Inputs.{InputFiles}
 use Rattle.studies.specs.NamedFile.{NamedBytes}
 use Rattle.program.specs.Disk.{Found}
@@ -69,6 +69,14 @@ files_of f = record {
   destinations = option_map (λ bytes. bytes.items) f.destinations;
   scenarios = f.scenarios.items;
 }
+
+-- the bytes of all files but the scenarios' are freed
+pub record AreFreed (f : StudyFiles) : Type 0 where
+  pub feed : files_read f.feed ≡ no_files
+  pub footpaths : f.footpaths ≡ None
+  pub origins : f.origins ≡ None
+  pub opportunities : f.opportunities ≡ None
+  pub destinations : f.destinations ≡ None
 
 -- ---- where a file isn't read
 

@@ -6,3 +6,4 @@ pub mod Blocks
 pub mod Talk
 pub mod Words
 pub mod Example
+pub mod Rooms

@@ -194,12 +194,12 @@ IsStep finds kept base known left out put more =
     IsTurn Appends finds kept base known left out put more
     ⊎ ((more ≡ false) × Consumes known left [] × IsAtEnd left × (put ≡ out))
 
--- the answer isn't out whole, or nothing was read and nothing is out
-abbrev pub IsStop : Finds → InputFiles → SettingsData → Option (List ℕ) → Option (List ℕ) → Option (List ℕ) →
-    Option (List ℕ) → TalkFault → Type 0
+-- a call of the output broke, so the answer may not be out whole; or nothing was read and nothing is out
+abbrev pub IsStop : Finds → InputFiles → SettingsData → Option (List ℕ) → Option (List ℕ) → Option (List ℕ) → After →
+    TalkFault → Type 0
 IsStop finds kept base known left out put stop.Write =
-    (more : Bool) × IsTurn PutsPrefix finds kept base known left out put more
-IsStop finds kept base known left out put stop.Read = ((lost : List ℕ) × Consumes known left lost) × (put ≡ out)
+    put.broke × ((more : Bool) × IsTurn PutsPrefix finds kept base known left out put.held more)
+IsStop finds kept base known left out put stop.Read = ((lost : List ℕ) × Consumes known left lost) × (put.held ≡ out)
 
 -- ---- what a conversation leaves behind
 
@@ -238,11 +238,11 @@ pub record IsBroken (finds : Finds) (kept : InputFiles) (base : SettingsData) (k
   pub answered : AreReplies finds kept base blocks replies
   pub whole : Appends out put (concat replies)
 
--- what a conversation leaves of its input and its output, by why it ended
-abbrev pub IsTalk : Finds → InputFiles → SettingsData → Option (List ℕ) → Option (List ℕ) → Option (List ℕ) →
-    Option (List ℕ) → TalkFault → Type 0
-IsTalk finds kept base known left out put stop.Write = IsCut finds kept base known left out put
-IsTalk finds kept base known left out put stop.Read = IsBroken finds kept base known left out put
+-- what a conversation leaves of its input and its output, by why it ended: a call of the output broke, or a read failed
+abbrev pub IsTalk : Finds → InputFiles → SettingsData → Option (List ℕ) → Option (List ℕ) → Option (List ℕ) → After →
+    TalkFault → Type 0
+IsTalk finds kept base known left out put stop.Write = put.broke × IsCut finds kept base known left out put.held
+IsTalk finds kept base known left out put stop.Read = IsBroken finds kept base known left out put.held
 
 -- why a conversation ended before its input did, if it did, is told
 abbrev pub IsEnd : Result Unit TalkFault → Option (List ℕ) → After → ℕ → Type 0
@@ -252,8 +252,8 @@ IsEnd (Err stop.Read) err told status =
     (status ≡ NOT_MOVED) × IsTold err told (line (codes "standard input: read fault"))
 
 -- the conversation is whole; or an answer can't be put out, or the input can't be read, and that is told
-abbrev pub EndsTalk : Finds → InputFiles → SettingsData → Option (List ℕ) → Option (List ℕ) → Option (List ℕ) →
-    Option (List ℕ) → Option (List ℕ) → After → ℕ → Type 0
+abbrev pub EndsTalk : Finds → InputFiles → SettingsData → Option (List ℕ) → Option (List ℕ) → Option (List ℕ) → After →
+    Option (List ℕ) → After → ℕ → Type 0
 EndsTalk finds kept base known left out put err told status =
-    ((status ≡ DONE) × IsWhole finds kept base known left out put)
+    ((status ≡ DONE) × IsWhole finds kept base known left out put.held)
     ⊎ ((fault : TalkFault) × IsTalk finds kept base known left out put fault × IsEnd (Err fault) err told status)

@@ -28,16 +28,15 @@ use clap::Error;
 use command_line::{
     DONE, NOT_MOVED, REFUSED, Task, WordFault, bad_line, explain_option, task_of, word_status,
 };
-use matrix_text::put_all;
-use outputs::{Output, tell, tell_short};
+use outputs::{Output, put_whole, tell, tell_short};
 use reports::explain_folder;
 use std::alloc::Global;
-use std::io::{ErrorKind, Read, Write};
+use std::io::{ErrorKind, Read};
 use std::process::ExitCode;
 
 /// What the program does: it has its arguments of its host, the standard input, which a conversation alone reads, and
 /// the two outputs.
-pub fn run<H: Host, I: Read, O: Write, E: Output>(
+pub fn run<H: Host, I: Read, O: Output, E: Output>(
     host: &H,
     input: &mut I,
     out: &mut O,
@@ -47,7 +46,8 @@ pub fn run<H: Host, I: Read, O: Write, E: Output>(
         (words : List Text) × H.gives host.now (Ok words) × spec.EndsWell (H.finds host.now) words
         (I.remaining input.old) (I.remaining input.new) (O.contents out.old) (O.contents out.new) }
     ensures ended { spec.EndsRun (H.gives host.now) (H.finds host.now) (I.remaining input.old) (I.remaining input.new)
-        (O.contents out.old) (O.contents out.new) (E.contents err.old) (after (E.contents err.new) (E.broke err.new))
+        (O.contents out.old) (after (O.contents out.new) (O.broke out.new))
+        (E.contents err.old) (after (E.contents err.new) (E.broke err.new))
         (exit_status result) }
     ensures quiet { exit_status result ≡ DONE → err.new ≡ err.old }
 {
@@ -74,7 +74,7 @@ fn tell_unread<E: Output>(kind: ErrorKind, err: &mut E) -> ExitCode
 }
 
 /// What the program does with its arguments: its name, and those after it.
-pub(crate) fn run_words<H: Host, I: Read, O: Write, E: Output>(
+pub(crate) fn run_words<H: Host, I: Read, O: Output, E: Output>(
     host: &H,
     words: &[String],
     input: &mut I,
@@ -85,7 +85,7 @@ pub(crate) fn run_words<H: Host, I: Read, O: Write, E: Output>(
         spec.EndsWell (H.finds host.now) (map string_bytes words.now) (I.remaining input.old) (I.remaining input.new)
         (O.contents out.old) (O.contents out.new) }
     ensures ended { spec.Ends (H.finds host.now) (map string_bytes words.now) (I.remaining input.old)
-        (I.remaining input.new) (O.contents out.old) (O.contents out.new) (E.contents err.old)
+        (I.remaining input.new) (O.contents out.old) (after (O.contents out.new) (O.broke out.new)) (E.contents err.old)
         (after (E.contents err.new) (E.broke err.new))
         (exit_status result) }
     ensures quiet { exit_status result ≡ DONE → err.new ≡ err.old }
@@ -98,9 +98,10 @@ pub(crate) fn run_words<H: Host, I: Read, O: Write, E: Output>(
 }
 
 /// The study that the program carries: one minute from stop A of the small feed, by at most two rides.
-fn example<H: Host, O: Write, E: Output>(host: &H, out: &mut O, err: &mut E) -> ExitCode
+fn example<H: Host, O: Output, E: Output>(host: &H, out: &mut O, err: &mut E) -> ExitCode
     ensures success { exit_status result ≡ DONE → spec.IsExample (O.contents out.old) (O.contents out.new) }
-    ensures ended { spec.EndsExample (O.contents out.old) (O.contents out.new) (E.contents err.old)
+    ensures ended { spec.EndsExample (O.contents out.old) (after (O.contents out.new) (O.broke out.new))
+        (E.contents err.old)
         (after (E.contents err.new) (E.broke err.new))
         (exit_status result) }
     ensures quiet { exit_status result ≡ DONE → err.new ≡ err.old }
@@ -113,7 +114,7 @@ fn example<H: Host, O: Write, E: Output>(host: &H, out: &mut O, err: &mut E) -> 
 }
 
 /// The study that the arguments ask for.
-fn asked<H: Host, I: Read, O: Write, E: Output>(
+fn asked<H: Host, I: Read, O: Output, E: Output>(
     host: &H,
     words: &[String],
     input: &mut I,
@@ -124,7 +125,7 @@ fn asked<H: Host, I: Read, O: Write, E: Output>(
         spec.Succeeds (H.finds host.now) (map string_bytes words.now) (I.remaining input.old) (I.remaining input.new)
         (O.contents out.old) (O.contents out.new) }
     ensures ended { spec.EndsWords (H.finds host.now) (map string_bytes words.now) (I.remaining input.old)
-        (I.remaining input.new) (O.contents out.old) (O.contents out.new) (E.contents err.old)
+        (I.remaining input.new) (O.contents out.old) (after (O.contents out.new) (O.broke out.new)) (E.contents err.old)
         (after (E.contents err.new) (E.broke err.new))
         (exit_status result) }
     ensures quiet { exit_status result ≡ DONE → err.new ≡ err.old }
@@ -154,7 +155,7 @@ fn asked<H: Host, I: Read, O: Write, E: Output>(
 }
 
 /// Puts out what `clap` says to arguments that ask for no study: its help or its version, or what is wrong with them.
-fn tell_words<O: Write, E: Output>(
+fn tell_words<O: Output, E: Output>(
     alloc: Global,
     error: &Error,
     code: u8,
@@ -163,7 +164,8 @@ fn tell_words<O: Write, E: Output>(
 ) -> ExitCode
     ensures help { exit_status result ≡ DONE →
         (code ≡ DONE) × ((text : List ℕ) × Appends (O.contents out.old) (O.contents out.new) text) }
-    ensures ended { spec.EndsText code (O.contents out.old) (O.contents out.new) (E.contents err.old)
+    ensures ended { spec.EndsText code (O.contents out.old) (after (O.contents out.new) (O.broke out.new))
+        (E.contents err.old)
         (after (E.contents err.new) (E.broke err.new)) (exit_status result) }
     ensures quiet { exit_status result ≡ DONE → err.new ≡ err.old }
 {
@@ -174,10 +176,11 @@ fn tell_words<O: Write, E: Output>(
 }
 
 /// Puts out a text whose status is that of help or the version, and else tells it.
-fn put_text<O: Write, E: Output>(text: &[u8], code: u8, out: &mut O, err: &mut E) -> ExitCode
+fn put_text<O: Output, E: Output>(text: &[u8], code: u8, out: &mut O, err: &mut E) -> ExitCode
     ensures help { exit_status result ≡ DONE →
         (code ≡ DONE) × Appends (O.contents out.old) (O.contents out.new) text.now }
-    ensures ended { spec.IsPut text.now code (O.contents out.old) (O.contents out.new) (E.contents err.old)
+    ensures ended { spec.IsPut text.now code (O.contents out.old) (after (O.contents out.new) (O.broke out.new))
+        (E.contents err.old)
         (after (E.contents err.new) (E.broke err.new)) (exit_status result) }
     ensures quiet { exit_status result ≡ DONE → err.new ≡ err.old }
 {
@@ -189,20 +192,21 @@ fn put_text<O: Write, E: Output>(text: &[u8], code: u8, out: &mut O, err: &mut E
 }
 
 /// Puts out the help or the version. Where it can't be written that is no success.
-fn put_help<O: Write, E: Output>(text: &[u8], out: &mut O, err: &mut E) -> ExitCode
+fn put_help<O: Output, E: Output>(text: &[u8], out: &mut O, err: &mut E) -> ExitCode
     ensures help { exit_status result ≡ DONE → Appends (O.contents out.old) (O.contents out.new) text.now }
-    ensures ended { spec.IsShown text.now (O.contents out.old) (O.contents out.new) (E.contents err.old)
+    ensures ended { spec.IsShown text.now (O.contents out.old) (after (O.contents out.new) (O.broke out.new))
+        (E.contents err.old)
         (after (E.contents err.new) (E.broke err.new)) (exit_status result) }
     ensures quiet { exit_status result ≡ DONE → err.new ≡ err.old }
 {
-    match put_all(text, out) {
+    match put_whole(text, out) {
         Ok(()) => ExitCode::from(DONE),
         Err(_) => tell(b"ttm: write fault\n", NOT_MOVED, err),
     }
 }
 
 /// Reads the files of a task, and answers its study, or the questions of its conversation.
-fn read_and_answer<H: Host, I: Read, O: Write, E: Output>(
+fn read_and_answer<H: Host, I: Read, O: Output, E: Output>(
     host: &H,
     task: &Task,
     files: &mut StudyFiles,
@@ -216,7 +220,8 @@ fn read_and_answer<H: Host, I: Read, O: Write, E: Output>(
         spec.IsDone (H.finds host.now) task.now (I.remaining input.old) (I.remaining input.new) (O.contents out.old)
         (O.contents out.new) }
     ensures ended { spec.EndsTask (H.finds host.now) task.now (I.remaining input.old) (I.remaining input.new)
-        (O.contents out.old) (O.contents out.new) (E.contents err.old) (after (E.contents err.new) (E.broke err.new))
+        (O.contents out.old) (after (O.contents out.new) (O.broke out.new))
+        (E.contents err.old) (after (E.contents err.new) (E.broke err.new))
         (exit_status result) }
     ensures quiet { exit_status result ≡ DONE → err.new ≡ err.old }
 {
@@ -249,7 +254,7 @@ fn explain_unread<H: Host, E: Output>(
 }
 
 /// Answers the study of a task whose files are read, or the questions of its conversation.
-fn answer_files<H: Host, I: Read, O: Write, E: Output>(
+fn answer_files<H: Host, I: Read, O: Output, E: Output>(
     host: &H,
     task: &Task,
     files: &mut StudyFiles,
@@ -260,7 +265,7 @@ fn answer_files<H: Host, I: Read, O: Write, E: Output>(
     requires files { AreWithinLimit (files_of files.old) }
     requires settings { SettingsFit task.now.settings }
     ensures ended { spec.EndsFiles (H.finds host.now) (files_of files.old) task.now (I.remaining input.old)
-        (I.remaining input.new) (O.contents out.old) (O.contents out.new) (E.contents err.old)
+        (I.remaining input.new) (O.contents out.old) (after (O.contents out.new) (O.broke out.new)) (E.contents err.old)
         (after (E.contents err.new) (E.broke err.new))
         (exit_status result) }
     ensures success { exit_status result ≡ DONE → spec.IsDoneOf (H.finds host.now) (files_of files.old) task.now

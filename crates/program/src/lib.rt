@@ -7,7 +7,7 @@
 //! - `arguments`: the whole way on a `host`, from its `words` to a printed matrix. `answers`: what is put out and told
 //!   of a study, and its report.
 //! - `talk`: a conversation about what is kept: it reads the questions (`blocks`, `question_files`), and puts out the
-//!   answers (`replies`).
+//!   answers (`replies`, `line_room`).
 //! - `reading` reads the files that the arguments name from the `disk` into `study_files`, or answers why one is
 //!   `unread`; the crate `studies` makes the matrix's text of them.
 //!
@@ -20,6 +20,7 @@ mod blocks;
 mod disk;
 mod example;
 mod host;
+mod line_room;
 mod question_files;
 mod reading;
 mod replies;

@@ -2,7 +2,7 @@
 ghost use Rattle.std.specs.Prelude.{◌≡◌, None, []};
 ghost use Rattle.studies.specs.FeedFiles.{no_files};
 ghost use Rattle.studies.specs.Inputs.{inputs_of};
-ghost use Rattle.program.specs.Files.{files_of};
+ghost use Rattle.program.specs.Files.{AreFreed, files_of};
 
 use std::alloc::Global;
 use studies::{FeedFiles, Inputs, NamedFile, bytes_of};
@@ -56,9 +56,10 @@ impl StudyFiles {
             scenarios: self.scenarios.as_slice(),
         }
     }
+
     /// Frees the bytes of all files but the scenarios', as if there were no such files.
     pub fn free(&mut self)
-        ensures { files_of self.new ≡ record {
+        ensures files { files_of self.new ≡ record {
           feed = no_files;
           footpaths = None;
           origins = None;
@@ -66,6 +67,7 @@ impl StudyFiles {
           destinations = None;
           scenarios = self.old.scenarios.items;
         } }
+        ensures freed { AreFreed self.new }
     {
         self.feed = FeedFiles::none();
         self.footpaths = None;

@@ -22,7 +22,7 @@ use console::{Console, tell_line};
 use outputs::{Output, tell};
 use reports::Report;
 use std::alloc::{AllocError, Global};
-use std::io::{Read, Write};
+use std::io::Read;
 use std::process::ExitCode;
 use studies::{Inputs, Kept, StudyFault, Unwatched, keep};
 
@@ -31,13 +31,13 @@ use studies::{Inputs, Kept, StudyFault, Unwatched, keep};
 pub(crate) enum TalkFault {
     /// A read of the input failed.
     Read,
-    /// An answer couldn't be put out.
+    /// A call of the output broke, and an answer may not be out.
     Write,
 }
 
 /// Keeps what the files of a task give, and answers the questions of the input; or tells why nothing can be kept, as a
 /// run does. What is kept is reported, and so is each question, if the task says so.
-pub(crate) fn converse<'a, H: Host, I: Read, O: Write, E: Output>(
+pub(crate) fn converse<'a, H: Host, I: Read, O: Output, E: Output>(
     host: &'a H,
     task: &'a Task,
     inputs: &Inputs<'a>,
@@ -48,7 +48,8 @@ pub(crate) fn converse<'a, H: Host, I: Read, O: Write, E: Output>(
     requires files { AreWithinLimit (inputs_of inputs.now) }
     requires settings { SettingsFit task.now.settings }
     ensures ended { answers.EndsConversation (H.finds host.now) (inputs_of inputs.now) task.now.settings
-        (I.remaining input.old) (I.remaining input.new) (O.contents out.old) (O.contents out.new) (E.contents err.old)
+        (I.remaining input.old) (I.remaining input.new) (O.contents out.old)
+        (after (O.contents out.new) (O.broke out.new)) (E.contents err.old)
         (after (E.contents err.new) (E.broke err.new)) (exit_status result) }
     ensures success { exit_status result ≡ DONE → spec.IsWhole (H.finds host.now) (inputs_of inputs.now)
         task.now.settings (I.remaining input.old) (I.remaining input.new) (O.contents out.old) (O.contents out.new) }
@@ -102,7 +103,7 @@ fn end<E: Output>(ended: Result<(), TalkFault>, err: &mut E) -> ExitCode
 }
 
 /// Answers the questions of the input, to its end.
-fn talk<H: Host, I: Read, O: Write>(
+fn talk<H: Host, I: Read, O: Output>(
     host: &H,
     kept: &Kept<'_>,
     is_told: bool,
@@ -114,8 +115,8 @@ fn talk<H: Host, I: Read, O: Write>(
     ensures whole { OnOk result (spec.IsWhole (H.finds host.now) (inputs_of kept.now.inputs) kept.now.settings.now
         (I.remaining input.old) (I.remaining input.new) (O.contents out.old) (O.contents out.new)) }
     ensures fault { IfErr result (λ fault. spec.IsTalk (H.finds host.now) (inputs_of kept.now.inputs)
-        kept.now.settings.now (I.remaining input.old) (I.remaining input.new) (O.contents out.old) (O.contents out.new)
-        fault) }
+        kept.now.settings.now (I.remaining input.old) (I.remaining input.new) (O.contents out.old)
+        (after (O.contents out.new) (O.broke out.new)) fault) }
 {
     for number in 1..u64::MAX {
         let told = if is_told { Some(number) } else { None };
@@ -131,7 +132,7 @@ fn talk<H: Host, I: Read, O: Write>(
 }
 
 /// Reads one question, if there is one, and puts its answer out. Whether there may be another one.
-fn turn<H: Host, I: Read, O: Write>(
+fn turn<H: Host, I: Read, O: Output>(
     host: &H,
     kept: &Kept<'_>,
     told: Option<u64>,
@@ -144,8 +145,8 @@ fn turn<H: Host, I: Read, O: Write>(
         kept.now.settings.now (I.remaining input.old) (I.remaining input.new) (O.contents out.old) (O.contents out.new)
         more) }
     ensures stop { IfErr result (λ fault. spec.IsStop (H.finds host.now) (inputs_of kept.now.inputs)
-        kept.now.settings.now (I.remaining input.old) (I.remaining input.new) (O.contents out.old) (O.contents out.new)
-        fault) }
+        kept.now.settings.now (I.remaining input.old) (I.remaining input.new) (O.contents out.old)
+        (after (O.contents out.new) (O.broke out.new)) fault) }
 {
     let block = match next_block(host.alloc(), input) {
         Ok(Some(block)) => block,

@@ -17,3 +17,4 @@ pub mod Last
 pub mod Useful
 pub mod Skipped
 pub mod LatestFirst
+pub mod Memory

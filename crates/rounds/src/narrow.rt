@@ -6,6 +6,9 @@ ghost use Rattle.trip_lanes.specs.declared.lanes.TheConstants.{LANES as LANES_VA
 ghost use Rattle.useful_minutes.specs.Counted.{narrow_at};
 ghost use Rattle.rounds.specs.Arrivals.{AreAllTold, AreFoundSoFar, HaveRoomFor};
 ghost use Rattle.rounds.specs.Searches.{IsSearch, arrival_in};
+ghost use Rattle.std.specs.Prelude.{◌≢◌};
+ghost use Rattle.rounds.specs.Memory.{HoldsNothing};
+ghost use Rattle.rounds.specs.declared.workspace.TheConstants.{MOST_STOPS_KEPT};
 
 use crate::batches::{Bounds, is_in_range, no_bounds, try_batch};
 use crate::query::Query;
@@ -34,7 +37,11 @@ impl NarrowWorkspaces {
 
     /// Gives memory back where a network is large: that of the workspaces that a batch of as many lanes as are left, in
     /// sixteens, doesn't take; all of it where none is left.
-    fn keep_for(&mut self, alloc: Global, stops: u32, left: usize) {
+    fn keep_for(&mut self, alloc: Global, stops: u32, left: usize)
+        ensures sixteen { MOST_STOPS_KEPT < stops → left ≢ 1 → HoldsNothing self.new.sixteen }
+        ensures thirty_two { MOST_STOPS_KEPT < stops → left ≢ 2 → left ≢ 4 → HoldsNothing self.new.thirty_two }
+        ensures forty_eight { MOST_STOPS_KEPT < stops → left < 3 → HoldsNothing self.new.forty_eight }
+    {
         if left != 1 {
             self.sixteen.give_back(alloc, stops);
         }

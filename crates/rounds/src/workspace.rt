@@ -1,5 +1,6 @@
 //! The workspace of a search.
-ghost use Rattle.std.specs.Prelude.{◌≡◌, length, OnOk};
+ghost use Rattle.std.specs.Prelude.{◌≡◌, ◌<◌, ◌≤◌, length, OnOk};
+ghost use Rattle.rounds.specs.Memory.{HoldsNothing};
 ghost use Rattle.rounds.specs.Query.{IsWorkspaceFor};
 
 use std::alloc::{AllocError, Global};
@@ -38,7 +39,9 @@ pub(crate) struct Workspace<R> {
 
 impl<R: LaneLabels> Workspace<R> {
     /// An empty workspace.
-    pub(crate) fn new(alloc: Global) -> Self {
+    pub(crate) fn new(alloc: Global) -> Self
+        ensures { HoldsNothing result }
+    {
         Workspace {
             ride: Vec::new(alloc),
             marked: Vec::new(alloc),
@@ -53,7 +56,10 @@ impl<R: LaneLabels> Workspace<R> {
     }
 
     /// Gives its memory back in a network of many stops, so that what is made next can take it.
-    pub(crate) fn give_back(&mut self, alloc: Global, stops: u32) {
+    pub(crate) fn give_back(&mut self, alloc: Global, stops: u32)
+        ensures given { MOST_STOPS_KEPT < stops → HoldsNothing self.new }
+        ensures kept { stops ≤ MOST_STOPS_KEPT → self.new ≡ self.old }
+    {
         if stops > MOST_STOPS_KEPT {
             *self = Workspace::new(alloc);
         }

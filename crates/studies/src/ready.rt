@@ -1,5 +1,5 @@
 //! Studies that are ready to be computed: what the rows and the text need, without the files.
-ghost use Rattle.std.specs.Prelude.{IfErr, IfOk};
+ghost use Rattle.std.specs.Prelude.{◌≡◌, [], IfErr, IfOk};
 ghost use Rattle.studies.specs.Inputs.{AreWithinLimit, InputFiles, inputs_of};
 ghost use Rattle.studies.specs.Ready.{IsReady};
 ghost use Rattle.studies.specs.Settings.{SettingsFit};
@@ -47,22 +47,30 @@ pub fn ready_study<'a, W: Watch>(
     requires files { AreWithinLimit (inputs_of inputs.now) }
     requires settings { SettingsFit settings.now }
     ensures ready { IfOk result (λ study. IsReady (inputs_of inputs.now) settings.now study) }
+    ensures no_trips { IfOk result (λ study. study.feed.value.trips ≡ []) }
     ensures listed { IfOk result (λ _. W.saw watch.now listed) }
     ensures told { IfOk result (λ _. HasReadTables (W.has_read watch.now) (W.has_listed watch.now)
         (inputs_of inputs.now) settings.now) }
     ensures fault { IfErr result (λ e. Tells e (inputs_of inputs.now) settings.now) }
     ensures no_run { IfErr result IsOfNoRun }
 {
-    let mut prepared = prepare(alloc, inputs, settings, watch)?;
+    let prepared = prepare(alloc, inputs, settings, watch)?;
     let names = names_of(alloc, inputs.scenarios)?;
-    // Rows need the networks' copies of the trips alone.
-    prepared.kept.feed.forget_trips(alloc);
     Ok(ReadyStudy {
-        feed: prepared.kept.feed,
+        feed: without_trips(alloc, prepared.kept.feed),
         networks: prepared.kept.networks,
         names,
         tables: prepared.tables,
     })
+}
+
+/// A feed without its trips: rows need the networks' copies of them alone.
+fn without_trips(alloc: Global, mut feed: Box<Feed>) -> Box<Feed>
+    ensures no_trips { result.value.trips ≡ [] }
+    ensures stops { result.value.stops ≡ feed.value.stops }
+{
+    feed.forget_trips(alloc);
+    feed
 }
 
 /// The text of the matrix of a study that is ready, or why there is none: what

@@ -14,3 +14,4 @@ pub mod RoundSteps
 pub mod Numbering
 pub mod Renumbering
 pub mod FaultWords
+pub mod Patterns

@@ -1,13 +1,15 @@
 //! Lines: trips with the same stops in the same order, where one may board and alight alike, and none overtakes
 //! another. (The RAPTOR paper has them as routes: Delling, Pajor, Werneck, ALENEX 2012.)
 ghost use Rattle.std.specs.Prelude.{◌≡◌, ◌<◌, ◌≤◌, ◌+◌, ◌↔◌, ℕ, IsTrue, IfOk, OnOk, IfSome, All, [], map, length};
-ghost use Rattle.std.specs.Prelude.{slice_get, slice_index_or, Some};
+ghost use Rattle.std.specs.Prelude.{slice_get, slice_index_or, Some, if◌then◌else◌};
 ghost use Rattle.std.specs.Bool.{OnTrue};
 ghost use Rattle.std.specs.List.{Contains};
 ghost use Rattle.timetable.specs.FlatLists.{lists_of, Adds};
 ghost use Rattle.timetable.specs.Networks.{NetWithin};
 ghost use Rattle.timetable.specs.Lines.{IsNoEarlier, Follows, Joins, IsLine, IsInLine, AreLines, BoardsBefore};
 ghost use Rattle.timetable.specs.Lines.{AreBoarded, AreLinesOf};
+ghost use Rattle.timetable.specs.Patterns.{mixed_all, pattern, place_of};
+ghost use Rattle.timetable.specs.Patterns as patterns;
 
 use crate::flat_lists::{FlatLists, add, no_lists};
 use crate::limits::{MOST_EVENTS, MOST_TRIPS};
@@ -121,11 +123,15 @@ fn order_of(alloc: Global, trips: &[Trip]) -> Result<Vec<(u64, u32, u32)>, Alloc
 
 /// A number for the stops of the events, and where one may board and alight: trips of one line have the same. The first
 /// stop has the highest bits, so that lines which begin near each other lie near each other and are scanned in turn.
-fn pattern_of(events: &[Event]) -> u64 {
+fn pattern_of(events: &[Event]) -> u64
+    ensures { result ≡ pattern (map place_of events.now) }
+{
     (u64::from(first_stop(events)) << 48) | (mixed_stops(events) >> 16)
 }
 
-fn first_stop(events: &[Event]) -> u32 {
+fn first_stop(events: &[Event]) -> u32
+    ensures { result ≡ patterns.first_stop (map place_of events.now) }
+{
     match events.first() {
         Some(event) => event.stop.0,
         None => 0,
@@ -133,17 +139,33 @@ fn first_stop(events: &[Event]) -> u32 {
 }
 
 /// All stops in one number, and where one may board and alight.
-fn mixed_stops(events: &[Event]) -> u64 {
+fn mixed_stops(events: &[Event]) -> u64
+    ensures { result ≡ mixed_all (length events.now) (map place_of events.now) }
+{
     let mut mixed: u64 = events.len() as u64;
     for event in events {
-        let stop = u64::from(event.stop.0).wrapping_mul(4);
-        let board = if event.board { 2 } else { 0 };
-        let alight = if event.alight { 1 } else { 0 };
-        mixed = (mixed ^ stop ^ board ^ alight)
-            .wrapping_mul(0x9E37_79B9_7F4A_7C15)
-            .rotate_left(29);
+        mixed = mixed_with(mixed, event);
     }
     mixed
+}
+
+/// Mixes the stop of an event, and its boarding and alighting flags, into a number.
+fn mixed_with(mixed: u64, event: &Event) -> u64
+    ensures { result ≡ patterns.mixed_with mixed (place_of event.now) }
+{
+    let stop = u64::from(event.stop.0).wrapping_mul(4);
+    let board = flag(event.board, 2);
+    let alight = flag(event.alight, 1);
+    (mixed ^ stop ^ board ^ alight)
+        .wrapping_mul(0x9E37_79B9_7F4A_7C15)
+        .rotate_left(29)
+}
+
+/// `bit` if `is_so`, else 0.
+fn flag(is_so: bool, bit: u64) -> u64
+    ensures { result ≡ (if is_so then bit else 0) }
+{
+    if is_so { bit } else { 0 }
 }
 
 fn first_departure(events: &[Event]) -> u32 {

@@ -1,7 +1,8 @@
 //! The records of one trip: when it calls at which stop, in ascending order of `stop_sequence`.
 
-ghost use Rattle.std.specs.Prelude.{◌≡◌, ◌<◌, ◌≤◌, ℕ, [], true, length, slice_index_or, IfNone, IfSome, IsTrue, OnErr};
-ghost use Rattle.std.specs.Prelude.{OnOk};
+ghost use Rattle.std.specs.Prelude.{◌≡◌, ◌≢◌, ◌<◌, ◌≤◌, ℕ, [], true, length, slice_index_or, IfNone, IfSome, IsTrue};
+ghost use Rattle.std.specs.Prelude.{OnErr, OnOk};
+ghost use Rattle.std.specs.VecDeque.{deque_capacity};
 ghost use Rattle.trip_events.specs.declared.trip_times.StopTime.{StopTime};
 ghost use Rattle.trip_events.specs.TripTimes.{FitsAt, IsAscending, has_number, insert_in_order};
 
@@ -88,9 +89,7 @@ impl TripTimes {
         ensures put { OnOk result (self.new ≡ insert_in_order stop_time self.old) }
         ensures err { OnErr result (self.new ≡ self.old) }
     {
-        if self.items.is_empty() {
-            self.items.reserve(likely)?;
-        }
+        reserve_once(&mut self.items, likely)?;
         insert_at(&mut self.items, position, stop_time)
     }
 
@@ -101,6 +100,18 @@ impl TripTimes {
         let TripTimes { items } = self;
         Vec::from(items)
     }
+}
+
+/// Reserves room for `likely` records, unless there are some already: for them it was reserved before.
+fn reserve_once(trip_times: &mut VecDeque<StopTime>, likely: usize) -> Result<(), AllocError>
+    ensures same { trip_times.new.items ≡ trip_times.old.items }
+    ensures first { OnOk result (trip_times.old.items ≡ [] → likely ≤ deque_capacity trip_times.new) }
+    ensures later { trip_times.old.items ≢ [] → deque_capacity trip_times.new ≡ deque_capacity trip_times.old }
+{
+    if trip_times.is_empty() {
+        trip_times.reserve(likely)?;
+    }
+    Ok(())
 }
 
 /// Puts a record at its position. A function of the list alone, so that the order need not hold of `self` halfway.

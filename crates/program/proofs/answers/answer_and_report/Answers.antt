@@ -8,10 +8,11 @@ use Rattle.studies.specs.Inputs.{InputFiles, inputs_of}
 
 pub returns-clause-answered : goal.returns-clause-answered
 returns-clause-answered g c =
+    let printed = after (g.O.Write.contents c.put_study.new.out) (g.O.Output.broke c.put_study.new.out) in
     let told = after (g.E.Write.contents c.tell_why-code.new.err) (g.E.Output.broke c.tell_why-code.new.err) in
     inr
     (is_refused (files_of c.args.files.now) (inputs_of c.inputs-inputs.result) c.args.task.now.settings c.in-Err.fault
-    (g.O.Write.contents c.args.out.now) (g.O.Write.contents c.put_study.new.out)
+    (g.O.Write.contents c.args.out.now) printed
     (g.E.Write.contents c.args.err.now) told (exit_status c.tell_why-code.result)
     (ap (λ (i : InputFiles). i.scenarios) c.inputs-inputs.ensures ∙ c.in-Err.ensures.scenarios) c.in-Err.ensures.why
     c.tell_why-code.ensures.told)

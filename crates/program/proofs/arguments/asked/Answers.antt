@@ -30,7 +30,8 @@ pub returns-in-Words-clause-ended : goal.returns-in-Words-clause-ended
 returns-in-Words-clause-ended g c =
     let words = map string_bytes c.args.words.now in
     let Ended : ℕ → Type 0 = λ code. EndsText code (g.O.Write.contents c.args.out.now)
-    (g.O.Write.contents c.tell_words.new.out) (g.E.Write.contents c.args.err.now)
+    (after (g.O.Write.contents c.tell_words.new.out) (g.O.Output.broke c.tell_words.new.out))
+    (g.E.Write.contents c.args.err.now)
     (after (g.E.Write.contents c.tell_words.new.err) (g.E.Output.broke c.tell_words.new.err))
     (exit_status c.tell_words.result) in
     let told = subst (λ f. TellsWords f words) c.in-Words.is c.in-Err.ensures.fault in

@@ -18,7 +18,7 @@ returns-in-Ok-clause-success g c =
 pub returns-in-Ok-clause-ended : goal.returns-in-Ok-clause-ended
 returns-in-Ok-clause-ended g c =
     let out = g.O.Write.contents c.args.out.now in
-    let printed = g.O.Write.contents c.answer.new.out in
+    let printed = after (g.O.Write.contents c.answer.new.out) (g.O.Output.broke c.answer.new.out) in
     let told = after (g.E.Write.contents c.answer.new.err) (g.E.Output.broke c.answer.new.err) in
     inl (
       _,

@@ -10,13 +10,16 @@ pub returns-then-is_err-clause-stop : goal.returns-then-is_err-clause-stop
 returns-then-is_err-clause-stop g c =
     let known = g.I.Read.remaining c.args.input.now in
     let left = g.I.Read.remaining c.next_block.new.input in (
-      c.in-Ok-Some.block.is_closed,
-      turn_of PutsPrefix (g.H.Disk.finds c.args.host.now) (inputs_of c.args.kept.now.inputs)
-          c.args.kept.now.settings.now known left (g.O.Write.contents c.args.out.now)
-          (g.O.Write.contents c.put_reply.new.out) c.in-Ok-Some.block c.reply_to-reply.result
-          (subst (λ b. IsNext known left b) c.in-Ok-Some.field-0-is c.in-Ok-Some.ensures.block)
-          c.reply_to-reply.ensures (at_err c.put_reply.result c.put_reply.ensures.err c.is_err.ensures.value
-          c.if-is_err.true),
+      at_err c.put_reply.result c.put_reply.ensures.broke c.is_err.ensures.value c.if-is_err.true,
+      (
+        c.in-Ok-Some.block.is_closed,
+        turn_of PutsPrefix (g.H.Disk.finds c.args.host.now) (inputs_of c.args.kept.now.inputs)
+            c.args.kept.now.settings.now known left (g.O.Write.contents c.args.out.now)
+            (g.O.Write.contents c.put_reply.new.out) c.in-Ok-Some.block c.reply_to-reply.result
+            (subst (λ b. IsNext known left b) c.in-Ok-Some.field-0-is c.in-Ok-Some.ensures.block)
+            c.reply_to-reply.ensures (at_err c.put_reply.result c.put_reply.ensures.err c.is_err.ensures.value
+            c.if-is_err.true),
+      ),
     )
 
 pub returns-clause-step : goal.returns-clause-step

@@ -9,8 +9,7 @@ returns-clause-ready g c =
     let i = inputs_of c.args.inputs.now in
     let prepared = c.in_ok-prepared.ensures in
     record {
-      stops_are = ap (λ (d : FeedData). d.stops) c.forget_trips.ensures
-          ∙ ap (λ (d : FeedData). d.stops) (c.deref_mut.ensures.value ∙ prepared.feed.feed_is);
+      stops_are = c.without_trips.ensures.stops ∙ ap (λ (d : FeedData). d.stops) prepared.feed.feed_is;
       names_are = c.in_ok-names.ensures;
       tables_are = subst (λ (d : FeedData). AreTables i d c.in_ok-prepared.prepared.tables.value)
           prepared.feed.feed_is prepared.tables;
