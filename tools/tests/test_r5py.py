@@ -273,7 +273,7 @@ def test_streets_feeds_and_walks_are_kept(
 ) -> None:
     assert minutes(from_home(network)) == [41]
     entries = sorted(
-        path.name for kind in ("streets", "feeds", "doors") for path in (room.folder / "cache" / kind).iterdir()
+        path.name for kind in ("streets", "feeds", "places") for path in (room.folder / "cache" / kind).iterdir()
     )
     assert len(entries) == 3 and not any(name.startswith(".") for name in entries)
     for name in ("read_streets", "make"):

@@ -213,7 +213,7 @@ def test_answers_are_the_same_where_walks_are_too_many(
     monkeypatch.setenv("TTM_CACHE", room.path("split"))
     monkeypatch.setattr(LongWalks, "are_many", lambda _: True)
     split = answers(room, program, (ends[0], ends[1]))
-    assert list(Path(room.path("split")).glob("doors/*/doors/direct.npy"))
+    assert list(Path(room.path("split")).glob("places/*/places/direct.npy"))
     for one, other in zip(usual[:-1], split[:-1]):
         assert one.equals(other), (one, other)
     assert usual[0].travel_time_p95.max() > 40 and usual[1].travel_time.max() < 50

@@ -7,8 +7,8 @@ from dataclasses import dataclass, field
 
 from ..core.errors import ArgumentError
 from ..engine.network import EngineNetwork
+from ..places.doors import PreparedFeed
 from ..streets.osm import Streets
-from .folders import PreparedFeed
 
 MOST_ENGINES = 4  # that are kept: of different places, dates or longest walks
 

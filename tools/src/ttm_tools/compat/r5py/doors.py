@@ -3,20 +3,17 @@
 import contextlib
 import datetime
 import warnings
-from dataclasses import replace
 from pathlib import Path
 from typing import Iterator, Sequence
 
 import numpy as np
 
-from ...core.cache import cached_entry, key_of
-from ...core.limits import MOST_FOOTPATHS, MOST_FOOT_SECONDS
+from ...core.limits import MOST_FOOTPATHS
 from ...core.text import display_text, first_few, quantity
 from ...core.threads import processors
-from ...places.doors import BEGINS, Doors, ENDS, Seconds, write_doors, write_unreached
+from ...places.doors import BEGINS, DoorToDoorFolder, ENDS, PreparedFeed, Seconds, WalkNetwork, folder_of
 from ...places.folder import TooManyPlaces, UNREACHED
 from ...places.frames import FramePlaces, GRID
-from ...places.long_walks import LongWalks
 from ...streets.counting import TooManyWalks
 from ...streets.router import Router
 from ...streets.walks import points_of
@@ -81,30 +78,16 @@ def ridden(
 
 def doors_of(
     network: TransportNetwork, task: RegionalTask, feed: Prepared, origins: FramePlaces, destinations: FramePlaces
-) -> Doors:
+) -> DoorToDoorFolder:
     """The folder of these places, made once. A warning names the places without a stop in reach."""
     files = [origins] if origins is destinations else [origins, destinations]
-    walking, merges = task.walking(), task.max_time_walking >= task.max_time
-    key = key_of(
-        "doors and places out of reach",
-        feed.key,
-        network.streets_key,
-        walking,
-        merges,
-        NEAR,
-        *[places.content() for places in files],
-    )
-
-    def make(folder: Path) -> None:
-        walks = LongWalks(feed.folder, [places.points() for places in files], network.streets, walking, NEAR)
-        with named_limits(task, files[-1]):
-            write_doors(folder / "doors", walks, merges)
-        write_unreached(folder / "doors")
-
-    doors = Doors(cached_entry("doors", key, make) / "doors", key, int(walking.max_seconds))
+    merges = task.max_time_walking >= task.max_time
+    walks = WalkNetwork(network.streets, network.streets_key, task.walking(), merges)
+    with named_limits(task, files[-1]):
+        doors = folder_of(PreparedFeed(feed.key, Path(feed.folder)), walks, files)
     for places, file in zip(files, (BEGINS, ENDS)):
         warn_of_unreached(places, doors.unreached(file))
-    return doors if doors.direct is None else replace(doors, walk=MOST_FOOT_SECONDS)
+    return doors
 
 
 def warn_of_unreached(places: FramePlaces, unreached: Sequence[int]) -> None:
