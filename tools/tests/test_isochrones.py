@@ -111,14 +111,14 @@ def test_squares_around_rounded_middles_keep_their_area(seed: int) -> None:
     from shapely.geometry import box
     from shapely.ops import transform, unary_union
     from ttm_tools.gtfs.projection import Projection
-    from ttm_tools.views.isochrones import AreaGround
+    from ttm_tools.views.isochrones import StopGeometry
 
     draw = np.random.default_rng(seed)
     middles = [(x, y) + draw.uniform(-0.00005, 0.00005, 2) for x in range(12) for y in range(12) if draw.random() < 0.6]
     squares = unary_union([box(x - 0.5, y - 0.5, x + 0.5, y + 0.5) for x, y in middles])
     projection = Projection(np.array([51.5]), np.array([-0.1]))
     none: Any = None
-    written = AreaGround(none, projection, none, none, [], none).in_degrees(squares)
+    written = StopGeometry(none, projection, none, none, [], none).in_degrees(squares)
     assert transform(projection.kilometres, written).area == pytest.approx(len(middles), rel=0.001)
 
 

@@ -12,7 +12,7 @@ from ..core.text import rounded
 from . import drawing
 from .cells import path_along
 from .classes import from_near
-from .isochrones import AreaGround, polygons_in
+from .isochrones import StopGeometry, polygons_in
 from .map_content import Picture
 from .map_lines import MapLines, draw_lines, over_squares
 from .texts import text_alone
@@ -30,7 +30,7 @@ def path_of(shape: Any) -> Path | None:
 @text_alone
 def draw_bands(
     picture: Picture,
-    ground: AreaGround,
+    ground: StopGeometry,
     lines: Sequence[MapLines],
     note: str,
     width: int,

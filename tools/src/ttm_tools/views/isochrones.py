@@ -48,7 +48,7 @@ class Isochrone:
 
 
 @dataclass(frozen=True)
-class AreaGround:
+class StopGeometry:
     """Where the stops or points of a matrix lie, and which of them have a shape of their own; all in kilometres."""
 
     stops: Stops
@@ -59,7 +59,7 @@ class AreaGround:
     placed: Any  # whether it has a place
     squares: WalkedSquares | None = None  # along streets, from those that have a place and no shape, in their order
 
-    def around(self, identifier: str) -> "AreaGround":
+    def around(self, identifier: str) -> "StopGeometry":
         """The same ground, projected around a stop, near which lengths are true; unchanged if it has no place."""
         place = self.stops.places.get(identifier)
         has_shapes = self.squares is not None or any(shape is not None for shape in self.shapes)
@@ -125,7 +125,7 @@ def polygons_in(shape: Any) -> list[Any]:
     return [orient(shape)] if shape.geom_type == "Polygon" and not shape.is_empty else []
 
 
-def ground_of(stops: Stops, polygons: Mapping[str, Any]) -> AreaGround:
+def ground_of(stops: Stops, polygons: Mapping[str, Any]) -> StopGeometry:
     """Where these stops lie: each with its polygon, else its square, else none."""
     from shapely.geometry import box
     from shapely.ops import transform
@@ -144,10 +144,10 @@ def ground_of(stops: Stops, polygons: Mapping[str, Any]) -> AreaGround:
 
     for identifier in polygons.keys() & stops.places.keys():
         shapes[stops.places[identifier]] = transform(projection.kilometres, polygons[identifier])
-    return AreaGround(stops, projection, east, north, shapes, stops.placed)
+    return StopGeometry(stops, projection, east, north, shapes, stops.placed)
 
 
-def along_streets(ground: AreaGround, stops: Stops, streets: str, walking: Walking, near: float) -> AreaGround:
+def along_streets(ground: StopGeometry, stops: Stops, streets: str, walking: Walking, near: float) -> StopGeometry:
     """The same ground, from whose stops one walks along the streets of a file."""
     bare = [place for place in np.flatnonzero(ground.placed).tolist() if ground.shapes[place] is None]
     if not bare:
@@ -157,7 +157,9 @@ def along_streets(ground: AreaGround, stops: Stops, streets: str, walking: Walki
     return replace(ground, squares=squares)
 
 
-def ground_on_foot(stops: Stops, points: str | None, walking: Walking, streets: str | None, near: float) -> AreaGround:
+def ground_on_foot(
+    stops: Stops, points: str | None, walking: Walking, streets: str | None, near: float
+) -> StopGeometry:
     """Where these stops lie, with the polygons of a file of points, and along which streets one walks on."""
     ground = ground_of(stops, polygons_of(points))
     return along_streets(ground, stops, streets, walking, near) if streets else ground
@@ -185,7 +187,7 @@ class Bands:
     walking: Walking
 
 
-def isochrones_of(matrix: Matrix, ground: AreaGround, bands: Bands, counts: Counts | None) -> list[Isochrone]:
+def isochrones_of(matrix: Matrix, ground: StopGeometry, bands: Bands, counts: Counts | None) -> list[Isochrone]:
     """The isochrones of each scenario, share and band, in this order; ground and counts are of the matrix's stops."""
     areas, ground = list[Isochrone](), ground.around(bands.origin)
     every = list(itertools.product(bands.scenarios, bands.shares))

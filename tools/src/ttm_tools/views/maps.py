@@ -16,7 +16,7 @@ from ..web.page.lines import DrawnLines
 from . import drawing, map_content
 from .classes import BANDS
 from .isochrone_map import draw_bands
-from .isochrones import AreaGround
+from .isochrones import StopGeometry
 from .lines import Planned, lines_of_edits, lines_of_plan
 from .map_content import Picture, PictureOptions
 from .map_lines import MapLines
@@ -40,7 +40,7 @@ class Areas:
 
     origin: str
     options: PictureOptions
-    ground: AreaGround
+    ground: StopGeometry
     walking: Walking
 
 

@@ -14,7 +14,7 @@ from ...core.walking import Walking
 from ...measures.opportunities import columns_of
 from ...places.selection import points_in
 from ...views import isochrones
-from ...views.isochrones import AreaGround
+from ...views.isochrones import StopGeometry
 from ...views.lines import planned_of
 from ...views.map_content import PictureOptions
 from ...views.maps import Areas, Sheet, figure_of, figure_of_isochrones, picture_of
@@ -107,7 +107,7 @@ def sheet_of(whole: StudyMatrix, drawn: StudyMap) -> Sheet:
     return Sheet(None, whole.study.about.note, edits=own, planned=planned)
 
 
-def areas_drawn(whole: StudyMatrix, drawn: StudyMap, ground: AreaGround, walking: Walking) -> Any:
+def areas_drawn(whole: StudyMatrix, drawn: StudyMap, ground: StopGeometry, walking: Walking) -> Any:
     """The areas that are reached from a place."""
     matrix, stops = whole.open()
     areas = Areas(drawn.origin or "", options_of(whole, drawn), ground, walking)
@@ -126,7 +126,7 @@ def classes_drawn(whole: StudyMatrix, drawn: StudyMap) -> Any:
     return figure_of(picture, matrix, stops, whole.at(whole.inputs.feed), sheet_of(whole, drawn), base)
 
 
-def ground_for(whole: StudyMatrix) -> tuple[AreaGround, Walking]:
+def ground_for(whole: StudyMatrix) -> tuple[StopGeometry, Walking]:
     """Where the places of the matrix lie, and how one walks on from them."""
     study, (matrix, stops) = whole.study, whole.open()
     there = stops.of(matrix.stops)
