@@ -54,7 +54,7 @@ def rows_of(path: str | None) -> list[dict[str, str]]:
 
 
 def test_cells_lie_wherever_one_walks_to_a_stop(tmp_path: Path) -> None:
-    """In ten minutes one walks 800 metres, 615 as the crow flies: so far is the middle of each cell from a stop."""
+    """Ten minutes are 800 metres on foot, 615 as the crow flies: the middle of each cell is within that of a stop."""
     options, sentences = with_generated(replace(options_for(tmp_path), grid=400.0), tmp_path)
     cells = rows_of(f"{options.feed}/points.csv")
     assert sentences[0] == f"{len(cells)} cells of 400 metres" and (options.name, options.most_walk) == ("village", 600)

@@ -154,7 +154,7 @@ def test_one_walks_on_along_streets_to_squares(town: Town) -> None:
     for walk, metres in ((600, 240), (120, 120)):
         words = ["--bands", "4", "--walk", str(walk), "--streets", crossroads(town)]
         (area,) = isochrones(town, "--scenario", "base", *words)
-        # so many metres along each of four arms, in squares of 100 metres; a street may lie in two rows of them
+        # each of four arms is walked for `metres`; a street at the edge of squares of 100 metres takes two rows
         whole = area["properties"]["square_km"] / 0.01
         assert whole == pytest.approx(round(whole), abs=1e-6)
         assert 4 * (metres - 120) / 100 < whole < 2 * 4 * (metres + 150) / 100
@@ -180,7 +180,7 @@ def test_from_the_place_where_most_is_left_one_comes_furthest() -> None:
     # the nodes are at 0, 1,000 and 2,000 m, then the places; 400 m from the first leave 100 m at the second, which is
     # more than 50
     assert router.within(np.array([400.0, 50, -1])).round().tolist() == [400, -1, -1, 400, 100, -1]
-    # from the third, 10 m beside the street
+    # from the third, 10 m off the street
     assert router.within(np.array([-1.0, 50, 1260])).round().tolist() == [250, 1250, 250, 250, 550, 1250]
 
 

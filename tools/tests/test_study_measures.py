@@ -1,6 +1,6 @@
 """Measures of a study beside access: the nearest, people by band, a greatest travel time; by hand on nine stops.
 
-The stops lie 444.8 m apart, 434 seconds of walking, and every second one has a school. A bus goes along: it leaves S0
+The stops lie 444.8 m apart, 434 seconds of walking, and every second stop has a school. A bus goes along: it leaves S0
 at 08:00, S2 at 08:06, and takes three minutes to each next stop. Of the departures from 08:00 to 08:04 three of five
 get from S2 to S3 in 420 seconds or less (08:02 to 08:04); from all other stops the median is the walk.
 """
@@ -73,7 +73,7 @@ def test_areas_are_written_for_each_named_place(place: Place) -> None:  # noqa: 
     }
     # within 10 minutes one walks from S4 to S3 and S5, which have a school each
     assert (result["base", 10]["reached"], result["base", 10]["schools"], result["base", 5]["reached"]) == (3, 2, 1)
-    # in five minutes one gets 300 s * 4 / 3 m/s / 1.3 as the crow flies
+    # five minutes are 300 s * 4 / 3 m/s / 1.3 as the crow flies
     assert result["cut", 5]["square_km"] == pytest.approx(3.1326 * (0.3 * 4 / 3 / 1.3) ** 2, rel=1e-3)
     assert "isochrones" in Path(place.path("nine/report.md")).read_text()
     maps = {f"isochrones_{name}.png" for name in ("S0", "S4", "S0_cut", "S4_cut")}
