@@ -13,6 +13,11 @@ from pyproj import Geod
 
 from helpers import METRE, Room, town_matrix
 from streets import write_osm
+from ttm_tools.gtfs.projection import Projection
+from ttm_tools.gtfs.stops import read_stops
+from ttm_tools.places.street_grid import StreetGrid
+from ttm_tools.places.walked_squares import SIDE
+from ttm_tools.streets.osm import read_streets
 
 shapely = pytest.importorskip("shapely")
 WGS84 = Geod(ellps="WGS84")
@@ -155,8 +160,6 @@ def test_drawn_areas_are_those_of_plain_formulas(room: Room, seed: int, with_sid
 # Along streets.
 
 ROAD = {"highway": "residential"}
-ASIDE = 50.0  # metres to both sides of a street
-Piece = tuple[Spot, Spot]
 
 
 @dataclass(frozen=True)
@@ -194,30 +197,28 @@ def draw_streets(room: Room, draw: random.Random) -> tuple[DrawnStreets, list[st
     return DrawnStreets(nodes, edges, starts), words
 
 
-def pieces_of(streets: DrawnStreets) -> list[Piece]:
-    """The pieces that are reached from the stops, by passes over all streets until nothing changes."""
-    lengths = {edge: math.dist(*(streets.nodes[end] for end in edge)) for edge in streets.edges}
-    left, both = dict[int, float](), [*streets.edges, *((b, a) for a, b in streets.edges)]
+def left_at_nodes(streets: DrawnStreets) -> dict[int, float]:
+    """The metres that are left at each node, by passes over all streets until nothing changes; below 0 for none."""
+    left = dict.fromkeys(streets.nodes, -math.inf)
     for node, metres in streets.starts.values():
-        left[node] = max(left.get(node, -1), metres)
+        left[node] = max(left[node], metres)
     for _ in streets.nodes:
-        for a, b in both:
-            left[b] = max(left.get(b, -1), left.get(a, -1) - lengths[min(a, b), max(a, b)])
-    found = list[Piece]()
-    for a, b in both:
-        part = min(1.0, left[a] / lengths[min(a, b), max(a, b)])
-        if part > 0:
-            (y, x), (v, u) = streets.nodes[a], streets.nodes[b]
-            found.append(((y, x), (y + part * (v - y), x + part * (u - x))))
-    return found
+        for a, b in [*streets.edges, *((b, a) for a, b in streets.edges)]:
+            left[b] = max(left[b], left[a] - math.dist(streets.nodes[a], streets.nodes[b]))
+    return left
 
 
-def metres_from(spot: Spot, piece: Piece) -> float:
-    """The distance of a place from a piece of a street."""
-    (y, x), (v, u) = piece
-    along = ((spot[0] - y) * (v - y) + (spot[1] - x) * (u - x)) / ((v - y) ** 2 + (u - x) ** 2)
-    part = min(1.0, max(0.0, along))
-    return math.dist(spot, (y + part * (v - y), x + part * (u - x)))
+def left_at(streets: DrawnStreets, left: Mapping[int, float], spot: Spot) -> float:
+    """The metres that are left at a place, which is reached from the nearest street."""
+    found = list[tuple[float, float]]()
+    for a, b in streets.edges:
+        (y, x), (v, u) = streets.nodes[a], streets.nodes[b]
+        length = math.dist((y, x), (v, u))
+        part = min(1.0, max(0.0, ((spot[0] - y) * (v - y) + (spot[1] - x) * (u - x)) / length**2))
+        away = math.dist(spot, (y + part * (v - y), x + part * (u - x)))
+        found.append((away, max(left[a] - part * length, left[b] - (1 - part) * length)))
+    away, there = min(found, key=lambda pair: (pair[0], -pair[1]))
+    return there - away
 
 
 @pytest.mark.parametrize("seed", range(5))
@@ -226,14 +227,26 @@ def test_drawn_streets_are_reached_as_by_plain_passes(room: Room, seed: int) -> 
         pytest.importorskip(package)
     draw = random.Random(seed)
     streets, words = draw_streets(room, draw)
-    shape = shapely.geometry.shape(isochrones(room, words)[-1]["geometry"])
-    pieces, counts = pieces_of(streets), [0, 0]
-    for _ in range(1500):
-        spot = draw.uniform(-100, 1200), draw.uniform(-150, 1250)
-        metres = min((metres_from(spot, piece) for piece in pieces), default=math.inf)
-        if abs(metres - ASIDE) > 4:  # the sphere of the streets and the ellipsoid of areas differ by 0.7 %
-            is_near = metres < ASIDE
-            counts[is_near] += 1
-            place = shapely.geometry.Point(1 + spot[1] * METRE, spot[0] * METRE)
-            assert shape.contains(place) == is_near, (spot, metres)
-    assert min(counts) > 100
+    area = isochrones(room, words)[-1]
+    shape, left = shapely.geometry.shape(area["geometry"]), left_at_nodes(streets)
+    grid = StreetGrid(read_streets(room.path("streets.osm")), projection_of(room), SIDE)
+    spots = [(north / METRE, (east - 1) / METRE) for east, north in zip(*(part.tolist() for part in grid.middles()))]
+    metres = [left_at(streets, left, spot) for spot in spots]
+    reached = [spot for spot, rest in zip(spots, metres) if rest > -4]  # or nearly
+    counts = [0, 0]
+    for spot, rest in zip(spots, metres):
+        place = shapely.geometry.Point(1 + spot[1] * METRE, spot[0] * METRE)
+        if rest > 4:  # the sphere of the streets and the ellipsoid of areas differ by 0.7 %
+            assert shape.contains(place), (spot, rest)
+            counts[1] += 1
+        elif all(max(abs(spot[0] - y), abs(spot[1] - x)) > 2.5 * SIDE for y, x in reached):
+            assert not shape.contains(place), (spot, rest)
+            counts[0] += 1
+    assert counts[0] > 5 and counts[1] > 20
+    assert area["properties"]["square_km"] >= 0.01 * counts[1] - 1e-6
+
+
+def projection_of(room: Room) -> Projection:
+    """The projection that the command chooses: around the stops."""
+    stops = read_stops(str(room.folder))
+    return Projection(stops.latitudes, stops.longitudes)

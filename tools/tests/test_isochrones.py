@@ -111,14 +111,14 @@ def test_squares_around_rounded_middles_keep_their_area(seed: int) -> None:
     from shapely.geometry import box
     from shapely.ops import transform, unary_union
     from ttm_tools.gtfs.projection import Projection
-    from ttm_tools.views.isochrones import AreaGround
+    from ttm_tools.views.isochrones import StopGeometry
 
     draw = np.random.default_rng(seed)
     middles = [(x, y) + draw.uniform(-0.00005, 0.00005, 2) for x in range(12) for y in range(12) if draw.random() < 0.6]
     squares = unary_union([box(x - 0.5, y - 0.5, x + 0.5, y + 0.5) for x, y in middles])
     projection = Projection(np.array([51.5]), np.array([-0.1]))
     none: Any = None
-    written = AreaGround(none, projection, none, none, [], none).in_degrees(squares)
+    written = StopGeometry(none, projection, none, none, [], none).in_degrees(squares)
     assert transform(projection.kilometres, written).area == pytest.approx(len(middles), rel=0.001)
 
 
@@ -145,16 +145,24 @@ def crossroads(town: Town) -> str:
     return write_osm(town.folder / "streets.osm", moved, [([1, 2, 3], road), ([4, 2, 5], road)])
 
 
-def test_one_walks_on_along_streets(town: Town) -> None:
+def test_one_walks_on_along_streets_to_squares(town: Town) -> None:
     for package in ("osmium", "scipy"):
         pytest.importorskip(package)
+    from shapely.geometry import Point, shape as as_shape
+
     town.matrix(town_matrix(True))
-    (area,) = isochrones(town, "--scenario", "base", "--bands", "4", "--streets", crossroads(town))
-    # 240 m along each of four arms, 100 m wide: two strips of 480 m that overlap in a square, and four rounded ends
-    ends = 4 * math.pi * 50**2 / 2
-    assert area["properties"]["square_km"] == pytest.approx((2 * 480 * 100 - 100**2 + ends) / 1e6, rel=0.01)
-    (area,) = isochrones(town, "--scenario", "base", "--bands", "4", "--walk", "120", "--streets", crossroads(town))
-    assert area["properties"]["square_km"] == pytest.approx((2 * 240 * 100 - 100**2 + ends) / 1e6, rel=0.01)
+    for walk, metres in ((600, 240), (120, 120)):
+        words = ["--bands", "4", "--walk", str(walk), "--streets", crossroads(town)]
+        (area,) = isochrones(town, "--scenario", "base", *words)
+        # each of four arms is walked for `metres`; a street at the edge of squares of 100 metres takes two rows
+        whole = area["properties"]["square_km"] / 0.01
+        assert whole == pytest.approx(round(whole), abs=1e-6)
+        assert 4 * (metres - 120) / 100 < whole < 2 * 4 * (metres + 150) / 100
+        shape = as_shape(area["geometry"])
+        for north, east in ((0, 1), (0, -1), (1, 0), (-1, 0)):
+            end, far = metres - 90, metres + 130
+            assert shape.contains(Point(9 + east * end * METRE, north * end * METRE))
+            assert not shape.contains(Point(9 + east * far * METRE, north * far * METRE))
 
 
 def test_from_the_place_where_most_is_left_one_comes_furthest() -> None:
@@ -163,20 +171,42 @@ def test_from_the_place_where_most_is_left_one_comes_furthest() -> None:
     from ttm_tools.streets.osm import Streets
     from ttm_tools.streets.router import Router
     from ttm_tools.streets.straight import points_of
-    from ttm_tools.streets.strips import pieces
 
     # a street of two pieces of 1,000 m along the equator, a way for both directions, with places at 0, 300 and 1,000 m
     ways = (np.array([0, 1]), np.array([1, 2]), np.array([True, True]), np.array([True, True]))
     streets = Streets("", np.zeros(3), np.array([0.0, 1000, 2000]) * METRE, *ways)
     places = np.array([0.0, 300, 1000]) * METRE
     router = Router(streets, points_of(np.array([0.0, 0, 10 * METRE]), places), Walking(3.6, 1, 600), 100)
-    found = pieces(router, np.array([400.0, 50, -1])) / METRE
-    # 400 m from the first; the second, of which 50 m were left, adds nothing, since the first leaves 100 m there
-    assert (found[:, [0, 2]].min(), round(found[:, [0, 2]].max(), 3)) == (0, 400)
-    found = pieces(router, np.array([-1.0, 50, 260])) / METRE
-    # from the second 50 m both ways; from the third, 10 m beside the street, 250 m both ways
-    lengths = sorted({(round(min(item)), round(max(item))) for item in found[:, [0, 2]].tolist()})
-    assert lengths == [(250, 300), (300, 350), (750, 1000), (1000, 1250)]
+    # the nodes are at 0, 1,000 and 2,000 m, then the places; 400 m from the first leave 100 m at the second, which is
+    # more than 50
+    assert router.within(np.array([400.0, 50, -1])).round().tolist() == [400, -1, -1, 400, 100, -1]
+    # from the third, 10 m off the street
+    assert router.within(np.array([-1.0, 50, 1260])).round().tolist() == [250, 1250, 250, 250, 550, 1250]
+
+
+@pytest.mark.parametrize("seed", range(3))
+def test_an_area_is_the_union_of_its_squares_without_narrow_gaps(seed: int) -> None:
+    from shapely.geometry import box
+    from shapely.ops import unary_union
+    from ttm_tools.gtfs.projection import Projection
+    from ttm_tools.places.street_grid import StreetGrid
+    from ttm_tools.streets.osm import Streets
+
+    draw = np.random.default_rng(seed)
+    streets = Streets(
+        "",
+        draw.uniform(0, 0.02, 40),
+        draw.uniform(0, 0.02, 40),
+        *np.arange(40).reshape(2, 20),
+        *[np.ones(20, bool)] * 2,
+    )
+    grid = StreetGrid(streets, Projection(streets.latitudes, streets.longitudes), 50)
+    reached = draw.random(len(grid.cells)) < 0.5
+    squares = [box(x, y, x + 50, y + 50) for x, y in (50.0 * grid.cells[reached]).tolist()]
+    expected = unary_union(squares).buffer(50, join_style=2).buffer(-50, join_style=2)
+    area = grid.area(reached)
+    assert len(squares) > 50 and area.symmetric_difference(expected).area < 1e-6 * expected.area
+    assert grid.area(np.zeros(len(grid.cells), np.bool_)).is_empty
 
 
 def test_a_map_shows_the_areas_with_their_square_kilometres(town: Town, monkeypatch: pytest.MonkeyPatch) -> None:
@@ -205,66 +235,6 @@ def test_bands_of_decimals_are_whole_seconds_as_cutoffs_are(town: Town) -> None:
     town.matrix(town_matrix(True, {"base": {"A": [0, 123, "", ""]}}))
     (area,) = isochrones(town, "--bands", "2.05")  # 2.05 * 60 is a little below 123
     assert area["properties"]["reached"] == 2
-
-
-def test_many_streets_take_seconds(monkeypatch: pytest.MonkeyPatch) -> None:
-    from ttm_tools.streets.strips import strip
-
-    # 21 streets of 2 km from west to east and as many from south to north, each 100 m, in pieces both ways
-    ends = [(x, y, x + 0.1, y) for x in np.arange(20) / 10 for y in np.arange(21) / 10]
-    pieces = np.array([*ends, *[(y, x, v, u) for x, y, u, v in ends]])
-    pieces = np.concatenate([pieces, pieces[:, [2, 3, 0, 1]]])
-    area = strip(pieces, lambda east, north: (east, north), 20).area
-    # strips of 40 m cover all but 20 x 20 squares of 60 m; around them the edge with round corners
-    wanted = 2.04**2 - 400 * 0.06**2 - (4 - math.pi) * 0.02**2
-    assert area == pytest.approx(wanted, rel=1e-3)
-
-
-def test_each_piece_of_a_street_is_united_once_and_with_those_near_it(monkeypatch: pytest.MonkeyPatch) -> None:
-    """The time and memory of many streets and bands: a union of all pieces at once took 10 minutes and 6.7 GB."""
-    import shapely.ops
-    from ttm_tools.streets.strips import GrowingStrip
-
-    # streets of 100 m in a square of 4 km, within four distances of its middle, in pieces both ways
-    ends = [(x, y, x + 0.1, y) for x in np.arange(40) / 10 for y in np.arange(41) / 10]
-    pieces = np.array([*ends, *[(y, x, v, u) for x, y, u, v in ends]])
-    distances = np.hypot(*((pieces[:, :2] + pieces[:, 2:]) / 2 - 2).T)
-    counts, unite = list[int](), shapely.ops.unary_union
-
-    def counted(shapes: Any) -> Any:
-        shapes = list(shapes)
-        counts.append(len(shapes))
-        return unite(shapes)
-
-    monkeypatch.setattr(shapely.ops, "unary_union", counted)
-    strips, bands = GrowingStrip(lambda east, north: (east, north), 50), (0.5, 1.0, 2.0, 4.0)
-    for band in bands:
-        within = pieces[distances <= band]
-        strips.grown(np.concatenate([within, within[:, [2, 3, 0, 1]]]))
-    tiles = 9 * 9  # of 500 m
-    assert len(pieces) <= sum(counts) <= len(pieces) + len(bands) * (tiles + 1)
-    assert max(counts) <= tiles + 1  # in a tile are 72 pieces at most
-
-
-@pytest.mark.parametrize("seed", range(3))
-def test_areas_of_streets_that_grow_are_those_of_all_streets_at_once(seed: int) -> None:
-    from shapely.geometry import LineString
-    from shapely.ops import unary_union
-    from ttm_tools.streets.strips import GrowingStrip
-
-    draw = np.random.default_rng(seed)
-    begin = draw.uniform(0, 2, (120, 2))  # kilometres
-    pieces = np.concatenate([begin, begin + draw.normal(0, 0.15, (120, 2))], axis=1)
-    strips = GrowingStrip(lambda east, north: (east, north), 50)
-    for count in (0, 20, 20, 70, 120):
-        # the pieces that an earlier limit had, some of them longer by now, and new ones
-        longer = pieces[:count].copy()
-        longer[count // 2 :, 2:] += 0.3 * (longer[count // 2 :, 2:] - longer[count // 2 :, :2]) * (count == 120)
-        area = strips.grown(longer)
-        lines = [LineString([line[:2], line[2:]]) for line in longer.round(6).tolist()]
-        whole = unary_union([line.buffer(0.05, 8) for line in lines])
-        assert area.area == pytest.approx(whole.area, rel=1e-6)
-        assert area.symmetric_difference(whole).area < 1e-6
 
 
 def test_polygons_in_collections_are_kept() -> None:

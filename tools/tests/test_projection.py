@@ -189,13 +189,13 @@ def test_squares_along_streets_have_the_areas_of_the_ellipsoid(latitude: float, 
         pytest.importorskip(package)
     import geopandas
     from pyproj import Geod
-    from ttm_tools.places.street_grid import StreetGrid
+    from ttm_tools.places.street_grid import grid_around
     from ttm_tools.streets.osm import Streets
 
     every = np.ones(1, np.bool_)
     ends = np.array([latitude, latitude]), np.array([longitude, longitude + 0.01])
     streets = Streets("", *ends, np.array([0]), np.array([1]), every, every)
-    grid = StreetGrid(streets, (np.array([latitude]), np.array([longitude])), 100)
+    grid = grid_around(streets, np.array([latitude]), np.array([longitude]), 100)
     count = len(grid.cells)
     area = grid.within(np.zeros((1, count)), 0)
     assert count > 5 and area.area == pytest.approx(count * 100**2)

@@ -21,9 +21,9 @@ from ..core.threads import processors
 from ..core.walking import Walking
 from ..engine.network import EngineNetwork, NetworkFiles
 from ..matrices import open_matrix
+from ..places.doors import DoorToDoorFolder, WalkNetwork, folder_of
 from .engines import NetworkState
 from .executors import in_parts
-from .folders import PlacesFolder, WalkNetwork, folder_of
 from .frames import GivenPlaces
 from .tracking import Tracker
 
@@ -104,7 +104,7 @@ def block_size(request: Request) -> int:
     return max(LEAST_ORIGINS, CELLS_AT_ONCE // max(1, columns))
 
 
-def folder_for(state: NetworkState, request: Request) -> PlacesFolder:
+def folder_for(state: NetworkState, request: Request) -> DoorToDoorFolder:
     """Return the folder of the request's places, written now or earlier."""
     question, streets = request.question, state.streets
     walk, travel = walk_seconds(question), travel_seconds(question)
@@ -139,7 +139,7 @@ def answer_span(state: NetworkState, request: Request, span: range) -> tuple[Arr
         return arrays, answered.warnings
 
 
-def with_direct(seconds: npt.NDArray[np.float32], folder: PlacesFolder, span: range) -> npt.NDArray[np.float32]:
+def with_direct(seconds: npt.NDArray[np.float32], folder: DoorToDoorFolder, span: range) -> npt.NDArray[np.float32]:
     """Take the walks that the engine doesn't have where they are shorter."""
     if folder.direct is None:
         return seconds
@@ -156,7 +156,7 @@ def limited(seconds: npt.NDArray[np.float32], question: Question) -> npt.NDArray
     return found
 
 
-def engine_for(state: NetworkState, request: Request, folder: PlacesFolder) -> tuple[EngineNetwork, dict[str, str]]:
+def engine_for(state: NetworkState, request: Request, folder: DoorToDoorFolder) -> tuple[EngineNetwork, dict[str, str]]:
     """Return the engine's network for a request, and the names by which it knows the scenarios."""
     question = request.question
     days, walk = (question.days_before, question.days_after), folder.walk if walk_seconds(question) else 0
@@ -173,12 +173,12 @@ def engine_for(state: NetworkState, request: Request, folder: PlacesFolder) -> t
     return state.engines.of(key, start), names
 
 
-def scenario_files(folder: PlacesFolder, question: Question) -> list[Path]:
+def scenario_files(folder: DoorToDoorFolder, question: Question) -> list[Path]:
     """Return the scenario files that the engine is given."""
     return [on_foot(folder)] if question.max_rides == 0 else folder.scenario_files
 
 
-def on_foot(folder: PlacesFolder) -> Path:
+def on_foot(folder: DoorToDoorFolder) -> Path:
     """Return a scenario file without any route."""
     path = folder.folder / f"{ON_FOOT}.csv"
     if not path.exists():
@@ -190,11 +190,11 @@ def on_foot(folder: PlacesFolder) -> Path:
     return path
 
 
-def tuple_of_unreached(request: Request, folder: PlacesFolder) -> tuple[list[int], list[int]]:
+def tuple_of_unreached(request: Request, folder: DoorToDoorFolder) -> tuple[list[int], list[int]]:
     return folder.unreached("origins.csv"), folder.unreached("destinations.csv")
 
 
-def notes_of_warnings(warnings: Sequence[str] | dict[str, None], folder: PlacesFolder) -> list[Note]:
+def notes_of_warnings(warnings: Sequence[str] | dict[str, None], folder: DoorToDoorFolder) -> list[Note]:
     """Return what the engine warned of as notes; what it says of its options is said of a question's settings.
 
     The feed of a plan has the trips of all scenarios. The engine compares each scenario with all of these, so that one

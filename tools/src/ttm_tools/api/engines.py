@@ -8,8 +8,8 @@ from pathlib import Path
 
 from ..core.errors import ArgumentError
 from ..engine.network import EngineNetwork
+from ..places.doors import PreparedFeed
 from ..streets.osm import Streets
-from .folders import PreparedFeed
 
 MOST_ENGINES = 4  # that are kept: of different places, dates or longest walks
 

@@ -13,7 +13,7 @@ from ..core.errors import ArgumentError
 from ..core.question import Question, not_allowed, travel_seconds
 from ..core.settings import Progress
 from ..core.times import as_duration
-from ..places.street_grid import StreetGrid
+from ..places.street_grid import StreetGrid, grid_around
 from .asking import GRID, Request, answer
 from .engines import NetworkState
 from .frames import DEGREES, GivenPlaces
@@ -38,8 +38,7 @@ def isochrone_frame(
     if state.streets is None:
         raise ArgumentError("isochrones need streets; give open_network a file of OpenStreetMap")
     frame = request.origins.frame
-    origins = request.origins.latitudes, request.origins.longitudes
-    grid = StreetGrid(state.streets[0], origins, cell_m)
+    grid = grid_around(state.streets[0], request.origins.latitudes, request.origins.longitudes, cell_m)
     asked = replace(request, destinations=grid_places(grid), same=False, question=within(request.question, limits[0]))
     reply = answer(state, asked, progress)
     rows = list[dict[str, Any]]()

@@ -21,6 +21,7 @@ from ..gtfs.modes import mode_of, route_types
 from ..gtfs.route_names import routes_called
 from ..journeys.itineraries import DepartureWindow, ItinerarySearch, Journey, LegDrawing, PlacesToSearch
 from ..matrices import open_matrix
+from ..places.doors import NEAR, DoorToDoorFolder
 from .asking import (
     Request,
     engine_for,
@@ -32,7 +33,6 @@ from .asking import (
     walking_of,
 )
 from .engines import NetworkState
-from .folders import NEAR, PlacesFolder
 from .frames import DEGREES
 from .service import route_of
 from .tracking import Tracker
@@ -113,7 +113,7 @@ class ItineraryTask:
 
     state: NetworkState
     request: Request
-    folder: PlacesFolder
+    folder: DoorToDoorFolder
     names: dict[str, str]  # of scenarios as the engine has them
     times: EngineTimes
 

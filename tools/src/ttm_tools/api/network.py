@@ -17,9 +17,9 @@ from ..core.limits import MOST_WORKERS
 from ..core.notes import Note, warn_of
 from ..core.question import Question, not_allowed
 from ..core.settings import Progress
+from ..places.doors import PreparedFeed
 from ..plans.make import files_in_order, make as make_plan
 from .asking import Request, answer
-from .folders import PreparedFeed
 from .frames import Places, read_places
 from .isochrones import isochrone_frame
 from .itineraries import itinerary_frame

@@ -16,11 +16,11 @@ from ..core.question import Date, checked_date, not_allowed
 from ..core.scenarios import TODAY
 from ..core.text import quantity
 from ..core.times import day_of
+from ..places.doors import NEAR, PreparedFeed
 from ..streets.graph import on_streets
 from ..streets.osm import Streets
 from .engines import NetworkState
 from .feed_frames import extent_of, read_repairs, routes_of, stops_of, trips_by_date_of
-from .folders import NEAR, PreparedFeed
 from .frames import DEGREES
 from .service import GROUPINGS, day_of as service_day_of, service_frame
 

@@ -12,10 +12,10 @@ from ..core.folders import scratch
 from ..core.notes import Note, warn_of
 from ..core.settings import Progress
 from ..core.tables import rows
+from ..places.doors import PreparedFeed
 from ..prepare.clip import Clip
 from ..prepare.make import PREPARED, PrepareOptions, make as prepare
 from ..streets.osm import Streets, read_streets
-from .folders import PreparedFeed
 from .network import LINES, Network, PathLikeStr
 
 FEED = "feed"

@@ -17,9 +17,9 @@ Writes the areas that can be reached from an origin within given numbers of minu
 and percentile, as GeoJSON (.geojson, .json) or GeoPackage (.gpkg, needs geopandas). A point that has a shape, the
 square of its width or the polygon of its file, counts as a whole if its travel time is within the band. From any other
 point or stop you walk on for the remaining time, up to --walk: as the crow flies, or with --streets along the ways of a
-file of OpenStreetMap, with 50 metres on both sides. Each shape has its area in square kilometres, the number of stops
-or points reached, and with --people the sums of a file's columns over them. Needs shapely; with --streets scipy and
-osmium."""
+file of OpenStreetMap, to the squares of 100 metres along them whose middles you reach. Each shape has its area in
+square kilometres, the number of stops or points reached, and with --people the sums of a file's columns over them.
+Needs shapely; with --streets scipy and osmium."""
 
 
 def describe(parser: Parser) -> None:

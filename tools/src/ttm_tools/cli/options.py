@@ -23,7 +23,7 @@ if TYPE_CHECKING:
     from ..gtfs.stops import Stops
     from ..matrices import Matrix
     from ..core.walking import Walking
-    from ..views.isochrones import AreaGround
+    from ..views.isochrones import StopGeometry
 
 
 decimals = functools.partial(Range, whole=False)
@@ -269,7 +269,7 @@ def column_of(
     return counts.names[0], counts.numbers[:, 0]
 
 
-def ground_of(args: argparse.Namespace, stops: "Stops") -> "tuple[AreaGround, Walking]":
+def ground_of(args: argparse.Namespace, stops: "Stops") -> "tuple[StopGeometry, Walking]":
     """Where stops or points lie, and how one walks on from them."""
     from ..places.selection import points_in
     from ..core.walking import Walking

@@ -13,7 +13,6 @@ import numpy as np
 import pandas
 
 from ..api.asking import walking_of
-from ..api.folders import NEAR, WalkNetwork, folder_of
 from ..api.frames import read_places
 from ..api.opportunities import numbers_in
 from ..api.pages import ServedPage
@@ -25,6 +24,7 @@ from ..core.settings import settings
 from ..core.shipped import LEAFLET
 from ..core.tables import write_rows
 from ..gtfs.stops import read_stops
+from ..places.doors import NEAR, WalkNetwork, folder_of
 from ..places.folder import FEED, FOOTPATHS, PointsOptions, folder_of as folder_of_points
 from ..web.guard import Guard
 from ..web.options import SHARES, ExploreOptions

@@ -1,31 +1,126 @@
-"""The folder for a run from door to door: a feed whose stops include the places, and the walks to them."""
+"""Folders from which the engine answers from door to door: a feed whose stops include the places, and the walks."""
 
-from dataclasses import dataclass
+from collections.abc import Sequence
+from dataclasses import dataclass, replace
 from functools import cached_property, partial
 from pathlib import Path
-from typing import Sequence
+from typing import Protocol
 
 import numpy as np
 import numpy.typing as npt
 
+from ..core.cache import cached_entry, key_of
 from ..core.files import remove
+from ..core.limits import MOST_FOOT_SECONDS
+from ..core.stop_lists import write_stops
 from ..core.tables import rows, write_rows
+from ..core.walking import Walking
+from ..gtfs.stops import Stops, read_stops
 from ..streets.counting import TooManyWalks
+from ..streets.osm import Streets
+from ..streets.router import Endpoints
+from ..streets.straight import straight_walks
 from ..streets.street_walks import street_walks
-from .folder import FOOTPATHS, PointsOptions, make, refuse_places
+from ..streets.walks import Walks
+from .folder import FEED, FOOTPATHS, PointsOptions, make, refuse_places
 from .long_walks import ALIGHTS, LongWalks, reached_directly
+from .read import Points
 
 Seconds = npt.NDArray[np.float64]  # NaN where a place isn't reached
 BEGINS, ENDS, UNREACHED_FILE = "origins.csv", "destinations.csv", "unreached.csv"
+NEAR = 1600.0  # metres to a street that are walked as they are: R5's radius of links
+
+
+class GivenSide(Protocol):
+    """Origins or destinations."""
+
+    @property
+    def stops(self) -> tuple[str, ...]:
+        """Their identifiers in the feed, if they are stops of it."""
+
+    @property
+    def are_stops(self) -> bool:
+        """Whether they are stops of the feed."""
+
+    def points(self) -> Points:
+        """The places as points of a folder."""
+
+    def content(self) -> bytes:
+        """What walks to these places depend on."""
 
 
 @dataclass(frozen=True)
-class Doors:
-    """A folder with a feed whose stops include the places, and the walks to them."""
+class PreparedFeed:
+    """A feed that the engine reads, with the scenario files that go with it.
+
+    Attributes
+    ----------
+    key
+        The checksum of all that it depends on.
+    folder
+        The folder of the feed.
+    scenarios
+        The names of its scenario files, in order; without scenarios, none.
+    name
+        The names of the files or folders that it was prepared from.
+    """
+
+    key: str
+    folder: Path
+    scenarios: tuple[str, ...] = ()
+    name: str = ""
+
+    @property
+    def scenario_files(self) -> list[Path]:
+        return [self.folder / "scenarios" / name for name in self.scenarios]
+
+
+@dataclass(frozen=True)
+class WalkNetwork:
+    """On what, how far and how fast travellers walk.
+
+    Attributes
+    ----------
+    streets
+        The streets; without them, walks are straight lines with a detour.
+    key
+        The checksum of the file of streets.
+    walking
+        The longest walk, speed and detour.
+    merges
+        Whether no journey takes longer than the longest walk, so that walks alone are found apart from the engine.
+    """
+
+    streets: Streets | None
+    key: str
+    walking: Walking
+    merges: bool = False
+
+    def walks(self, stops: Stops, first: int | None, only: Endpoints | None = None) -> Walks:
+        """Return the walks between all stops, or between the `first` ones and all."""
+        if self.streets is None:
+            return straight_walks(stops, self.walking, first)
+        return street_walks(stops, self.walking, self.streets, NEAR, first, only)
+
+
+@dataclass(frozen=True)
+class DoorToDoorFolder:
+    """A folder of places that is complete.
+
+    Attributes
+    ----------
+    key
+        The checksum of all that it depends on.
+    walk
+        The longest walk in seconds.
+    feed
+        The feed that has the places as stops.
+    """
 
     folder: Path
     key: str
-    walk: int  # the longest walk, seconds
+    walk: int
+    feed: PreparedFeed
 
     @cached_property
     def ends(self) -> tuple[Sequence[str], Sequence[str]]:
@@ -47,6 +142,59 @@ class Doors:
         """Of each stop where you alight the one where you board, where these are two."""
         path = self.folder / ALIGHTS
         return {stop: other for _, (stop, other) in rows(path, ["stop_id", "of"])} if path.exists() else {}
+
+    @property
+    def footpaths(self) -> Path:
+        return self.folder / FOOTPATHS
+
+    @property
+    def scenario_files(self) -> list[Path]:
+        return self.feed.scenario_files
+
+
+def folder_of(feed: PreparedFeed, network: WalkNetwork, sides: Sequence[GivenSide]) -> DoorToDoorFolder:
+    """Return the folder for origins and destinations, from the cache if it was written before.
+
+    Parameters
+    ----------
+    sides
+        Origins and destinations; one element if they are the same places.
+
+    Raises
+    ------
+    LimitError
+        There are more walks or places than the engine takes.
+    """
+    content = [side.content() + str(side.stops).encode() for side in sides]
+    key = key_of("places", feed.key, feed.scenarios, network.key, network.walking, network.merges, NEAR, *content)
+    writer = partial(write_folder, feed=feed, network=network, sides=sides)
+    folder = cached_entry("places", key, lambda entry: writer(entry / "places")) / "places"
+    own = feed if all(side.are_stops for side in sides) else replace(feed, folder=folder / FEED)
+    found = DoorToDoorFolder(folder, key, int(network.walking.max_seconds), own)
+    return found if found.direct is None else replace(found, walk=MOST_FOOT_SECONDS)
+
+
+def write_folder(folder: Path, feed: PreparedFeed, network: WalkNetwork, sides: Sequence[GivenSide]) -> None:
+    """Write the folder of some places."""
+    files = [side for side in sides if not side.are_stops]
+    if not files:
+        folder.mkdir()
+        with open(folder / FOOTPATHS, "wb") as out:
+            network.walks(read_stops(str(feed.folder)), None).write(out)
+    elif network.streets is not None and len(files) == len(sides) and not feed.scenarios:
+        points = [side.points() for side in files]
+        walks = LongWalks(str(feed.folder), points, network.streets, network.walking, NEAR)
+        write_doors(folder, walks, network.merges)
+    else:
+        begins, ends = [side is sides[0] for side in files], [side is sides[-1] for side in files]
+        points, limit = [side.points() for side in files], int(network.walking.max_seconds)
+        options = PointsOptions(str(feed.folder), str(folder), points, begins, ends, limit, False, NEAR)
+        make(options, network.walks)
+    for name, side in zip((BEGINS, ENDS), (sides[0], sides[-1])):
+        if side.are_stops:
+            with open(folder / name, "wb") as out:
+                write_stops(out, side.stops)
+    write_unreached(folder, (sides[0].are_stops, sides[-1].are_stops))
 
 
 def write_doors(folder: Path, walks: LongWalks, merges: bool) -> None:

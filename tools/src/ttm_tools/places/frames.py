@@ -28,6 +28,16 @@ class FramePlaces:
         """Which of them lie anywhere."""
         return np.flatnonzero(~np.isnan(self.longitudes))
 
+    @property
+    def stops(self) -> tuple[str, ...]:
+        """The stops of a feed that they are: none."""
+        return ()
+
+    @property
+    def are_stops(self) -> bool:
+        """Whether they are stops of a feed."""
+        return False
+
     def points(self) -> Points:
         """Those that lie anywhere as points, called by the argument and their numbers."""
         chosen = self.placed

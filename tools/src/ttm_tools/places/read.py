@@ -64,8 +64,8 @@ class Points:
         return Points(self.path, identifiers, names, *places, self.columns, self.numbers[kept], labels, heights, areas)
 
 
-class Taken:
-    """Points as they are read and looked at, of which only the numbers are kept as numbers are."""
+class PointsBuilder:
+    """Checks points as they are read, and collects them column by column."""
 
     def __init__(self, path: str, columns: list[str]) -> None:
         self.path, self.columns, self.seen = path, columns, set[str]()
@@ -95,7 +95,7 @@ class Taken:
             raise InputError(self.path, "is invalid", record=record, column=column, value=text, allowed=said)
         return number
 
-    def take(self, identifier: str, name: str, place: Iterable[float], numbers: Iterable[float]) -> None:
+    def add(self, identifier: str, name: str, place: Iterable[float], numbers: Iterable[float]) -> None:
         """Takes a point with its latitude, longitude, width and height."""
         if len(self.identifiers) >= MOST_POINTS:
             raise InputError(self.path, f"more than {MOST_POINTS:,} points: use parts of the region")
@@ -138,16 +138,16 @@ def read_table(path: str, called: Columns) -> Points:
     refuse_alike(path, header, [*needed, *others])
     columns = number_columns(path, others)
     labels = {name: list[str]() for name in others if name not in columns}
-    taken = Taken(path, columns)
+    builder = PointsBuilder(path, columns)
     for record, (own, latitude, longitude, name, *fields) in rows(path, needed, (*WANTED, *others), whole=True):
-        identifier, numbers_stated = taken.identifier(own, record), dict(zip(others, fields[2:]))
-        sides = [taken.side(text, record, column) for text, column in zip(fields, WANTED[1:])]
-        place = (*taken.place(latitude, longitude, record), *sides)
-        numbers = (taken.number(numbers_stated[column], record, column) for column in columns)
-        taken.take(identifier, display_text(name.strip() or own), place, numbers)
+        identifier, numbers_stated = builder.identifier(own, record), dict(zip(others, fields[2:]))
+        sides = [builder.side(text, record, column) for text, column in zip(fields, WANTED[1:])]
+        place = (*builder.place(latitude, longitude, record), *sides)
+        numbers = (builder.number(numbers_stated[column], record, column) for column in columns)
+        builder.add(identifier, display_text(name.strip() or own), place, numbers)
         for column, texts in labels.items():
             texts.append(display_text(numbers_stated[column]))
-    return replace(taken.points(), labels=labels)
+    return replace(builder.points(), labels=labels)
 
 
 def read_areas(path: str, called: Columns) -> Points:
@@ -171,16 +171,16 @@ def read_areas(path: str, called: Columns) -> Points:
     counted, notes = numeric_columns(path, frame, others)
     kept = [name for name in others if frame[name].dtype.kind == "b" or name in counted]
     texts = [name for name in others if name not in kept]
-    taken = Taken(path, kept)
+    builder = PointsBuilder(path, kept)
     names = frame["name"] if "name" in frame.columns else frame["id"]
     sides = [frame[column] if column in frame.columns else [None] * len(frame) for column in WANTED[1:]]
     for place, (own, point, name, *wide) in enumerate(zip(frame["id"], inside, names, *sides)):
-        identifier = taken.identifier(text_of(own), place + 1)
-        where = taken.place(repr(point.y), repr(point.x), place + 1)
-        numbers = [taken.number(text_of(frame[column].iat[place]), place + 1, column) for column in kept]
-        given = [taken.side(text_of(side), place + 1, column) for side, column in zip(wide, WANTED[1:])]
-        taken.take(identifier, text_of(name) or identifier, (*where, *given), numbers)
+        identifier = builder.identifier(text_of(own), place + 1)
+        where = builder.place(repr(point.y), repr(point.x), place + 1)
+        numbers = [builder.number(text_of(frame[column].iat[place]), place + 1, column) for column in kept]
+        given = [builder.side(text_of(side), place + 1, column) for side, column in zip(wide, WANTED[1:])]
+        builder.add(identifier, text_of(name) or identifier, (*where, *given), numbers)
     labels = {str(name): [text_of(value) for value in frame[name]] for name in texts}
-    shapes = zip(taken.identifiers, frame.geometry.to_crs(4326))
+    shapes = zip(builder.identifiers, frame.geometry.to_crs(4326))
     areas = {name: area_of(shape) for name, shape in shapes if shape.geom_type in KINDS}
-    return replace(taken.points(), labels=labels, areas=areas, notes=tuple(notes))
+    return replace(builder.points(), labels=labels, areas=areas, notes=tuple(notes))

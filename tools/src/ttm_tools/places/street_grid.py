@@ -20,27 +20,27 @@ class StreetGrid:
     ----------
     streets
         The streets.
-    origins
-        Latitudes and longitudes of the places around which the projection is centred; NaN for a place without them.
+    projection
+        The projection; its centre should be near the origins.
     side
         Metres of the side of a square.
     """
 
-    def __init__(self, streets: Streets, origins: tuple[Floats, Floats], side: float) -> None:
-        is_placed = not np.isnan(origins[0]).all()
-        self.crs = Projection(*(origins if is_placed else (streets.latitudes, streets.longitudes))).crs
-        self.side = side
+    def __init__(self, streets: Streets, projection: Projection, side: float) -> None:
+        self.crs, self.side = projection.crs, side
         xy = np.stack(moved(DEGREES, self.crs, streets.longitudes, streets.latitudes), axis=1)
         self.cells = cells_along(xy[streets.begin], xy[streets.end], side)
 
+    def middles(self) -> tuple[Floats, Floats]:
+        """Return the longitudes and latitudes of the middles."""
+        return moved(self.crs, DEGREES, *((self.cells + 0.5) * self.side).T)
+
     def places(self) -> FramePlaces:
         """Return the middles as destinations."""
-        return FramePlaces(
-            GRID, list(range(len(self.cells))), *moved(self.crs, DEGREES, *((self.cells + 0.5) * self.side).T)
-        )
+        return FramePlaces(GRID, list(range(len(self.cells))), *self.middles())
 
     def within(self, seconds: npt.NDArray[np.floating[Any]], limit: float) -> Any:
-        """Return the area reached in time: the squares whose middles are, with gaps among them up to two squares wide.
+        """Return the area of the squares whose middles are reached within some seconds, see `area`.
 
         Parameters
         ----------
@@ -49,14 +49,28 @@ class StreetGrid:
         limit
             Seconds within which a middle is reached from one of these origins.
         """
+        with np.errstate(invalid="ignore"):
+            return self.area((seconds <= limit).any(axis=0))
+
+    def area(self, reached: npt.NDArray[np.bool_]) -> Any:
+        """Return the area of some squares, in metres, with gaps among them up to two squares wide."""
         from shapely.geometry import box
         from shapely.ops import unary_union
 
-        with np.errstate(invalid="ignore"):
-            reached = (seconds <= limit).any(axis=0)
-        low = self.cells[reached] * self.side
-        squares = [box(x, y, x + self.side, y + self.side) for x, y in low.tolist()]
-        return unary_union(squares).buffer(self.side, join_style=2).buffer(-self.side, join_style=2)
+        # Squares on top of one another are one strip: the cells are in order of their columns, then their rows.
+        cells = self.cells[reached]
+        is_first = np.ones(len(cells) + 1, np.bool_)
+        is_first[1:-1] = (np.diff(cells, axis=0) != [0, 1]).any(axis=1)
+        low, high = cells[is_first[:-1]] * self.side, (cells[is_first[1:]] + 1) * self.side
+        strips = [box(*ends) for ends in np.concatenate([low, high], axis=1).tolist()]
+        return unary_union(strips).buffer(self.side, join_style=2).buffer(-self.side, join_style=2)
+
+
+def grid_around(streets: Streets, latitudes: Floats, longitudes: Floats, side: float) -> StreetGrid:
+    """Return the squares of a projection around some places, whose coordinates are NaN where they have none."""
+    if np.isnan(latitudes).all():
+        latitudes, longitudes = streets.latitudes, streets.longitudes
+    return StreetGrid(streets, Projection(latitudes, longitudes), side)
 
 
 def cells_along(begin: Floats, end: Floats, side: float) -> GridCells:

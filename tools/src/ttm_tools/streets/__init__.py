@@ -1,6 +1,6 @@
 """Walks between stops and places: straight lines, and shortest paths along the streets of an OpenStreetMap file.
 
 `walks` offers both. `osm` reads the streets, `graph` is their graph, and `router` alone searches it. `street_walks`
-asks the router for the walks between stops, and `strips` for the area that is reached. `straight` measures straight
-lines, and `needed` picks the walks that journeys may need.
+asks the router for the walks between stops. `straight` measures straight lines, and `needed` picks the walks that
+journeys may need.
 """

@@ -15,7 +15,7 @@ from . import drawing
 from .cells import path_along
 from .classes import from_near
 from .ground import ground_layer
-from .isochrones import AreaGround, polygons_in
+from .isochrones import StopGeometry, polygons_in
 from .map_content import Picture
 from .map_lines import MapLines, draw_lines, over_squares
 from .texts import without_mathtext
@@ -39,7 +39,7 @@ def path_of(shape: Any) -> Path | None:
 @without_mathtext
 def draw_bands(
     picture: Picture,
-    ground: AreaGround,
+    ground: StopGeometry,
     lines: Sequence[MapLines],
     note: str,
     width: int,

@@ -22,15 +22,13 @@ from ..gtfs.stops import Stops
 from ..matrices import Matrix, Share
 from ..measures.opportunities import Counts
 from ..places.features import AREAS, POLYGONS, read_frame, text_of, valid
+from ..places.walked_squares import WalkedSquares
 from ..streets.osm import read_streets
-from ..streets.router import Router
-from ..streets.strips import GrowingStrip, pieces
 from ..streets.walks import points_of
 from .gis import whole, write_features, write_layer
 
 LAYER = "isochrones"
 QUARTER = 12  # corners of a quarter of a circle
-ASIDE = 50.0  # metres to both sides of a street that one reaches
 DECIMALS = 6  # of degrees, some tenths of a metre
 SLIVER = 0.0005  # kilometres: half the width of a gap that counts as none, above what rounding to DECIMALS moves
 MITRE = 2  # shapely's number for the style of corners that keeps them square
@@ -50,7 +48,7 @@ class Isochrone:
 
 
 @dataclass(frozen=True)
-class AreaGround:
+class StopGeometry:
     """Where the stops or points of a matrix lie, and which of them have a shape of their own; all in kilometres."""
 
     stops: Stops
@@ -59,12 +57,13 @@ class AreaGround:
     north: Floats
     shapes: list[Any]  # polygons; None where there is none
     placed: Any  # whether it has a place
-    router: Router | None = None  # along streets, from those that have a place and no shape, in their order
+    squares: WalkedSquares | None = None  # along streets, from those that have a place and no shape, in their order
 
-    def around(self, identifier: str) -> "AreaGround":
+    def around(self, identifier: str) -> "StopGeometry":
         """The same ground, projected around a stop, near which lengths are true; unchanged if it has no place."""
         place = self.stops.places.get(identifier)
-        if place is None or not self.placed[place] or any(shape is not None for shape in self.shapes):
+        has_shapes = self.squares is not None or any(shape is not None for shape in self.shapes)
+        if place is None or not self.placed[place] or has_shapes:
             return self  # shapes have their areas in any equal-area projection, and squares that touch stay so
         chosen = slice(place, place + 1)
         projection = Projection(self.stops.latitudes[chosen], self.stops.longitudes[chosen])
@@ -75,20 +74,19 @@ class AreaGround:
         """What is reached within each of some limits in seconds, which ascend."""
         from shapely.ops import unary_union
 
-        streets = GrowingStrip(self.projection.kilometres, ASIDE)
         for limit in limits:
             near = np.flatnonzero(self.placed & (seconds <= limit))
             parts = [self.shapes[place] for place in near.tolist() if self.shapes[place] is not None]
-            yield unary_union([*parts, *self.walked(limit - seconds, walking, streets)])
+            yield unary_union([*parts, *self.walked(limit - seconds, walking)])
 
-    def walked(self, left: Floats, walking: Walking, streets: GrowingStrip) -> Iterator[Any]:
+    def walked(self, left: Floats, walking: Walking) -> Iterator[Any]:
         """What one reaches on foot in the seconds that are left, from where there is no shape."""
         from shapely.geometry import Point
 
         bare = np.flatnonzero(self.placed & np.array([shape is None for shape in self.shapes], dtype=np.bool_))
-        if self.router is not None:
+        if self.squares is not None:
             metres = np.where(left[bare] >= 0, np.minimum(left[bare], walking.max_seconds) * walking.speed, -1.0)
-            yield streets.grown(pieces(self.router, metres))
+            yield self.squares.area(metres)
             return
         # as the crow flies, in kilometres
         radii = np.minimum(left[bare], walking.max_seconds) * walking.speed / walking.detour / 1000
@@ -127,7 +125,7 @@ def polygons_in(shape: Any) -> list[Any]:
     return [orient(shape)] if shape.geom_type == "Polygon" and not shape.is_empty else []
 
 
-def ground_of(stops: Stops, polygons: Mapping[str, Any]) -> AreaGround:
+def ground_of(stops: Stops, polygons: Mapping[str, Any]) -> StopGeometry:
     """Where these stops lie: each with its polygon, else its square, else none."""
     from shapely.geometry import box
     from shapely.ops import transform
@@ -146,19 +144,22 @@ def ground_of(stops: Stops, polygons: Mapping[str, Any]) -> AreaGround:
 
     for identifier in polygons.keys() & stops.places.keys():
         shapes[stops.places[identifier]] = transform(projection.kilometres, polygons[identifier])
-    return AreaGround(stops, projection, east, north, shapes, stops.placed)
+    return StopGeometry(stops, projection, east, north, shapes, stops.placed)
 
 
-def along_streets(ground: AreaGround, stops: Stops, streets: str, walking: Walking, near: float) -> AreaGround:
+def along_streets(ground: StopGeometry, stops: Stops, streets: str, walking: Walking, near: float) -> StopGeometry:
     """The same ground, from whose stops one walks along the streets of a file."""
     bare = [place for place in np.flatnonzero(ground.placed).tolist() if ground.shapes[place] is None]
     if not bare:
         return ground
     positions = points_of(stops.latitudes[bare], stops.longitudes[bare])
-    return replace(ground, router=Router(read_streets(streets), positions, walking, near))
+    squares = WalkedSquares(read_streets(streets), positions, ground.projection, walking, near)
+    return replace(ground, squares=squares)
 
 
-def ground_on_foot(stops: Stops, points: str | None, walking: Walking, streets: str | None, near: float) -> AreaGround:
+def ground_on_foot(
+    stops: Stops, points: str | None, walking: Walking, streets: str | None, near: float
+) -> StopGeometry:
     """Where these stops lie, with the polygons of a file of points, and along which streets one walks on."""
     ground = ground_of(stops, polygons_of(points))
     return along_streets(ground, stops, streets, walking, near) if streets else ground
@@ -186,7 +187,7 @@ class Bands:
     walking: Walking
 
 
-def isochrones_of(matrix: Matrix, ground: AreaGround, bands: Bands, counts: Counts | None) -> list[Isochrone]:
+def isochrones_of(matrix: Matrix, ground: StopGeometry, bands: Bands, counts: Counts | None) -> list[Isochrone]:
     """The isochrones of each scenario, share and band, in this order; ground and counts are of the matrix's stops."""
     areas, ground = list[Isochrone](), ground.around(bands.origin)
     every = list(itertools.product(bands.scenarios, bands.shares))

@@ -17,7 +17,7 @@ from . import drawing, map_content
 from .classes import BANDS
 from .drawn_lines import DrawnLines
 from .isochrone_map import Bands, draw_bands
-from .isochrones import AreaGround
+from .isochrones import StopGeometry
 from .lines import Planned, lines_of_edits, lines_of_plan
 from .map_content import Picture, PictureOptions
 from .map_lines import MapLines
@@ -42,7 +42,7 @@ class Areas:
 
     origin: str
     options: PictureOptions
-    ground: AreaGround
+    ground: StopGeometry
     walking: Walking
 
 

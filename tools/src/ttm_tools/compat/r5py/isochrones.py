@@ -8,7 +8,7 @@ import pandas
 from shapely.geometry import Point
 
 from ...places.frames import DEGREES
-from ...places.street_grid import StreetGrid
+from ...places.street_grid import grid_around
 from .asking import seconds_between
 from .frames import ComputedGeoFrame
 from .matrix import ends_of
@@ -58,7 +58,7 @@ class Isochrones(ComputedGeoFrame):
         if isinstance(origins, Point):
             origins = geopandas.GeoDataFrame({"id": ["origin"]}, geometry=[origins], crs=DEGREES)
         begins = ends_of(network, origins, None, False)[0]
-        grid = StreetGrid(network.streets, (begins.latitudes, begins.longitudes), point_grid_resolution)
+        grid = grid_around(network.streets, begins.latitudes, begins.longitudes, point_grid_resolution)
         found = seconds_between(network, task, begins, grid.places())[task.percentiles[0]]
         areas = [grid.within(found, limit.total_seconds()) for limit in limits]
         table = geopandas.GeoDataFrame({"travel_time": pandas.to_timedelta(limits)}, geometry=areas, crs=grid.crs)

@@ -15,7 +15,7 @@ from ...core.walking import Walking
 from ...ground.packing import read_ground_file
 from ...places.selection import points_in
 from ...views import isochrones
-from ...views.isochrones import AreaGround
+from ...views.isochrones import StopGeometry
 from ...views.lines import planned_of
 from ...views.map_content import PictureOptions
 from ...views.maps import Areas, Sheet, figure_of, figure_of_isochrones, picture_of
@@ -116,7 +116,7 @@ def sheet_of(results: StudyMatrix, drawn: StudyMap) -> Sheet:
     return Sheet(None, results.study.about.note, edits=own, planned=planned, ground=below)
 
 
-def areas_drawn(results: StudyMatrix, drawn: StudyMap, ground: AreaGround, walking: Walking) -> Any:
+def areas_drawn(results: StudyMatrix, drawn: StudyMap, ground: StopGeometry, walking: Walking) -> Any:
     """The areas that are reached from a place."""
     matrix, stops = results.open()
     areas = Areas(drawn.origin or "", options_of(results, drawn), ground, walking)
@@ -135,7 +135,7 @@ def classes_drawn(results: StudyMatrix, drawn: StudyMap) -> Any:
     return figure_of(picture, matrix, stops, results.at(results.inputs.feed), sheet_of(results, drawn), base)
 
 
-def ground_for(results: StudyMatrix) -> tuple[AreaGround, Walking]:
+def ground_for(results: StudyMatrix) -> tuple[StopGeometry, Walking]:
     """The positions of the matrix' places, and how travellers walk on from them."""
     study, (matrix, stops) = results.study, results.open()
     there = stops.of(matrix.stops)

@@ -15,7 +15,7 @@ from .parts import Element, part
 from .places import MICRO, ranks
 
 MOST_NODES = 600_000  # that a page takes, some 6 MB
-ASIDE = 50  # metres to both sides of a street that one reaches, as in isochrones
+ASIDE = 50  # metres to both sides of a street that one reaches; the command isochrones has squares of 100
 NO_NODE = -1
 Numbers = npt.NDArray[np.int32]
 
