@@ -103,11 +103,16 @@ def changes(exploration: Exploration) -> Answer:
 
 
 def cost(exploration: Exploration) -> Answer:
-    """Departures and vehicle hours of the last of a tab's changes, which is not applied."""
+    """Departures and vehicle hours of the last of a tab's changes, which is not applied; why there are none if a plan
+    refuses it, such as a half-typed time.
+    """
     actions = actions_of(body_sent())
     if not actions:
         raise ArgumentError("actions is empty, so there is no cost")
-    return exploration.cost(actions), 200
+    try:
+        return exploration.cost(actions), 200
+    except (InputError, ArgumentError) as fault:
+        return {"refused": one_line(fault)}, 200
 
 
 def study(exploration: Exploration) -> Answer:
