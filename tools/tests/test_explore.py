@@ -5,6 +5,7 @@ import subprocess
 import sys
 from pathlib import Path
 from typing import Iterator
+from urllib.parse import parse_qs, quote
 
 import pytest
 
@@ -344,6 +345,7 @@ def test_an_address_holds_the_view_with_its_changes(served: Explored, browser: B
     browser.click("A")
     browser.awaited("await routes.read_; await routes.add({ do: 'remove_route', route: 1 });")
     arguments = browser.address()
+    assert parse_qs(arguments)["actions"] == ['[{"do":"remove_route","route":"Q"}]']
     shown, printed = minutes(browser), browser.text("told")
     browser.press("#undo")
     changed(browser)
@@ -351,6 +353,14 @@ def test_an_address_holds_the_view_with_its_changes(served: Explored, browser: B
     changed(browser)
     assert (minutes(browser), browser.text("told"), browser.text("changes")) == (shown, printed, "remove route 2 (Q)")
     assert browser.run("return [live.last, live.trips, sliders.step]") == ["08:05", 3, 15]
+
+
+def test_a_link_with_a_route_of_another_feed_says_so(served: Explored, browser: Browser) -> None:
+    actions = '[{"do":"remove_route","route":"X9"},{"do":"remove_route","route":"Q"}]'
+    browser.visit(served.address, f"from=A&walk=600&actions={quote(actions)}")
+    changed(browser)
+    assert browser.text("changes") == "remove route 2 (Q)"
+    assert browser.text("changing") == "The link names X9, which this feed does not have: such changes are left out."
 
 
 def test_a_saved_study_computes_the_same_numbers(served: Explored, browser: Browser, program: str, room: Path) -> None:

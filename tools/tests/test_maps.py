@@ -18,6 +18,7 @@ matplotlib = pytest.importorskip("matplotlib")
 from matplotlib.figure import Figure  # noqa: E402
 
 from ttm_tools.views import drawing  # noqa: E402
+from ttm_tools.views.classes import TOKENS  # noqa: E402
 
 
 def figure(town: Town, monkeypatch: pytest.MonkeyPatch, *arguments: str) -> tuple[list[str], str, list[str]]:
@@ -54,6 +55,20 @@ def test_access_in_round_numbers(town: Town, monkeypatch: pytest.MonkeyPatch) ->
     assert classes == ["less than 3  (1)", "3 or more  (1)", no_origin, "where vehicles run"]
     town.matrix(town_matrix(False))
     assert figure(town, monkeypatch, "access")[0][0] == "Access from each stop: opportunities"
+
+
+def test_the_answer_stands_above_what_is_drawn_unless_a_title_is_named(
+    town: Town, monkeypatch: pytest.MonkeyPatch
+) -> None:
+    town.matrix(town_matrix(True))
+    cases: list[tuple[list[str], str]] = [([], "Half of 2 stops"), (["--title", "Ours"], "Ours")]
+    for more, on_top in cases:
+        figures: list[Any] = []
+        monkeypatch.setattr(Figure, "savefig", lambda figure, *_, **__: figures.append(figure))
+        assert town.ran("map", "access", *more, "--feed", town.feed, "--out", town.path("map.png"), town.file)[2] == 0
+        first, second = sorted(figures[0].texts[:2], key=lambda text: -float(text.get_position()[1]))
+        assert first.get_text().startswith(on_top) and first.get_fontweight() == "bold"
+        assert second.get_color() == TOKENS["soft"]
 
 
 def test_one_is_named_in_the_singular() -> None:

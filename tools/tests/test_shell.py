@@ -199,3 +199,15 @@ def test_no_stop_in_reach_offers_the_nearest(program: str, tmp_path: Path, brows
         browser.press("#notice-do")
         assert browser.text("headline-of") == "within 30 min of Delta"
         assert browser.run("return element('notice').hidden")
+
+
+def test_on_a_phone_the_change_stands_next_to_its_number_and_covers_nothing(served: Explored, browser: Browser) -> None:
+    begin(browser, served, PHONE, "from=A")
+    browser.awaited("await routes.read_; await routes.add({ do: 'remove_route', route: 0 });")
+    browser.settle()
+    script = """
+const text = document.createRange(), from = element("headline-from").getBoundingClientRect();
+text.selectNodeContents(element("headline-of"));
+return [text.getBoundingClientRect().right, from.left, from.right, window.innerWidth];"""
+    right, left, end, wide = browser.run(script)
+    assert right + 8 <= left and end <= wide

@@ -25,6 +25,7 @@ from .map_lines import MapLines, MapPoints, draw_crosses, draw_lines, over_squar
 from .texts import without_mathtext
 
 MOST_NAMES = 3
+MOST_ABOVE, MOST_BELOW = 100, 136  # letters of the two lines above a map
 EDGE_OF_MARK = 0.75 * 0.75  # points
 INCHES = 10  # the picture's width; below, those of the map, its greatest height, the head above it and the edge
 MAP_WIDTH, MAP_HEIGHT, HEAD, EDGE = 6.7, 7.0, 0.85, 0.2
@@ -89,11 +90,14 @@ def points_of(stops: Stops, projection: Projection) -> MapPoints:
 
 
 def write_head(figure: Figure, picture: Picture) -> None:
-    """Writes title and subtitle above a map."""
-    top, title, subtitle = figure.get_figheight(), shortened(picture.title, 84), shortened(picture.subtitle, 136)
-    plain: dict[str, Any] = {"va": "top", "parse_math": False}
-    figure.text(EDGE / INCHES, 1 - 0.2 / top, title, fontsize=14.5, fontweight="bold", **plain)
-    figure.text(EDGE / INCHES, 1 - 0.52 / top, subtitle, fontsize=9.5, color=SOFT, **plain)
+    """Writes the answer above a map, and below it what the map shows; a user's own title stands above the answer."""
+    top, plain = figure.get_figheight(), {"va": "top", "parse_math": False}
+    above: dict[str, Any] = {"y": 1 - 0.2 / top, "fontsize": 13, "fontweight": "bold", "color": INK}
+    below: dict[str, Any] = {"y": 1 - 0.5 / top, "fontsize": 9.5, "color": SOFT}
+    title, answer = (above, below) if picture.is_titled else (below, above)
+    for text, how in ((picture.title, title), (picture.subtitle, answer)):
+        most = MOST_ABOVE if how is above else MOST_BELOW
+        figure.text(EDGE / INCHES, s=shortened(text, most), **how, **plain)
 
 
 def write_notes(figure: Figure, picture: Picture, note: str) -> None:

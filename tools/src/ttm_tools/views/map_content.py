@@ -40,6 +40,7 @@ class Picture:
     named: tuple[int, ...] = ()  # the places of stops to be named, the foremost first
     drawn: list[str] | None = None  # the stops, where they aren't those of the matrix alone
     what: str = "stops"  # or points
+    is_titled: bool = False  # whether the title is the user's, and stands above the answer
 
 
 @dataclass(frozen=True)

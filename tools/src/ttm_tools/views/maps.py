@@ -76,7 +76,8 @@ def figure_of(picture: Picture, matrix: Matrix, stops: Stops, folder: str, sheet
     say_unplaced(lost, picture.what)
     projection = Projection(shown_stops.latitudes, shown_stops.longitudes)
     lines, note = lines_below(folder, stops, projection, sheet, base)
-    picture = replace(picture, title=sheet.title or picture.title)
+    if sheet.title:
+        picture = replace(picture, title=sheet.title, is_titled=True)
     return drawing.draw(picture, shown_stops, lines, note, sheet.width, sheet.ground)
 
 
@@ -120,5 +121,6 @@ def figure_of_isochrones(matrix: Matrix, stops: Stops, folder: str, sheet: Sheet
     subtitle = f"{rounded(bands[-1][1].area, 1)} km² within {bands[-1][0]:g} minutes"
     source, place = map_content.source_of(display_text(scenario), share, matrix), there.places.get(areas.origin)
     picture = Picture(title, subtitle, "Reached within", [], np.zeros(0, np.intp), source, place)
+    picture = replace(picture, is_titled=bool(sheet.title))
     lines, note = lines_below(folder, stops, ground.projection, sheet, None)
     return draw_bands(picture, ground, lines, note, sheet.width, Bands(bands, sheet.ground))

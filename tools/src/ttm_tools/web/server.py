@@ -103,11 +103,16 @@ def changes(session: ExploreSession) -> Answer:
 
 
 def cost(session: ExploreSession) -> Answer:
-    """Departures and vehicle hours of the last of a tab's changes, which is not applied."""
+    """Departures and vehicle hours of the last of a tab's changes, which is not applied; why there are none if a plan
+    refuses it, such as a half-typed time.
+    """
     actions = actions_of(body_sent())
     if not actions:
         raise ArgumentError("actions is empty, so there is no cost")
-    return session.cost(actions), 200
+    try:
+        return session.cost(actions), 200
+    except (InputError, ArgumentError) as fault:
+        return {"refused": one_line(fault)}, 200
 
 
 def study(session: ExploreSession) -> Answer:

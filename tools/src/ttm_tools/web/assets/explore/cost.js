@@ -52,7 +52,7 @@ export const cost = {
     const body = { actions: [...live.actions, action] };
     const found = await answerOf("cost", {}, body).then((it) => it.json()).catch(() => null);
     if (text === this.last) {
-      element(at).textContent = found === null ? "" : costTold(found);
+      element(at).textContent = found === null || "refused" in found ? "" : costTold(found);
     }
   },
 };

@@ -3,6 +3,7 @@
 import { CHANGED_LINES } from "../core/constants.js";
 import { dateTold, minutesOfClock, told } from "../core/format.js";
 import { farFrom } from "../core/geometry.js";
+import { namedActions, numberedActions } from "../core/links.js";
 import { table } from "../core/table.js";
 import { areRight, clearErrors, clockIn, toldAtField } from "./fields.js";
 import { modeOf, setMode } from "./journey.js";
@@ -132,11 +133,25 @@ export const routes = {
     return live.actions.length > 0 && this.change({ actions: [], walk: live.walk });
   },
 
-  /** Takes up the changes of an address to which somebody went back. */
+  /** Takes up the changes of an address to which somebody went back, or that a link has. */
   returned() {
-    const wanted = this.wanted;
-    if (wanted !== undefined && JSON.stringify(wanted) !== JSON.stringify({ actions: live.actions, walk: live.walk })) {
-      return this.change(wanted);
+    if (this.wanted !== undefined) {
+      const own = this.changing = this.changing.then(() => this.takeWanted(this.wanted));
+      return own;
+    }
+    return undefined;
+  },
+
+  /** Finds the routes and stops of an address, which are known a little after the page begins. */
+  async takeWanted({ actions: named, walk }) {
+    await this.read_;
+    const { actions, lost } = numberedActions(named, this.all, head.identifiers);
+    if (JSON.stringify({ actions, walk }) !== JSON.stringify({ actions: live.actions, walk: live.walk })) {
+      await this.changed({ actions, walk });
+    }
+    if (lost.length) {
+      element("changing").textContent =
+        `The link names ${lost.join(", ")}, which this feed does not have: such changes are left out.`;
     }
   },
 
@@ -166,7 +181,9 @@ export const routes = {
   },
 
   words() {
-    return { walk: live.walk, actions: JSON.stringify(live.actions) };
+    const isReady = this.all.length > 0 || live.actions.length === 0;
+    const actions = isReady ? namedActions(live.actions, this.all, head.identifiers) : this.wanted?.actions ?? [];
+    return { walk: live.walk, actions: JSON.stringify(actions) };
   },
 
   controls() {
