@@ -14,7 +14,7 @@ from numpydoc.validate import validate  # noqa: E402
 
 import ttm_tools  # noqa: E402
 
-# Signatures have the types, and a summary may say all: sections and types that numpydoc misses are no error. Neither are
+# Signatures have the types, and a summary may say all: sections and types that numpydoc misses are no error. Nor are
 # summaries that begin with a name or with "Seconds".
 ALLOWED = {"ES01", "EX01", "SA01", "GL01", "PR01", "PR04", "PR08", "RT01", "RT03", "RT04", "SS02", "SS05"}
 VALUES = {"settings"}  # an object: its class has the docstring
