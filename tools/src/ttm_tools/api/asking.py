@@ -18,14 +18,16 @@ from ..core.settings import Progress, settings
 from ..core.tables import rows, write_rows
 from ..core.text import display_text, first_few, quantity
 from ..core.threads import processors
+from ..core.times import day_of
 from ..core.walking import Walking
 from ..engine.network import EngineNetwork, NetworkFiles
 from ..matrices import open_matrix
-from ..places.doors import DoorToDoorFolder, WalkNetwork, folder_of
+from ..places.doors import DoorToDoorFolder, PreparedFeed, WalkNetwork, folder_of
 from .engines import NetworkState
 from .executors import in_parts
 from .frames import GivenPlaces
 from .tracking import Tracker
+from .unchanged import sentence_of, unchanged_on
 
 CELLS_AT_ONCE = 3_000_000  # of a question
 LEAST_ORIGINS = 64  # of a question, so that each keeps all threads at work
@@ -89,7 +91,8 @@ def answer(state: NetworkState, request: Request, progress: Progress = None, exe
             warnings.update(dict.fromkeys(warned))
             tracker.advance(len(span))
     unreachable = tuple_of_unreached(request, folder)
-    notes = *notes_of_warnings(warnings, folder), *notes_of_unreached(request, unreachable)
+    notes = *notes_of_warnings(warnings, folder), *notes_of_unchanged(state.feed, request)
+    notes = *notes, *notes_of_unreached(request, unreachable)
     return Reply(arrays, notes, unreachable)
 
 
@@ -204,6 +207,14 @@ def notes_of_warnings(warnings: Sequence[str] | dict[str, None], folder: DoorToD
     if folder.scenario_files:
         texts = [text for text in texts if NO_CHANGE not in text]
     return [Note("no service" if any(one in text for one in NO_SERVICE) else "engine", text, 0) for text in texts]
+
+
+def notes_of_unchanged(feed: PreparedFeed, request: Request) -> Iterator[Note]:
+    """Yield a note for each scenario that changes nothing on the date."""
+    if len(request.scenarios) > (TODAY in request.scenarios) and request.question.max_rides:
+        question, date = request.question, day_of(str(request.question.date))
+        unchanged = unchanged_on(feed, date, (question.days_before, question.days_after))
+        yield from (Note("no service", sentence_of(name, date), 0) for name in request.scenarios if name in unchanged)
 
 
 def notes_of_unreached(request: Request, unreachable: tuple[list[int], list[int]]) -> Iterator[Note]:

@@ -8,6 +8,7 @@ import geopandas
 import numpy as np
 import pandas
 import shapely
+from pyproj import CRS
 from shapely.geometry import box
 from shapely.prepared import prep
 
@@ -21,7 +22,7 @@ MOST_TRIED = 2_000_000  # squares of a bounding box
 POLYGONS = ("Polygon", "MultiPolygon")
 
 
-def grid(area: geopandas.GeoDataFrame, cell_m: float, *, crs: Any = None) -> geopandas.GeoDataFrame:
+def grid(area: geopandas.GeoDataFrame, cell_m: float, *, crs: CRS | str | int | None = None) -> geopandas.GeoDataFrame:
     """Square cells over polygons, or over the hull of points, with `id`; in `crs`, else in their UTM zone.
 
     Parameters
@@ -42,6 +43,12 @@ def grid(area: geopandas.GeoDataFrame, cell_m: float, *, crs: Any = None) -> geo
     ------
     LimitError
         There are more cells than the engine takes as places.
+
+    Examples
+    --------
+    >>> area = geopandas.GeoDataFrame(geometry=[box(0, 0, 1000, 500)], crs="EPSG:2056")
+    >>> grid(area, 500, crs=area.crs)["id"].tolist()
+    ['r1c1', 'r1c2']
     """
     checked_frame("area", area)
     if not cell_m > 0:
@@ -84,10 +91,21 @@ def allocate(
     columns
         The columns to sum; by default all numbers but `id`.
 
+    Returns
+    -------
+    GeoDataFrame
+        The cells with their index, and the sums as float64.
+
     Warns
     -----
-    UserWarning
+    TtmWarning
         Part of a column is outside all cells; the warning says how much.
+
+    Examples
+    --------
+    >>> area = geopandas.GeoDataFrame({"jobs": [30]}, geometry=[box(0, 0, 1000, 500)], crs="EPSG:2056")
+    >>> allocate(area, grid(area, 500, crs=area.crs))["jobs"].tolist()
+    [15.0, 15.0]
     """
     checked_frame("source", source)
     checked_frame("cells", cells)

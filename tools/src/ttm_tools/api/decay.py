@@ -18,6 +18,18 @@ class Decay:
         step, linear, exponential or logistic.
     value
         Minutes: the width of a linear decay, the standard deviation of a logistic one.
+
+    Raises
+    ------
+    ArgumentError
+        The kind is none of these, or has no value, or none that is needed.
+
+    Examples
+    --------
+    >>> Decay.logistic(sd=10)
+    Decay(kind='logistic', value=10)
+    >>> Decay() == Decay.step()
+    True
     """
 
     kind: Literal["step", "linear", "exponential", "logistic"] = "step"

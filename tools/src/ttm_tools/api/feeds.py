@@ -5,6 +5,7 @@ from os import PathLike, fspath
 from pathlib import Path
 
 import geopandas
+import numpy as np
 import pandas
 
 from ..core.columns import ERRORS, names_of
@@ -27,7 +28,8 @@ def check_feed(gtfs: PathLikeStr) -> pandas.DataFrame:
     """All errors for which the engine would refuse a feed: file, record, column, value, error, allowed."""
     with scratch("feed") as room:
         found = list(fault_rows(check(read_feed(fspath(gtfs), room))))
-    return pandas.DataFrame(found, columns=names_of(ERRORS))
+    table = pandas.DataFrame(found, columns=names_of(ERRORS)).rename(columns={"fault": "error"})
+    return table.assign(record=pandas.to_numeric(table["record"]).astype(np.float64))
 
 
 def prepare_feed(

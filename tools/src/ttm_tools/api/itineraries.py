@@ -26,6 +26,7 @@ from .asking import (
     Request,
     engine_for,
     folder_for,
+    notes_of_unchanged,
     notes_of_unreached,
     notes_of_warnings,
     scenario_files,
@@ -158,7 +159,8 @@ def itinerary_frame(
         for scenario in request.scenarios:
             found += rows_of(task, scenario, wanted, tracker)
     unreached = notes_of_unreached(request, tuple_of_unreached(request, folder))
-    return framed(found, request), (*notes_of_warnings(task.times.warnings, folder), *unreached)
+    notes = *notes_of_warnings(task.times.warnings, folder), *notes_of_unchanged(state.feed, request), *unreached
+    return framed(found, request), notes
 
 
 def rows_of(task: ItineraryTask, scenario: str, pairs: list[tuple[int, int]], tracker: Tracker) -> Iterator[Row]:

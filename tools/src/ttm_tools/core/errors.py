@@ -33,8 +33,8 @@ class InputError(TtmError, ValueError):
 
     Attributes
     ----------
-    file
-        The file, or the argument that has no file.
+    source
+        The file, or an argument such as "origins". `file` is its older name.
     record
         The number of the record; the header is record 1.
     column
@@ -70,6 +70,11 @@ class InputError(TtmError, ValueError):
         place = self.file if record is None else f"{self.file}: record {record}"
         found = " ".join([*([column] if column else []), *([repr(value)] if value is not None else []), what])
         super().__init__(f"{place}: {found}" + (f"; allowed: {allowed}" if allowed else ""))
+
+    @property
+    def source(self) -> str:
+        """The file, or an argument such as "origins"."""
+        return self.file
 
 
 class MissingDependencyError(TtmError, ImportError):
