@@ -10,7 +10,7 @@ from ...core.tables import rows
 from ...gtfs.modes import route_types
 from ...gtfs.stops import in_folder
 from ...gtfs.timetable import Timetable
-from ...journeys.itineraries import DrawnLeg
+from ...journeys.legs import DrawnLeg
 from .modes import TransportMode, mode_of
 
 Row = dict[str, Any]
