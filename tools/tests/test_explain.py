@@ -15,7 +15,8 @@ import pytest
 from helpers import CALENDAR, STOP_TIMES, Room
 from test_damages import damaged
 from ttm_tools.gtfs.stops import read_stops
-from ttm_tools.journeys.found import ExplainOptions, calls_of_ride, found_by
+from ttm_tools.journeys.found import ExplainOptions, found_by
+from ttm_tools.journeys.legs import calls_of_ride
 from ttm_tools.journeys.search import Leg, Search, cell, durations, journey
 from ttm_tools.journeys.network import NEVER, Schedule
 from ttm_tools.gtfs.footpaths import read_walks

@@ -5,15 +5,14 @@
 
 import datetime
 from dataclasses import dataclass
-from typing import Iterable, Sequence
-
-import numpy as np
+from typing import Sequence
 
 from ..core.errors import InputError
 from ..core.text import display_text
 from ..core.times import as_clock
 from ..engine.arguments import EngineArguments
-from ..gtfs.timetable import DAY, Events, Runs, Timetable
+from ..gtfs.timetable import DAY, Runs, Timetable
+from .legs import ridden
 from .network import Schedule
 from .search import Leg, Search, cell, durations, journey
 
@@ -97,29 +96,10 @@ def last_to_arrive(departures: Sequence[int], times: Sequence[int | None]) -> li
     return sorted({departures[place] + taken: place for place, taken in there}.values())
 
 
-def ridden(legs: Iterable[Leg]) -> tuple[tuple[int | None, int, int], ...]:
-    """Returns the vehicle and the ends of each leg: journeys with the same ones are shown once."""
-    return tuple((leg.run, leg.start, leg.end) for leg in legs)
-
-
 def different(options: Sequence[Option]) -> list[Option]:
     """Options without those by the same vehicles, or on the same walk, as an earlier one."""
     keys = [ridden(option.legs) for option in options]
     return [option for place, option in enumerate(options) if keys[place] not in keys[:place]]
-
-
-def calls_of_ride(events: Events, trip: int, shift: int, leg: Leg) -> slice:
-    """Returns the events of a trip from where a leg boards it to where it alights, both included.
-
-    Parameters
-    ----------
-    shift
-        Seconds that are added to the trip's times.
-    """
-    own = np.arange(events.begins[trip], events.begins[trip + 1])
-    begin = own[(events.stop[own] == leg.start) & (events.depart[own] + shift == leg.begin)][0]
-    ends = own[(events.stop[own] == leg.end) & (events.arrive[own] + shift == leg.finish) & (own > begin)]
-    return slice(int(begin), int(ends[0]) + 1)
 
 
 def refuse_difference(

@@ -25,7 +25,8 @@ from ..streets.osm import Streets
 from ..streets.router import Router
 from ..streets.walks import distances, points_of
 from . import search
-from .found import calls_of_ride, last_to_arrive, ridden
+from .found import last_to_arrive
+from .legs import DrawnLeg, calls_of_ride, ridden
 from .network import Schedule
 from .search import Leg
 
@@ -205,36 +206,6 @@ class ItinerarySearch:
         if np.isnan(expected) or int(expected) != taken:
             text = f"at {as_minute(of_day)}: ttm has {expected} seconds, and this search {taken}"
             raise InputError("the travel times differ", text)
-
-
-@dataclass(frozen=True)
-class DrawnLeg:
-    """A leg of a journey as it is shown.
-
-    Attributes
-    ----------
-    trip
-        The position of the trip in the timetable; None for a walk.
-    from_stop, to_stop
-        The stops at its ends; None where an end is an origin or a destination.
-    wait
-        Seconds between the arrival before it and its departure.
-    line
-        Longitudes and latitudes along the leg.
-    """
-
-    trip: int | None
-    from_stop: str | None
-    to_stop: str | None
-    departure: datetime.datetime
-    arrival: datetime.datetime
-    wait: int
-    metres: float
-    line: Floats
-
-    @property
-    def seconds(self) -> int:
-        return int((self.arrival - self.departure).total_seconds())
 
 
 class LegDrawing:

@@ -12,7 +12,8 @@ from ..gtfs.modes import WALK, mode_named, route_types
 from ..gtfs.route_names import routes_called
 from ..gtfs.shape_parts import Shapes, read_shapes
 from ..gtfs.timetable import DAY, Runs, Timetable
-from ..journeys.found import ExplainOptions, Found, Option, calls_of_ride
+from ..journeys.found import ExplainOptions, Found, Option
+from ..journeys.legs import calls_of_ride
 from ..journeys.search import Leg
 from ..streets.graph import degrees_of
 from ..streets.osm import Streets

@@ -9,7 +9,8 @@ from ..core.text import display_text
 from ..core.times import minutes_of
 from ..engine.arguments import EngineArguments
 from ..gtfs.timetable import DAY, Runs, Timetable, read_edits, runs_of
-from ..journeys.found import ExplainOptions, Found, calls_of_ride, describe_question, found_by, refuse_difference
+from ..journeys.found import ExplainOptions, Found, describe_question, found_by, refuse_difference
+from ..journeys.legs import calls_of_ride
 from ..journeys.network import Schedule
 from ..journeys.search import Leg
 from ..views.journeys import names_of_routes
