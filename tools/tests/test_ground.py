@@ -289,3 +289,10 @@ def test_a_name_takes_the_freest_spot_and_none_where_others_are() -> None:
     assert found is not None and found.bounds == (80, 109, 40, 10)
     everywhere = Bbox.from_bounds(0, 0, 300, 300)
     assert freest(np.array([100.0, 100.0]), (40, 10), 1, False, [everywhere], stops) is None
+
+
+def test_explore_takes_tiles_with_their_attribution_alone(town: Town) -> None:
+    words = ["explore", town.feed, "--date", "20260504", "--tiles"]
+    assert town.ran(*words, "https://x") == ("", "ttm-tools explore: --tiles and --attribution go together\n", 2)
+    message = "ttm-tools explore: --tiles begins with https:// or http://\n"
+    assert town.ran(*words, "x", "--attribution", "y") == ("", message, 2)
