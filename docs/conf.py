@@ -4,12 +4,22 @@
 `reference/help.md`, which has the output of every `--help` (`packaging/debian/rules`).
 """
 
+import json
+import sys
+from pathlib import Path
 from typing import Any
 
+from myst_parser.parsers.sphinx_ import MystParser
+
+sys.path.insert(0, str(Path(__file__).resolve().parents[1] / "tools" / "src"))
 project = "ttm"
-extensions = ["myst_parser"]
+extensions = ["myst_parser", "sphinx.ext.autodoc", "numpydoc"]
+autodoc_mock_imports = "geopandas shapely xarray h5py scipy osmium flask jinja2 matplotlib".split()
+autodoc_member_order = "bysource"
+autodoc_typehints = "signature"
+numpydoc_show_class_members = autosummary_generate = False
 root_doc = "docs/README"
-include_patterns = ["*.md", "bench/*.md", "docs/**.md"]
+include_patterns = ["*.md", "bench/*.md", "docs/**.md", "docs/**.ipynb"]
 myst_heading_anchors = 4
 highlight_language = "none"
 suppress_warnings = ["misc.highlighting_failure"]
@@ -34,6 +44,7 @@ man_pages = [
 CONTENTS = {
     "Start": ["tutorial", "faq", "glossary"],
     "How-to": ["howto/*"],
+    "Notebooks": ["notebooks/*"],
     "Reference": ["reference/*"],
     "Explanation": ["explanation/*"],
     "Project": ["../README", "../CONTRIBUTING", "../CHANGELOG", "../bench/RESULTS", "../bench/HISTORY"],
@@ -48,5 +59,33 @@ def add_contents(app: Any, name: str, source: list[str]) -> None:
             source[0] += "\n".join(lines)
 
 
+class NotebookParser(MystParser):
+    """Parses a notebook as Markdown: its texts, code, and what the code has shown."""
+
+    supported = ("notebook",)
+
+    def parse(self, inputstring: str, document: Any) -> None:
+        cells = json.loads(inputstring)["cells"]
+        super().parse("\n\n".join(map(markdown_of, cells)), document)
+
+
+def markdown_of(cell: dict[str, Any]) -> str:
+    """Returns a cell as Markdown; a picture is part of the page."""
+    source = "".join(cell["source"])
+    if cell["cell_type"] == "markdown":
+        return source
+    parts = [f"```python\n{source}\n```"]
+    for output in cell["outputs"]:
+        data = output.get("data", {})
+        if "image/png" in data:
+            parts.append(f"![what the code draws](data:image/png;base64,{''.join(data['image/png']).strip()})")
+        else:
+            text = "".join(output.get("text") or data["text/plain"]).rstrip()
+            parts.append(f"```text\n{text}\n```")
+    return "\n\n".join(parts)
+
+
 def setup(app: Any) -> None:
+    app.add_source_suffix(".ipynb", "notebook")
+    app.add_source_parser(NotebookParser)
     app.connect("source-read", add_contents)

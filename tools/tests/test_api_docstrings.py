@@ -3,7 +3,9 @@
 import doctest
 import importlib
 import inspect
+import re
 from collections.abc import Iterator
+from pathlib import Path
 from typing import Any
 
 import pytest
@@ -55,6 +57,14 @@ def test_a_parameter_that_no_function_has_would_be_seen(monkeypatch: pytest.Monk
     assert {"PR01", "PR02"} <= {code for code, _ in validate("ttm_tools.grid")["errors"]}
     monkeypatch.setattr(ttm_tools.grid, "__doc__", None)
     assert "GL08" in {code for code, _ in validate("ttm_tools.grid")["errors"]}
+
+
+def test_the_reference_lists_every_public_name() -> None:
+    page = Path(__file__).resolve().parents[2] / "docs" / "reference" / "api.md"
+    if not page.is_file():
+        pytest.skip("without docs/reference/api.md")
+    listed = re.findall(r"^\.\. auto\w+:: ttm_tools\.(\w+)$", page.read_text(), re.MULTILINE)
+    assert sorted(listed) == sorted(set(ttm_tools.__all__) - VALUES)
 
 
 def examples() -> Iterator[doctest.DocTest]:
