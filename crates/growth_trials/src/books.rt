@@ -2,10 +2,10 @@
 ghost use Rattle.std.specs.Prelude.{◌≡◌, length, IfOk};
 ghost use Rattle.work_book.specs.Board.{IsOf};
 
-use crate::outcomes::Outcome;
 use crate::small_rows::row_with;
 use collector::{Collector, CoreAnswer, CoreStep, Offer, Row, run_core};
 use std::alloc::{AllocError, Global};
+use study_trials::Outcome;
 use work_book::{Answer, Board, Book, Draw, Lease, Settled, Step, WorkSeat};
 
 /// A call of a book.

@@ -1,20 +1,19 @@
-//! Trials of each public call that takes memory: made once, and, where it tells out of memory, once more, over inputs
-//! whose answers are known. `tests/program/hostile.py` runs the program with its first, second and each further growth of
-//! memory refused.
+//! Trials of public calls that allocate: each runs once, and again if it reports out of memory, over inputs with
+//! known answers. `tests/program/hostile.py` runs the program with its first, second and each further growth of memory
+//! refused.
 //!
 //!     growth_trials [TRIAL]
 //!
 //! It prints a line for the trial, or for each of them, and its status is 1 where one of them is wrong.
 //!
 //! - `trials`: all of them, by name.
-//! - `tables`, `networks`, `searches`, `rows`, `books`, `texts`, `words`: the same by what their calls make.
-//! - `outcomes`: what comes of a trial.
+//! - `tables`, `networks`, `searches`, `rows`, `books`, `texts`: trials of calls that make these. Those of whole studies
+//!   and of the command line are in the crate `study_trials`.
 //! - `small_tables`, `small_networks`, `small_rows`: the inputs that several of them have.
 #![tactic(auto)]
 
 mod books;
 mod networks;
-mod outcomes;
 mod rows;
 mod searches;
 mod small_networks;
@@ -23,15 +22,14 @@ mod small_tables;
 mod tables;
 mod texts;
 mod trials;
-mod words;
 
-use crate::outcomes::Outcome;
 use crate::trials::{Trial, make, trials};
 use std::process::ExitCode;
 use std::rt::Env;
 use std::sync::Wait;
 use std::thread::Threads;
 use std::{env, io};
+use study_trials::Outcome;
 
 fn main(rt: HostRuntime) -> ExitCode {
     match run(&rt) {

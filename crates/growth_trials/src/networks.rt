@@ -3,7 +3,6 @@
 ghost use Rattle.std.specs.Prelude.{◌≡◌, All, length};
 ghost use Rattle.service_days.specs.Instances.{IsRun};
 
-use crate::outcomes::{Outcome, told};
 use crate::small_networks::{FIRST, Ride, SECOND, no_walks, trips_of};
 use crate::small_tables::{CUT, LATE, LIMIT, MONDAY, closed_walks, over_small_feed, small_walks};
 use footpaths::{Direct, FootFault, close, limit_fits};
@@ -11,6 +10,7 @@ use gtfs_tables::{Feed, MOST_BYTES, read_date};
 use scenarios::{Scenario, base, network_of, read_scenario};
 use service_days::{Run, active};
 use std::alloc::{AllocError, Global};
+use study_trials::{Outcome, told};
 use timetable::{Feet, NetFault, Network, StopNo, Trip};
 
 /// For each stop the stops that one walks to, and how long that takes.

@@ -1,13 +1,13 @@
 //! The calls that compute rows, over three scenarios of two rides.
 ghost use Rattle.std.specs.Prelude.{◌≤◌};
 
-use crate::outcomes::{Outcome, told};
 use crate::small_networks::{FIRST, LATER, Ride, SECOND, small_network};
 use collector::{Matrix, Row};
 use rounds::Window;
 use std::alloc::{AllocError, Global};
 use std::sync::Wait;
 use std::thread::Threads;
+use study_trials::{Outcome, told};
 use timetable::{Network, StopNo};
 use work_book::Board;
 use workers::{Open, RunFault, Study, one_thread, row_of, run_workers};

@@ -1,10 +1,10 @@
 //! The calls that search a network, over 400 trips along a line, and those that tell what a window's durations come to.
 
-use crate::outcomes::Outcome;
 use crate::small_networks::{FIRST, LINE, SECOND, a_line, small_network};
 use rounds::{Durations, Search, Window, durations, one_minute};
-use shares::{cells, cells_of};
+use shares::{cells, cells_at, cells_of, cells_of_at};
 use std::alloc::{AllocError, Global};
+use study_trials::Outcome;
 use timetable::{END_OF_AXIS, Network, StopNo};
 
 /// A call that searches a network.
@@ -21,6 +21,10 @@ pub(crate) enum Call {
 pub(crate) enum Cells {
     OfOneShare,
     OfTwoShares,
+    /// `cells_at`, for C and A.
+    At,
+    /// `cells_of_at`, for C and A.
+    OfTwoSharesAt,
 }
 
 /// 06:00 to 06:59.
@@ -142,6 +146,18 @@ fn ask_cells(alloc: Global, found: &Durations, call: Cells) -> Result<bool, Allo
                 lists.len() == 2
                     && lists[0].as_slice() == half.as_slice()
                     && lists[1].as_slice() == more.as_slice(),
+            )
+        }
+        Cells::At => {
+            let cells = cells_at(alloc, found, &[StopNo(2), StopNo(0)], 50)?;
+            Ok(cells.as_slice() == [Some(1_860), Some(0)].as_slice())
+        }
+        Cells::OfTwoSharesAt => {
+            let lists = cells_of_at(alloc, found, &[StopNo(2), StopNo(0)], &[50, 75])?;
+            Ok(
+                lists.len() == 2
+                    && lists[0].as_slice() == [Some(1_860), Some(0)].as_slice()
+                    && lists[1].as_slice() == [Some(1_920), Some(0)].as_slice(),
             )
         }
     }

@@ -1,10 +1,10 @@
 //! The small feed and its walks, read; and files of scenarios over it.
 
-use crate::outcomes::Outcome;
 use footpaths::{Direct, close, direct, limit_fits};
 use gtfs_tables::{Feed, file_fits, read_feed};
 use small_feed::{WALKS, small_files};
 use std::alloc::Global;
+use study_trials::Outcome;
 use timetable::Feet;
 
 /// The first Monday on which the trips run.

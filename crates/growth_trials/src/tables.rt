@@ -1,16 +1,16 @@
 //! The calls that read tables: `read_feed` reads the small feed, and the others go over it.
 
-use crate::outcomes::{Outcome, told};
 use crate::small_tables::{CUT, LATE, MONDAY, over_small_feed};
 use footpaths::direct;
 use gtfs_tables::{
-    Feed, FeedTrip, MOST_BYTES, What, file_fits, read_date, read_feed, read_opportunities,
-    read_origins,
+    Feed, FeedTrip, MOST_BYTES, What, file_fits, read_date, read_destinations, read_feed,
+    read_opportunities, read_origins,
 };
 use scenarios::{Scenario, ScenarioWhat, read_scenario};
 use service_days::{DayFault, Run, active};
 use small_feed::{FROM_A, WALKS, small_files};
 use std::alloc::{AllocError, Global};
+use study_trials::{Outcome, told};
 use timetable::{Event, StopNo};
 
 /// A call over the small feed.
@@ -18,6 +18,7 @@ use timetable::{Event, StopNo};
 pub(crate) enum Call {
     ReadOrigins,
     ReadOpportunities,
+    ReadDestinations,
     Active,
     Direct,
     ReadScenario,
@@ -27,6 +28,12 @@ pub(crate) enum Call {
 const CHANCES: &[u8] = b"stop_id,opportunities
 B,10
 C,5
+";
+
+/// C and A, as destinations.
+const TO_C_AND_A: &[u8] = b"stop_id
+C
+A
 ";
 
 /// The runs around the Monday: both trips, on the second day of the axis.
@@ -114,6 +121,7 @@ fn ask(alloc: Global, feed: &Feed, call: Call) -> Result<bool, AllocError> {
     match call {
         Call::ReadOrigins => reads_origins(alloc, feed),
         Call::ReadOpportunities => reads_opportunities(alloc, feed),
+        Call::ReadDestinations => reads_destinations(alloc, feed),
         Call::Active => lists_runs(alloc, feed),
         Call::Direct => lists_walks(alloc, feed),
         Call::ReadScenario => reads_scenarios(alloc, feed),
@@ -136,6 +144,16 @@ fn reads_opportunities(alloc: Global, feed: &Feed) -> Result<bool, AllocError> {
     }
     match read_opportunities(alloc, Some(CHANCES), feed) {
         Ok(counts) => Ok(counts.as_slice() == [0, 10, 5].as_slice()),
+        Err(fault) => told(fault.what == What::Memory),
+    }
+}
+
+fn reads_destinations(alloc: Global, feed: &Feed) -> Result<bool, AllocError> {
+    if !file_fits(Some(TO_C_AND_A)) {
+        return Ok(false);
+    }
+    match read_destinations(alloc, Some(TO_C_AND_A), feed) {
+        Ok(stops) => Ok(stops.as_slice() == [StopNo(2), StopNo(0)].as_slice()),
         Err(fault) => told(fault.what == What::Memory),
     }
 }

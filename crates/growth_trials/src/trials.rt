@@ -1,12 +1,15 @@
 //! All trials, by name.
 
 use crate::networks::{BACK_IN_TIME, FAR_WALK, FeetCase, NetCase, TOO_FAR, TWO_TRIPS, WALK};
-use crate::outcomes::Outcome;
-use crate::texts::{FIVE_SHARES, ONE_SHARE, StudyCase, TWO_DESTINATIONS};
-use crate::{books, networks, rows, searches, tables, texts, words};
+use crate::{books, networks, rows, searches, tables, texts};
 use std::alloc::Global;
 use std::sync::Wait;
 use std::thread::Threads;
+use study_trials::{
+    Asked, FIVE_SHARES, Half, KeptCall, ONE_SHARE, Outcome, QuestionCall, StudyCase,
+    TWO_DESTINATIONS, WordCall, try_half, try_kept_call, try_minute, try_question_call, try_task,
+    try_word_call,
+};
 
 /// A trial of a call.
 #[derive(Clone, Copy)]
@@ -28,13 +31,15 @@ pub(crate) enum Trial {
     Workers(rows::Workers),
     WriteMatrix,
     MinuteLine,
-    RunStudy(StudyCase),
-    Word(words::Call),
-    TaskOf(words::Asked),
+    Study(StudyCase, Half),
+    Kept(KeptCall),
+    Question(QuestionCall),
+    Word(WordCall),
+    TaskOf(Asked),
 }
 
 /// Each trial by its name, which begins with that of the call.
-const TRIALS: [(&str, Trial); 43] = [
+const TRIALS: [(&str, Trial); 54] = [
     ("Feet::new", Trial::Feet(WALK)),
     ("Feet::new, stop out of range", Trial::Feet(FAR_WALK)),
     ("Network::new", Trial::Network(TWO_TRIPS)),
@@ -46,6 +51,10 @@ const TRIALS: [(&str, Trial); 43] = [
         "read_opportunities",
         Trial::Table(tables::Call::ReadOpportunities),
     ),
+    (
+        "read_destinations",
+        Trial::Table(tables::Call::ReadDestinations),
+    ),
     ("active", Trial::Table(tables::Call::Active)),
     ("direct", Trial::Table(tables::Call::Direct)),
     ("close", Trial::Close),
@@ -56,6 +65,8 @@ const TRIALS: [(&str, Trial); 43] = [
     ("Search::durations", Trial::Search(searches::Call::Search)),
     ("cells", Trial::Cells(searches::Cells::OfOneShare)),
     ("cells_of", Trial::Cells(searches::Cells::OfTwoShares)),
+    ("cells_at", Trial::Cells(searches::Cells::At)),
+    ("cells_of_at", Trial::Cells(searches::Cells::OfTwoSharesAt)),
     ("Book::new", Trial::Book),
     ("Book::draw", Trial::BookCall(books::Call::Draw)),
     ("Book::settle", Trial::BookCall(books::Call::Settle)),
@@ -70,27 +81,35 @@ const TRIALS: [(&str, Trial); 43] = [
     ("run_workers, 7", Trial::Workers(rows::Workers::Seven)),
     ("write_matrix", Trial::WriteMatrix),
     ("minute_line", Trial::MinuteLine),
-    ("run_study", Trial::RunStudy(ONE_SHARE)),
-    ("run_study, five shares", Trial::RunStudy(FIVE_SHARES)),
+    ("run_study", Trial::Study(ONE_SHARE, Half::Both)),
+    (
+        "run_study, five shares",
+        Trial::Study(FIVE_SHARES, Half::Both),
+    ),
     (
         "run_study, two destinations",
-        Trial::RunStudy(TWO_DESTINATIONS),
+        Trial::Study(TWO_DESTINATIONS, Half::Both),
     ),
-    ("numbers_of", Trial::Word(words::Call::NumbersOf)),
-    ("task_of", Trial::TaskOf(words::Asked::Study)),
-    ("task_of, help", Trial::TaskOf(words::Asked::Help)),
-    (
-        "task_of, other words",
-        Trial::TaskOf(words::Asked::Nonsense),
-    ),
-    ("path_in", Trial::Word(words::Call::PathIn)),
-    ("read_all", Trial::Word(words::Call::ReadAll)),
-    ("fault_line", Trial::Word(words::Call::FaultLine)),
-    ("path_line", Trial::Word(words::Call::PathLine)),
+    ("ready_study", Trial::Study(FIVE_SHARES, Half::Ready)),
+    ("compute_study", Trial::Study(FIVE_SHARES, Half::Computed)),
+    ("keep", Trial::Kept(KeptCall::Keep)),
+    ("answer", Trial::Kept(KeptCall::Answer)),
+    ("answers", Trial::Kept(KeptCall::Answers)),
+    ("question_of", Trial::Question(QuestionCall::QuestionOf)),
+    ("question_line", Trial::Question(QuestionCall::QuestionLine)),
+    ("numbers_of", Trial::Word(WordCall::NumbersOf)),
+    ("task_of", Trial::TaskOf(Asked::Study)),
+    ("task_of, help", Trial::TaskOf(Asked::Help)),
+    ("task_of, other words", Trial::TaskOf(Asked::Nonsense)),
+    ("text_of", Trial::TaskOf(Asked::Option)),
+    ("path_in", Trial::Word(WordCall::PathIn)),
+    ("read_all", Trial::Word(WordCall::ReadAll)),
+    ("fault_line", Trial::Word(WordCall::FaultLine)),
+    ("path_line", Trial::Word(WordCall::PathLine)),
 ];
 
 /// The same from a function, so that the proofs of those who go through them don't compute the whole list.
-pub(crate) fn trials() -> [(&'static str, Trial); 43] {
+pub(crate) fn trials() -> [(&'static str, Trial); 54] {
     TRIALS
 }
 
@@ -113,9 +132,11 @@ pub(crate) fn make<R: Threads + Wait + Sync>(rt: &R, alloc: Global, trial: Trial
         Trial::Row(call) => rows::try_call(alloc, call),
         Trial::Workers(workers) => rows::try_workers(rt, alloc, workers),
         Trial::WriteMatrix => texts::try_write(alloc),
-        Trial::MinuteLine => texts::try_minute(alloc),
-        Trial::RunStudy(case) => texts::try_study(rt, alloc, case),
-        Trial::Word(call) => words::try_call(alloc, call),
-        Trial::TaskOf(asked) => words::try_task(alloc, asked),
+        Trial::MinuteLine => try_minute(alloc),
+        Trial::Study(case, half) => try_half(rt, alloc, case, half),
+        Trial::Kept(call) => try_kept_call(rt, alloc, FIVE_SHARES, call),
+        Trial::Question(call) => try_question_call(alloc, call),
+        Trial::Word(call) => try_word_call(alloc, call),
+        Trial::TaskOf(asked) => try_task(alloc, asked),
     }
 }

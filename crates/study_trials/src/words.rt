@@ -1,10 +1,10 @@
 //! The calls of the command line: arguments, paths, files and lines.
 
 use crate::outcomes::{Outcome, told};
-use crate::small_tables::MONDAY;
+use crate::small_studies::MONDAY;
 use command_line::{
     DONE, REFUSED, ReadFault, Task, WordFault, fault_line, numbers_of, path_in, path_line,
-    read_all, task_of, word_status,
+    read_all, task_of, text_of, word_status,
 };
 use gtfs_tables::{FeedFault, FileName, What, read_date};
 use small_feed::small_files;
@@ -13,7 +13,7 @@ use studies::{Inputs, Settings, StudyFault};
 
 /// A call of the command line that needs no inputs made for it.
 #[derive(Clone, Copy)]
-pub(crate) enum Call {
+pub enum WordCall {
     FaultLine,
     NumbersOf,
     PathIn,
@@ -23,10 +23,12 @@ pub(crate) enum Call {
 
 /// What arguments are asked for: a study, or help, or neither.
 #[derive(Clone, Copy)]
-pub(crate) enum Asked {
+pub enum Asked {
     Study,
     Help,
     Nonsense,
+    /// The text of an option of the study: `text_of`.
+    Option,
 }
 
 /// The arguments of a study of one minute of the small feed.
@@ -55,24 +57,24 @@ const STUDY: [&str; 21] = [
 ];
 
 /// The trial of a call without inputs.
-pub(crate) fn try_call(alloc: Global, call: Call) -> Outcome {
+pub fn try_word_call(alloc: Global, call: WordCall) -> Outcome {
     Outcome::of(|| ask(alloc, call))
 }
 
 /// Whether a call gives the right value.
-fn ask(alloc: Global, call: Call) -> Result<bool, AllocError> {
+fn ask(alloc: Global, call: WordCall) -> Result<bool, AllocError> {
     match call {
-        Call::FaultLine => tells_fault(alloc),
-        Call::NumbersOf => match numbers_of(alloc, b"25,50")? {
+        WordCall::FaultLine => tells_fault(alloc),
+        WordCall::NumbersOf => match numbers_of(alloc, b"25,50")? {
             Some(numbers) => Ok(numbers.as_slice() == [25, 50].as_slice()),
             None => Ok(false),
         },
-        Call::PathIn => Ok(path_in(alloc, "town", "stops.txt")?.as_str() == "town/stops.txt"),
-        Call::PathLine => {
+        WordCall::PathIn => Ok(path_in(alloc, "town", "stops.txt")?.as_str() == "town/stops.txt"),
+        WordCall::PathLine => {
             let line = path_line(alloc, "x", &ReadFault::Read)?;
             Ok(line.as_slice() == b"ttm: x: read fault\n".as_slice())
         }
-        Call::ReadAll => reads_all(alloc),
+        WordCall::ReadAll => reads_all(alloc),
     }
 }
 
@@ -103,7 +105,7 @@ fn reads_all(alloc: Global) -> Result<bool, AllocError> {
 }
 
 /// The trial of `task_of`.
-pub(crate) fn try_task(alloc: Global, asked: Asked) -> Outcome {
+pub fn try_task(alloc: Global, asked: Asked) -> Outcome {
     match words_of(alloc, asked) {
         Ok(words) => try_words(alloc, &words, asked),
         Err(_) => Outcome::Inputs,
@@ -117,7 +119,7 @@ fn words_of(alloc: Global, asked: Asked) -> Result<Vec<String>, AllocError> {
         words.push(String::from_str(alloc, word)?)?;
     }
     match asked {
-        Asked::Study => (),
+        Asked::Study | Asked::Option => (),
         Asked::Help => words.push(String::from_str(alloc, "--help")?)?,
         Asked::Nonsense => words.push(String::from_str(alloc, "--nope")?)?,
     }
@@ -125,7 +127,19 @@ fn words_of(alloc: Global, asked: Asked) -> Result<Vec<String>, AllocError> {
 }
 
 fn try_words(alloc: Global, words: &[String], asked: Asked) -> Outcome {
-    Outcome::of(|| asks(alloc, words, asked))
+    match asked {
+        Asked::Option => Outcome::of(|| has_text(alloc, words)),
+        _ => Outcome::of(|| asks(alloc, words, asked)),
+    }
+}
+
+/// Whether `text_of` gives the text of an option.
+fn has_text(alloc: Global, words: &[String]) -> Result<bool, AllocError> {
+    match text_of(alloc, words, "within") {
+        Ok(Some(text)) => Ok(text.as_str() == "1800"),
+        Ok(None) => Ok(false),
+        Err(fault) => told(matches!(fault, WordFault::Memory)),
+    }
 }
 
 /// Whether the arguments are taken for what they ask.

@@ -4,7 +4,7 @@ use std::alloc::AllocError;
 
 /// What comes of the trial of a call.
 #[derive(Clone, Copy, PartialEq, Eq)]
-pub(crate) enum Outcome {
+pub enum Outcome {
     /// It gave the right value.
     Right,
     /// It told out of memory, and gave the right value when it was made again.
@@ -19,7 +19,7 @@ pub(crate) enum Outcome {
 
 impl Outcome {
     /// What comes of a call that is made once more where it tells out of memory.
-    pub(crate) fn of<F: Fn() -> Result<bool, AllocError>>(call: F) -> Outcome
+    pub fn of<F: Fn() -> Result<bool, AllocError>>(call: F) -> Outcome
         requires { F.IsAlwaysCallable call }
     {
         match call() {
@@ -29,7 +29,7 @@ impl Outcome {
     }
 
     /// What comes of a call that gave a value at once.
-    pub(crate) fn at_once(is_right: bool) -> Outcome {
+    pub fn at_once(is_right: bool) -> Outcome {
         if is_right {
             Outcome::Right
         } else {
@@ -38,7 +38,7 @@ impl Outcome {
     }
 
     /// What comes of a call that told out of memory, and this when it was made again.
-    pub(crate) fn again(second: Result<bool, AllocError>) -> Outcome {
+    pub fn again(second: Result<bool, AllocError>) -> Outcome {
         match second {
             Ok(true) => Outcome::RightAgain,
             _ => Outcome::WrongAgain,
@@ -46,7 +46,7 @@ impl Outcome {
     }
 
     /// The same in words.
-    pub(crate) fn words(self) -> &'static str {
+    pub fn words(self) -> &'static str {
         match self {
             Outcome::Right => "right",
             Outcome::RightAgain => "refused, and right when asked again",
@@ -57,13 +57,13 @@ impl Outcome {
     }
 
     /// Whether the call is as it should be, as far as it was made.
-    pub(crate) fn is_right(self) -> bool {
+    pub fn is_right(self) -> bool {
         !matches!(self, Outcome::Wrong | Outcome::WrongAgain)
     }
 }
 
 /// What a call tells by an error: out of memory, or anything else, which is wrong.
-pub(crate) fn told(is_memory: bool) -> Result<bool, AllocError> {
+pub fn told(is_memory: bool) -> Result<bool, AllocError> {
     if is_memory {
         Err(AllocError)
     } else {
