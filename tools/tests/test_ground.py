@@ -19,7 +19,7 @@ from ttm_tools.ground.fitting import fitted, in_page
 from ttm_tools.ground.packing import as_bytes, as_numbers, packed, read_packed, signed, unpacked, unsigned
 from ttm_tools.ground.tags import area_of, line_of, name_of
 from ttm_tools.ground.thinning import lengths_of, signed_hectares, thinned
-from ttm_tools.views.classes import NEAR, TABLE, TOKENS
+from ttm_tools.views.classes import NEAR, TOKENS
 from ttm_tools.views.ground import freest
 from ttm_tools.web.page.document import host_of, policy_of
 
@@ -203,19 +203,23 @@ def test_a_page_draws_the_ground_below_its_lines_and_names_the_source(town: Town
 
 
 def test_areas_are_multiplied_with_the_ground_and_end_at_parks(town: Town, browser: Browser) -> None:
-    """A cell of 2 km around C is multiplied with the land, but not with the park."""
+    """A cell of a kilometre around C is multiplied with the land, but not with the park; the mark in it is not."""
     town.matrix(town_matrix(True))
-    stops = [["A", 0.0, 9.0, ""], ["B", 0.0, 9.01, ""], ["C", 0.01, 9.01, 2000], ["D", 0.02, 9.0, ""]]
+    stops = [["A", 0.0, 9.0, ""], ["B", 0.0, 9.01, ""], ["C", 0.01, 9.01, 1000], ["D", 0.02, 9.0, ""]]
     cells = town.write("cells.csv", "id,lat,lon,width", stops)
+    beside, inside = (0.01, 9.01 + 400 * METRE), (0.01, 9.01 + 30 * METRE)
+    browser.open(page(town, "--points", cells), "view=times&from=A")
+    plain, mark = (channels(drawn(browser, "places", *place)) for place in (beside, inside))
     browser.open(page(town, "--ground", town_ground(town), "--points", cells), "view=times&from=A")
-    assert browser.colour("C").lower() != TOKENS["land"]
-    assert drawn(browser, "places", 800 * METRE, 9 + 300 * METRE) == TOKENS["park"]
-    near = TABLE["scales"]["near"][-1]
-    assert all(int(low, 16) <= int(high, 16) for low, high in zip(channels(browser.colour("C")), channels(near)))
+    assert drawn(browser, "places", 800 * METRE, 9 + 650 * METRE) == TOKENS["park"]
+    multiplied = [cell * land / 255 for cell, land in zip(plain, channels(TOKENS["land"]))]
+    assert channels(drawn(browser, "places", *beside)) == pytest.approx(multiplied, abs=1)
+    assert channels(drawn(browser, "places", *inside)) == mark != plain
+    assert multiplied != pytest.approx(plain, abs=1)
 
 
-def channels(colour: str) -> list[str]:
-    return [colour[at : at + 2] for at in (1, 3, 5)]
+def channels(colour: str) -> list[int]:
+    return [int(colour[at : at + 2], 16) for at in (1, 3, 5)]
 
 
 def test_a_ground_of_elsewhere_is_refused(town: Town) -> None:

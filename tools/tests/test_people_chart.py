@@ -148,3 +148,13 @@ def test_the_table_has_a_row_for_each_group() -> None:
     assert header[:3] == ["Group", "Scenario", "People"]
     assert rows[0] == ["all", "cut", "380", "96.9", "90.1", "−7\u202f%", "30", "45", "30"]
     assert rows[1] == ["none", "cut", "0", "none", "none", "", "0", "0", "0"]
+
+
+def test_all_people_are_the_first_group_only_if_it_is_a_total() -> None:
+    low, high = np.array([10.0, 0, 0, 0, 0, 0]), np.array([0.0, 20, 0, 0, 0, 0])
+    words = ChartWords("jobs within 30 min")
+
+    def total(**groups: Any) -> float:
+        return StudyChanges(words, "30", "jobs", BEFORE, {"cut": AFTER}, groups).of("cut").total
+
+    assert (total(all=low + high, low=low, high=high), total(low=low, high=high)) == (30, 30)

@@ -21,7 +21,7 @@ ORDER, GROUPS = f"{PEOPLE}/order.png", f"{PEOPLE}/groups.png"
 
 @dataclass(frozen=True)
 class StudyChanges:
-    """Access before and in each scenario, and who lives where: the first group is everybody."""
+    """Access before and in each scenario, and how many people of each group live where."""
 
     words: ChartWords
     minutes: str
@@ -30,9 +30,17 @@ class StudyChanges:
     after: dict[str, Floats]  # by scenario
     groups: dict[str, Floats]  # people by place
 
+    @property
+    def all_people(self) -> Floats:
+        """All people: the first group if no other is larger at any place, such as a total, else the sum of all."""
+        first, *others = self.groups.values()
+        is_total = all(bool((first >= other).all()) for other in others)
+        summed: Floats = np.sum([first, *others], axis=0)
+        return first if is_total else summed
+
     def of(self, scenario: str, group: str | None = None) -> PersonChanges:
-        """The changes of a group of people; without a name those of everybody."""
-        return PersonChanges(self.base, self.after[scenario], self.groups[group or next(iter(self.groups))])
+        """The changes of a group of people; without a name those of all people."""
+        return PersonChanges(self.base, self.after[scenario], self.groups[group] if group else self.all_people)
 
 
 def study_changes(whole: StudyMatrix) -> StudyChanges:

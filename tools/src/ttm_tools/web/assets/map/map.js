@@ -29,6 +29,7 @@ export class PageMap {
     this.lines = {}; // on the world, and of which numbers
     this.ground = head.ground === null ? null : new GroundLayer(numbers.ground);
     this.under = []; // what additions paint below the places, and
+    this.part = "all"; // of places that is painted: all, the fills of cells, or the marks in them and of stops
     this.areasUnder = []; // areas that additions paint below all of these: each says whether it paints any
     this.over = []; // above them
     this.nowhere = (/** @type {any} */ _event) => {}; // where a click is near no place
@@ -222,9 +223,8 @@ export class PageMap {
     if (!this.hasSquares) {
       this.paintChanges(pen, view);
     }
-    if (this.ground === null || !this.hasSquares) {
-      this.paintPlaces(pen, view);
-    }
+    this.part = this.ground === null || !this.hasSquares ? "all" : "marks";
+    this.paintPlaces(pen, view);
     if (this.hasSquares) {
       this.paintChanges(pen, view);
     }
@@ -242,6 +242,7 @@ export class PageMap {
     pen.globalCompositeOperation = "multiply";
     areas.forEach((area) => area.paint(pen, view));
     if (this.hasSquares) {
+      this.part = "fills";
       this.paintPlaces(pen, view);
     }
     pen.globalCompositeOperation = "source-over";
@@ -343,14 +344,16 @@ export class PageMap {
     for (const place of some) {
       const x = this.points[2 * place] * view.scale - view.x, y = this.points[2 * place + 1] * view.scale - view.y;
       if (this.areas.any && this.areas.has(place)) {
-        if (mark.shape !== "ring") {
+        if (mark.shape !== "ring" && this.part !== "marks") {
           this.areas.paint(pen, view, place, colourOfCell(mark));
         }
-        paintWithin(pen, mark, x, y, this.areas.sizeOf(place, view));
+        if (this.part !== "fills") {
+          paintWithin(pen, mark, x, y, this.areas.sizeOf(place, view));
+        }
       } else if (numbers.widths[place] > 0) {
         const sides = [this.sideOf(place), this.sideOf(place, numbers.heights)];
-        paintCell(pen, mark, x, y, ...sides.map((side) => Math.max(side * view.scale, LEAST_SQUARE)));
-      } else {
+        paintCell(pen, mark, x, y, sides.map((side) => Math.max(side * view.scale, LEAST_SQUARE)), this.part);
+      } else if (this.part !== "fills") {
         paintSmall(pen, mark, x, y, radius);
       }
     }

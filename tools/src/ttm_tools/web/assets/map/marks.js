@@ -32,13 +32,16 @@ export function paintSmall(pen, mark, x, y, radius) {
   }
 }
 
-/** A place's cell with a mark of its class in it. */
-export function paintCell(pen, mark, x, y, wide, high) {
-  if (mark.shape !== "ring") { // a cell beyond the slider has no colour, so that lines show
+/** A place's cell with a mark of its class in it, or one of these. */
+export function paintCell(pen, mark, x, y, sides, part = "all") {
+  const [wide, high] = sides;
+  if (mark.shape !== "ring" && part !== "marks") { // a cell beyond the slider has no colour, so that lines show
     pen.fillStyle = colourOfCell(mark);
     pen.fillRect(x - wide / 2, y - high / 2, wide, high);
   }
-  paintWithin(pen, mark, x, y, Math.min(wide, high));
+  if (part !== "fills") {
+    paintWithin(pen, mark, x, y, Math.min(wide, high));
+  }
 }
 
 export function colourOfCell(mark) {
