@@ -210,7 +210,7 @@ class Network:
         executor: Executor | None = None,
         progress: Progress = None,
     ) -> Matrix:
-        """Travel times from door to door. Time grows with the smaller of the numbers of origins and destinations.
+        """Travel times from door to door. Each origin is a search, so time grows with the number of origins.
 
         Parameters
         ----------
@@ -660,7 +660,9 @@ class ArgumentError(TtmError, ValueError):
 class InputError(TtmError, ValueError):
     """Something is wrong with a file or frame."""
 
-    source: str  # file, or argument such as "origins"
+    @property
+    def source(self) -> str:
+        """The file, or an argument such as "origins"."""
     record: int | None  # the header of a file is 1; a frame's rows count from 0
     column: str | None
     value: str | None

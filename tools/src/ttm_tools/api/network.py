@@ -99,7 +99,7 @@ class Network(NetworkFrames):
         executor: Executor | None = None,
         progress: Progress = None,
     ) -> Matrix:
-        """Travel times from door to door. Time grows with the smaller of the numbers of origins and destinations.
+        """Travel times from door to door. Each origin is a search, so time grows with the number of origins.
 
         Parameters
         ----------

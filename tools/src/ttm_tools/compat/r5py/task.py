@@ -82,7 +82,7 @@ class RegionalTask:
         )
 
     def question(self, most: int) -> Question:
-        """The same for the library; journeys that take more seconds count as not reached."""
+        """The question that the library answers; journeys that take more seconds count as not reached."""
         first, last = self.times.window
         return Question(
             self.times.date,
@@ -145,7 +145,7 @@ def seconds_of(argument: str, given: datetime.timedelta, most: datetime.timedelt
 
 
 def refuse_number(argument: str, given: object) -> None:
-    """Refuses a number in place of a duration, since r5r's are minutes."""
+    """Refuses a number instead of a duration, since r5r's are minutes."""
     if not isinstance(given, datetime.timedelta):
         what = f"{given!r} is not a timedelta"
         raise NotAvailable(argument, what, "such as datetime.timedelta(minutes=60)")

@@ -125,7 +125,7 @@ def content_of(whole: Matrix, matrix: Matrix, stops: Stops, options: PageOptions
 
 
 def content_with(whole: Matrix, ground: PagePlaces, counts: Counts, people: int, options: PageOptions) -> Content:
-    """The same where it is known what is counted: by stop of the whole matrix, the people last."""
+    """Reads a page of what is already counted, by stop of the whole matrix; the people are the last columns."""
     known = whole.stops_and_origins()
     at = {name: number for number, name in enumerate(known)}
     there = counts.numbers[[at[name] for name in ground.places.identifiers]]
