@@ -25,7 +25,7 @@ def test_each_block_of_the_page_runs(room: Room, program: str, monkeypatch: pyte
         pytest.skip("docs/howto/python.md is missing")
     monkeypatch.setenv("TTM_PROGRAM", program)
     blocks = re.findall(r"^```python\n(.*?)^```$", PAGE.read_text(), re.MULTILINE | re.DOTALL)
-    assert len(blocks) == 9
+    assert len(blocks) == 10
     names: dict[str, object] = {}
     with standing_in(room.folder):
         for block in blocks:

@@ -223,8 +223,8 @@ def test_without_people_each_origin_counts_once_and_the_nearest_has_its_table(pl
     assert place.ran("study", laid_out(place, study))[2] == 0
     kind = {"opportunity": "schools", "scenario": "base", "group": "origins", "window": "night"}
     (line, _) = [row for row in table(place, "equity_nearest.csv") if kind.items() <= row.items()]
-    # five of nine stops walk 435 seconds to a school, four have one
-    assert (line["people"], line["mean_minutes"]) == ("9", f"{5 * 7.25 / 9:.4f}")
+    # five of nine stops walk 434 seconds to a school, four have one
+    assert (line["people"], line["mean_minutes"]) == ("9", f"{5 * 434 / 60 / 9:.4f}")
 
 
 def test_a_day_without_trips_is_refused(place: Place) -> None:  # noqa: F811
