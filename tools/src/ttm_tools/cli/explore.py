@@ -56,7 +56,7 @@ def describe(parser: Parser) -> None:
     parser.add_number("--port", "the port of the page; 0 takes a free one", Range("", 0, MOST_PORT), default=0)
     parser.add_flag("--no-browser", "print the address alone", "a browser opens it")
     parser.add_program()
-    parser.add_text("--leaflet", "FOLDER", "the folder of Leaflet", default=LEAFLET)
+    parser.add_text("--leaflet", "FOLDER", "the folder of Leaflet", default=LEAFLET, without="the one of the tools")
 
 
 def options_of(args: argparse.Namespace) -> "ExploreOptions":

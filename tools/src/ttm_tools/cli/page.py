@@ -59,7 +59,7 @@ def describe(parser: Parser) -> None:
     parser.add_text("--words", "TEXT", what, without="the page names neither")
     add_ground(parser)
     add_tiles(parser)
-    parser.add_text("--leaflet", "FOLDER", "the folder of Leaflet", default=LEAFLET)
+    parser.add_text("--leaflet", "FOLDER", "the folder of Leaflet", default=LEAFLET, without="the one of the tools")
     parser.add_out("the file of the page", "", "page.html")
     parser.add_matrix()
 
