@@ -270,9 +270,9 @@ def test_wheel_is_installed_by_pip(of: Packages) -> None:
     data = next((venv / "lib").rglob("ttm_tools/data"))
     assert (data / "PROVED").read_text() == of.share("doc/ttm/PROVED")
     assert of.output(venv / "bin/ttm-tools", "docs", "--path") == f"{data}/html/docs/README.html\n"
-    page = of.output(venv / "bin/ttm-tools", "page", "--help", COLUMNS="1000")
     leaflet = data.parent / "web/assets/leaflet"
-    assert f"default {leaflet}" in page
+    shipped = "from ttm_tools.core.shipped import LEAFLET; print(LEAFLET)"
+    assert of.output(venv / "bin/python", "-c", shipped) == f"{leaflet}\n"
     of.output("sh", "-c", f"cd {leaflet} && sha256sum --check --strict SHA256SUMS")
     assert "Redistribution and use in source and binary forms" in (leaflet / "LICENSE.txt").read_text()
     found = "import ttm_tools.engine.arguments as it; print(it.program_at(None))"
