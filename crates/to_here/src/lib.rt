@@ -1,9 +1,9 @@
 //! The durations from every origin to one destination, for each departure of a window.
 //!
 //! `reversal` builds the mirrored network and lists the deadlines of a destination. A search over the mirrored network
-//! gives each deadline a label for each origin. This crate turns the labels into durations: [`advance_row`] takes the
-//! labels of a slice of deadlines, however they were searched, and [`finish_row`] promises the durations of the
-//! definition.
+//! gives each deadline a label for each origin. This crate turns the labels into durations. [`durations_to`] does all of
+//! this in one call, and promises the durations of the definition. [`advance_row`] takes the labels of a slice of
+//! deadlines, however they were searched.
 //!
 //! # Terms
 //!
@@ -16,6 +16,7 @@
 //!
 //! # Modules, in reading order
 //!
+//! - `search`: [`durations_to`], the whole search, where [`fits_horizon`] allows it.
 //! - `row`: all origins. [`begin_row`], then [`advance_row`] for slices of deadlines until [`is_row_full`], then
 //!   [`finish_row`], whose contract says that the durations are the least ones.
 //! - `front`: one origin, by [`front_of`], [`no_durations`], [`advance`] and [`lower_to_walk`].
@@ -26,7 +27,9 @@
 mod front;
 mod laws;
 mod row;
+mod search;
 
 pub use front::{advance, front_of, lower_to_walk, no_durations};
 pub use laws::{cut_labels_suffice, fronts_give_durations, full_fronts_are_enough};
 pub use row::{OriginDurations, advance_row, begin_row, finish_row, is_row_full, last_fronts};
+pub use search::{NetworkPair, durations_to, fits_horizon};

@@ -63,7 +63,12 @@ pub fn advance_row(window: Window, deadlines: &[u32], labels: &[u32], row: &mut 
 }
 
 /// Takes the labels of further deadlines for one origin.
-fn advance_origin(window: Window, deadlines: &[u32], labels: &[u32], origin: &mut OriginDurations)
+pub(crate) fn advance_origin(
+    window: Window,
+    deadlines: &[u32],
+    labels: &[u32],
+    origin: &mut OriginDurations,
+)
     requires fits { Fits window }
     requires labels { length labels.now ≡ length deadlines.now }
     requires origin { IsOriginOf window origin.old }
