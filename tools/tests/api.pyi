@@ -51,6 +51,7 @@ __all__ = [
     "run_study",
     "sample",
     "settings",
+    "who_gains",
     "write_plan",
 ]
 
@@ -592,6 +593,19 @@ def people_by_band(
     access: DataFrame, origins: DataFrame, *, people: str | Sequence[str], limits: Sequence[float]
 ) -> DataFrame:
     """How many people have at least so many opportunities: keys of `access`, group, limit, people, percent."""
+
+def who_gains(
+    access: DataFrame,
+    origins: DataFrame,
+    *,
+    people: str | Sequence[str],
+    by: str | None = None,
+    all: str | None = None,
+    thresholds: Sequence[float] = (10, 25),
+    least: float = 0,
+    base: str | None = None,
+) -> DataFrame:
+    """How many people gain and how many lose access, by group."""
 
 def access_change(access: GeoDataFrame, scenario: str, base: str | None = None) -> GeoDataFrame:
     """Access before and after: other keys of `access`, before, after, change, percent, what (str), geometry."""

@@ -10,6 +10,7 @@ from ttm_tools.core.columns import BY_ORIGIN, EXPLAINED, JOURNEYS, TableColumn, 
 from ttm_tools.measures.columns import header, markdown_table
 from ttm_tools.measures.comparison import KINDS
 from ttm_tools.measures.equity import Equity
+from ttm_tools.measures.gains import Gains
 from ttm_tools.measures.nearness import Nearness
 from ttm_tools.measures.registry import COMPETITIONS, DECAYS, FAIRNESS, Measure, markdown_table as measure_table
 from ttm_tools.measures.service import Service
@@ -35,7 +36,7 @@ def test_options_and_page_have_all_measures(
     assert all(callable(measure.compute()) for measure in measures.values())
 
 
-@pytest.mark.parametrize("kind", [Equity, Nearness, Service])
+@pytest.mark.parametrize("kind", [Equity, Gains, Nearness, Service])
 def test_the_page_has_all_columns(kind: type[Any]) -> None:
     table = markdown_table(kind)
     assert table in PAGE.read_text()

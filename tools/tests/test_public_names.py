@@ -15,7 +15,7 @@ EXPORTED = {  # all that `from MODULE import *` gives
         "ArgumentError Decay EngineError InputError LimitError Matrix MissingDependencyError Network "
         "NoServiceWarning Note Question RepairWarning RoundingWarning Sample Scenario TtmError TtmWarning "
         "UnreachableWarning access_change allocate check_feed engine_version equity grid open_matrix open_network "
-        "people_by_band prepare_feed read_plan run_study sample settings write_plan"
+        "people_by_band prepare_feed read_plan run_study sample settings who_gains write_plan"
     ),
     "ttm_tools.r5py": (
         "DetailedItineraries DetailedItinerariesComputer ElevationCostFunction Isochrones NotAvailable RegionalTask"

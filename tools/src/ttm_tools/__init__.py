@@ -106,6 +106,7 @@ if TYPE_CHECKING:
     from .api.cells import allocate, grid
     from .api.decay import Decay
     from .api.feeds import check_feed, prepare_feed
+    from .api.gains import who_gains
     from .api.matrix import Matrix
     from .api.matrix_files import open_matrix
     from .api.measures import access_change, equity, people_by_band
@@ -158,6 +159,7 @@ MODULES = {
     "run_study": "study.from_python",
     "sample": "api.sample",
     "settings": "core.settings",
+    "who_gains": "api.gains",
     "write_plan": "api.scenario",
 }
 OF_VERSION_2 = {"EngineArguments": "engine.arguments", "Result": "matrices.result", "matrix": "compat.v2"}
@@ -200,6 +202,7 @@ __all__ = [
     "run_study",
     "sample",
     "settings",
+    "who_gains",
     "write_plan",
 ]
 

@@ -30,6 +30,10 @@ opportunities); their mean time; median_minutes and nine_tenths_minutes (the lea
 tenths, of all people reach it); and losers_percent (those who need --lose percent longer or more, or no longer reach
 it). --cutoff chooses the number of opportunities.
 
+--gains 10,25 prints who gains and who loses instead, by scenario, group and threshold: how many people gain or lose
+at least so many percent of the base's access, their percentage, and the access of the mean person before and after.
+The last group is all: the sum of the groups, or the one that --all names.
+
 --measure theil prints Theil's T of each group and of all together, with its parts within and between groups;
 concentration prints the concentration index by --rank, such as the mean income of an origin; poverty prints the
 measures of Foster, Greer and Thorbecke (fgt0, fgt1, fgt2) for people below --line.
@@ -48,6 +52,12 @@ def describe(parser: Parser) -> None:
     parser.add_base()
     what = "the loss, in percent of the base's access, from which people count as losers"
     parser.add_number("--lose", what, decimals("percent", 0, 100), default=10)
+    what = "print who gains and who loses at least these percentages of the base's access instead"
+    parser.add_numbers("--gains", what, decimals("percent", 0.1, 100), without="none")
+    what = "with --gains, the number of opportunities below which a change counts as none"
+    parser.add_number("--gain-least", what, decimals("", 0, 1e15), default=0)
+    what = "with --gains, the group that counts everyone, or sum"
+    parser.add_text("--all", "NAME", what, without="the sum of all groups")
     what = "print Theil's T, the concentration index, or poverty of access instead"
     parser.add_choice("--measure", FAIRNESS, what, without="none")
     what = "a file with a column such as income, which ranks the origins; concentration needs it"
@@ -63,10 +73,15 @@ def run(args: argparse.Namespace) -> None:
     needed = {"concentration": args.rank, "poverty": args.line}
     if any((args.measure == name) != (value is not None) for name, value in needed.items()):
         raise ArgumentError("--measure concentration needs --rank, and poverty --line; no other measure takes them")
+    instead = "--measure" if args.measure else "--gains" if args.gains else ""
     if args.measure:
-        refuse_unused(args, "does nothing with --measure", "lose")
-    if args.measure and args.picture:
-        raise ArgumentError("--picture does not go with --measure")
+        refuse_unused(args, "does nothing with --measure", "lose", "gains")
+    elif args.gains:
+        refuse_unused(args, "does nothing with --gains", "lose")
+    if not args.gains:
+        refuse_unused(args, "does nothing without --gains", "gain_least", "all")
+    if instead and args.picture:
+        raise ArgumentError(f"--picture does not go with {instead}")
     needs("numpy", *(["matplotlib"] if args.picture else []))
     from ..matrices.joined import labels_of
     from ..api.access_files import read_access
@@ -87,11 +102,27 @@ def run(args: argparse.Namespace) -> None:
     options = EquityOptions(args.base or table.base, args.lose, kinds)
     if args.measure:
         return further(args, table, people, kinds)
+    if args.gains:
+        return gains(args, table, people, kinds)
     figure = figure_of(table, people, options) if args.picture else None
     with output(args.out) as file:
         write_equity(file, measured(table, people, options), args.form)
     if figure is not None:
         write_picture(args.picture, figure)
+
+
+def gains(args: argparse.Namespace, table: "AccessTable", people: "Counts", kinds: "Sequence[AccessKind]") -> None:
+    """Writes who gains and who loses."""
+    from ..views.gains import GainOptions, gain_rows, groups_of, write_gains
+
+    if table.of_times:
+        raise InputError(table.path, "--gains needs a table of access, and this one has times to the nearest")
+    if len(table.scenarios) < 2:
+        raise InputError(table.path, "--gains compares scenarios, and there is one: name another table as --base")
+    groups = groups_of(", ".join(args.people), people, args.all)
+    options = GainOptions(args.base or table.base, args.gains, args.gain_least)
+    with output(args.out) as file:
+        write_gains(file, gain_rows(table, kinds, groups, options), args.form)
 
 
 def further(args: argparse.Namespace, table: "AccessTable", people: "Counts", kinds: "Sequence[AccessKind]") -> None:

@@ -50,6 +50,9 @@ LIMIT = "the limit: opportunities, or minutes to the nearest"
 OF_BAND = named("people", "percent", what="those of the group within it")
 BANDS = (*OF_PEOPLE, *named("at_least", what=LIMIT), *OF_BAND)
 BANDS_OF_NEAREST = (*OF_PEOPLE_NEAREST, *named("within_minutes", what=LIMIT), *OF_BAND)
+WHO_GAINS = named(  # followed by the columns of `Gains`
+    "scenario", "base", "base_date", "percentile", "opportunity", "minutes", "group", "threshold"
+)
 ON_FOOT = "on foot, before, between and after rides"
 JOURNEYS = (
     *named("scenario", "origin", "destination", "percentile"),

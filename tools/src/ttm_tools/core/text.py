@@ -7,6 +7,7 @@ would control a terminal, or become markup in Markdown and HTML.
 import html
 import math
 import unicodedata
+from decimal import Decimal
 from typing import Collection, Sequence
 
 UNPRINTABLE = {"Cc", "Cf", "Zl", "Zp"}  # Unicode categories: control, format, line and paragraph separators
@@ -63,6 +64,13 @@ def decimal(number: float, decimals: int = 6) -> str:
     if math.isnan(number):
         return ""
     return str(int(number)) if number == int(number) else f"{number:.{decimals}f}".rstrip("0").rstrip(".")
+
+
+def precise(number: float) -> str:
+    """Return a number with at most 12 significant digits, no exponent and no needless zeros; "" for NaN."""
+    if math.isnan(number):
+        return ""
+    return "0" if not number else f"{Decimal(f'{number:.11e}').normalize():f}"
 
 
 def significant(number: float) -> str:
