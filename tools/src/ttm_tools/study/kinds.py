@@ -127,7 +127,7 @@ def end_in(value: Any) -> str:
 
 
 def windows_by_rule(entry: Entry) -> tuple[Window, ...]:
-    """Windows that begin at `from` and every so many minutes later, as long as a whole one ends by `to`."""
+    """Windows that begin at `from` and every `every` minutes later, as long as a whole one ends by `to`."""
     refuse_mixed(entry, ("name",), "every")
     entry.only(("from", "to", "every", "length"))
     first, end = entry.read("from", MINUTE), entry.read("to", END)
