@@ -83,6 +83,8 @@ class Entry:
         """Return a value of a kind, or the default; without a default the value is needed."""
         value = self.get(key) if default is None else self.values.get(key, default)
         try:
+            if kind.of_table is not None and isinstance(value, dict):
+                return kind.of_table(self.table(key))
             return kind.convert(self.inner(key) if kind.of_tables else value)
         except WrongItem as fault:
             raise self.fault_of_item(key, fault) from None

@@ -34,6 +34,7 @@ class Kind(Generic[Value]):
     names: tuple[str, ...] = ()  # the allowed values, if they can be listed; an error shows the nearest
     is_shown: bool = True  # in the message
     of_tables: bool = False  # the value is a list of tables
+    of_table: Callable[[Any], Value] | None = None  # converts a single table, if one is allowed instead of a list
 
 
 def nearest_name(name: str, names: Iterable[str]) -> str | None:

@@ -2,6 +2,7 @@
 time of day, and their part of the report.
 """
 
+import itertools
 from pathlib import Path
 from typing import Any, BinaryIO, Iterator, Sequence
 
@@ -22,6 +23,7 @@ from ...views.windows import FigureLabels, WindowColumn, figure_by_time, figure_
 from ..counted import COUNTED, PEOPLE
 from ..document import Document
 from ..joining import MATRIX
+from ..kinds import Window
 from ..outside import with_outside
 from ..settings import DayWindow
 from ..stages import Stage
@@ -199,6 +201,8 @@ def write_windows(document: Document, results: StudyMatrix, records: Records) ->
     document.heading("By time of day", 3)
     rows = [[*question.head, display_text(path_of(results, question))] for question in questions]
     document.table("Windows, each with its matrix", ["Day", "Window", "From", "To", "Matrix"], rows)
+    if overlap_by_rule(results.study.run.windows):
+        document.paragraph("Windows overlap: some departures are in more than one.")
     document.paragraph(f"Comparisons, maps and the page are those of the first: {questions[0].label}.")
     if "windows_access" not in records:
         return
@@ -210,6 +214,13 @@ def write_windows(document: Document, results: StudyMatrix, records: Records) ->
         for name, paths in pictures_of(results).items():
             for path, what in zip(paths, KINDS.values()):
                 document.picture(path, f"{display_text(name)}: {what}")
+
+
+def overlap_by_rule(windows: Sequence[Window]) -> bool:
+    """Whether windows that a rule names by their first departures share departures."""
+    return all(window.is_named_by_first for window in windows) and any(
+        after.first <= before.last for before, after in itertools.pairwise(windows)
+    )
 
 
 def lines_reported(path: str, kind: list[str], columns: Sequence[str]) -> Iterator[list[str]]:
