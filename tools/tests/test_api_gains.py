@@ -52,7 +52,7 @@ def test_a_change_below_the_least_counts_as_none() -> None:
 
 def test_everyone_is_a_named_group_or_the_sum() -> None:
     both: dict[str, Any] = {"people": ["people", "old"], "thresholds": [10]}
-    message = "people is at least the sum of old at every origin: set all='people', or all='sum'"
+    message = "people is nowhere smaller than old, and may count everyone: set all='people', or all='sum'"
     with pytest.raises(ArgumentError, match=message):
         who_gains(access([110, 75, 4]), HOMES, **both)
     for named, people in (("people", 100), ("sum", 104)):

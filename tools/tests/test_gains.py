@@ -7,7 +7,7 @@ import pytest
 
 from helpers import Town, read
 from ttm_tools.core.text import precise
-from ttm_tools.measures.gains import GainCase, gains
+from ttm_tools.measures.gains import GainCase, gains, with_everyone
 
 HEAD = (
     "scenario,base,base_date,percentile,opportunity,minutes,group,threshold,people,people_gain,people_lose,"
@@ -55,11 +55,20 @@ def test_a_group_of_everyone_is_named(small: Town) -> None:
     people = small.write("people.csv", "stop_id,residents,old", [["A", 30, 1], ["B", 30, 2], ["C", 3, 3]])
     access = small.path("access.csv")
     arguments = ["equity", access, "--people", people, "--gains", "10"]
-    message = f"{people}: residents is at least the sum of old at every origin: set --all residents, or --all sum"
+    message = (
+        f"{people}: residents is nowhere smaller than old, and may count everyone: set --all residents, or --all sum"
+    )
     small.refused(message, *arguments)
     for name, count in (("residents", "63"), ("sum", "69")):
         rows = read(small.ran(*arguments, "--all", name)[0])
         assert [(row["group"], row["people"]) for row in rows] == [("residents", "63"), ("old", "6"), ("all", count)]
+
+
+def test_a_large_group_is_not_taken_for_everyone() -> None:
+    people = {"low": np.array([2.0, 1.0]), "middle": np.array([4.0, 4.0]), "high": np.array([1.0, 2.0])}
+    assert with_everyone(people, None)["all"].tolist() == [7, 7]
+    with pytest.raises(ValueError, match="^middle$"):
+        with_everyone({"middle": people["middle"], "low": people["low"]}, None)
 
 
 @pytest.mark.parametrize(

@@ -218,7 +218,7 @@ def test_what_is_done_is_not_done_again_and_what_changed_is(place: Place) -> Non
         return [line.removesuffix(" ..") for line in errors.splitlines() if line.endswith(" ..")]
 
     before = ["feed", "scenarios", "walks", "origins", "counted", "opportunities", "people", "days"]
-    results = ["access", "equity", "compare_cut", "report"]
+    results = ["access", "equity", "who_gains", "compare_cut", "report"]
     assert stages() == [*before, "matrix", *results]
     notes = (place.folder / "nine/study.json").read_bytes()
     assert stages() == []
@@ -226,7 +226,7 @@ def test_what_is_done_is_not_done_again_and_what_changed_is(place: Place) -> Non
     (place.folder / "nine/access.csv").write_text("spoilt\n")
     assert stages() == ["access"]
     place.write("people.csv", "stop_id,residents", [[stop, 5] for stop in STOPS])
-    assert stages() == ["people", "equity", "report"]
+    assert stages() == ["people", "equity", "who_gains", "report"]
     place.write("cut.csv", "action,id,seconds", [["remove_route", "R", ""]])
     assert stages() == ["scenarios", "days", "matrix", *results]
 
@@ -289,7 +289,7 @@ def test_verification_computes_rows_again_and_tells_what_was_changed(place: Plac
     make_study(read_study(place.lay_out(NO_MAPS)), place.folder / "nine", ExecutorOptions(2))
     folder = place.path("nine")
     rows = "rows: those of 1 of 9 origins, chosen with --seed 7, have the same bytes\n"
-    message = f"checksums: 21 files are as study.json says\n{rows}"
+    message = f"checksums: 22 files are as study.json says\n{rows}"
     assert place.ran("study", "--verify", folder, "--seed", "7") == ("", message, 0)
     (place.folder / "nine/access.csv").write_text("spoilt\n")
     message = "ttm-tools study: access.csv: has another checksum than study.json says: it was changed\n"

@@ -94,3 +94,44 @@ def test_what_does_not_go_together_is_told(bare: Place, more: str, message: str)
     path = bare.lay_out(STUDY.replace("csv = true", more))
     out, said, status = bare.ran("study", path)
     assert (out, status) == ("", 1) and message in said and said.count("\n") == 1
+
+
+def test_who_gains_is_counted_person_by_person(place: Place) -> None:  # noqa: F811
+    """S0 has one person, S1 two, and so on; those at S7 and S8, 17 of 45, lose a tenth of the jobs in 30 minutes."""
+    path = place.lay_out(STUDY.replace("csv = true\n", "maps = false\nthresholds = [10, 50]\n"))
+    assert place.ran("study", path)[2] == 0
+    kind = {"opportunity": "jobs", "percentile": "25"}
+    access = [row for row in table(place, "access.csv") if {**kind, "cutoff": "30"}.items() <= row.items()]
+    before, after = (
+        [float(row["accessibility"]) for row in access if row["scenario"] == name] for name in ("base", "cut")
+    )
+    each = [(first, second) for home, (first, second) in enumerate(zip(before, after)) for _ in range(home + 1)]
+    rows = [row for row in table(place, "who_gains.csv") if {**kind, "minutes": "30"}.items() <= row.items()]
+    assert [(row["group"], row["threshold"]) for row in rows] == [
+        ("residents", "10"),
+        ("residents", "50"),
+        ("all", "10"),
+        ("all", "50"),
+    ]
+    for row, percent in zip(rows, [10, 50, 10, 50]):
+        lose = sum(first > second and 100 * (first - second) >= percent * first for first, second in each)
+        assert (row["people"], row["people_lose"], row["people_gain"]) == ("45", str(lose), "0")
+    assert rows[0]["people_lose"] == "17"
+    means = [sum(numbers) / 45 for numbers in zip(*each)]
+    assert [float(rows[2][name]) for name in ("mean_before", "mean_after")] == pytest.approx(means)
+    assert place.ran("study", "--verify", place.path("nine"))[2] == 0
+
+
+def test_who_gains_is_left_out_or_refused(place: Place) -> None:  # noqa: F811
+    path = place.lay_out(STUDY.replace("csv = true\n", "maps = false\nwho_gains = false\n"))
+    assert place.ran("study", path)[2] == 0
+    assert not Path(place.path("nine/who_gains.csv")).exists()
+    allowed = "allowed: 1 to 3 numbers in brackets, 0.1 to 100 percent, ascending"
+    for line, message in (
+        ("thresholds = [25, 10]", f"thresholds '[25, 10]' is invalid; {allowed}"),
+        ("gain_least = -1", "gain_least '-1' is invalid; allowed: a number from 0 to 1e+15 opportunities"),
+    ):
+        place.say(STUDY.replace("csv = true", line))
+        assert message in place.ran("study", path)[1]
+    place.say(STUDY.replace("csv = true", "who_gains = true").replace('people = "people.csv"\n', ""))
+    assert "needs access, and people of [opportunities]" in place.ran("study", path)[1]

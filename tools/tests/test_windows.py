@@ -105,6 +105,16 @@ def test_a_study_compares_its_scenarios_in_each_window(place: Place) -> None:  #
         ("5", "early", "0", "0", "0"),
         ("5", "late", "4", "0", f"{-lost / 45:.4f}"),
     ]
+    # S5 loses 300.4 of some 1,800, a sixth; the others lose more than a quarter
+    wanted = {"opportunity": "jobs", "minutes": "10", "scenario": "cut", "group": "all"}
+    kept = [row for row in table(place, "who_gains.csv") if wanted.items() <= row.items()]
+    found_of_people = [(row["date"][-1], row["window"], row["threshold"], row["people_lose"]) for row in kept]
+    assert found_of_people == [
+        (date, window, threshold, lose)
+        for date in "45"
+        for window, both in (("early", ("0", "0")), ("late", ("30", "24")))
+        for threshold, lose in zip(("10", "25"), both)
+    ]
     report = Path(place.path("nine/report.md")).read_text()
     comparison = report[report.index("### cut compared with base") :]
     assert comparison.index("windows/compare.csv") < comparison.index("In the first window, 2026-05-04, early")

@@ -61,7 +61,7 @@ def who_gains(
     Raises
     ------
     ArgumentError
-        `all` is missing, and a group is at every origin at least the sum of the others.
+        `all` is missing, and the first group may count everyone: no other is larger at any origin.
 
     Examples
     --------
@@ -110,7 +110,7 @@ def everyone_of(groups: Mapping[str, Floats], named: str | None) -> dict[str, Fl
     except ValueError as known:
         others = ", ".join(name for name in groups if name != str(known))
         raise ArgumentError(
-            f"{known} is at least the sum of {others} at every origin: set all={str(known)!r}, or all={SUM!r}"
+            f"{known} is nowhere smaller than {others}, and may count everyone: set all={str(known)!r}, or all={SUM!r}"
         ) from None
 
 

@@ -31,8 +31,8 @@ tenths, of all people reach it); and losers_percent (those who need --lose perce
 it). --cutoff chooses the number of opportunities.
 
 --gains 10,25 prints who gains and who loses instead, by scenario, group and threshold: how many people gain or lose
-at least so many percent of the base's access, their percentage, and the access of the mean person before and after.
-The last group is all: the sum of the groups, or the one that --all names.
+at least that percentage of the base's access, which part of the group they are, and the access of the mean person
+before and after. The last group is all: the sum of the groups, or the one that --all names.
 
 --measure theil prints Theil's T of each group and of all together, with its parts within and between groups;
 concentration prints the concentration index by --rank, such as the mean income of an origin; poverty prints the

@@ -82,11 +82,12 @@ def gains(case: GainCase) -> Gains:
 
 
 def group_of_all(groups: Mapping[str, Floats]) -> str | None:
-    """A group that may count everyone: at each place it is at least the sum of the others, of which there are some."""
+    """The first of several groups, if it may count everyone: no other is larger at any place."""
     if len(groups) < 2:
         return None
-    total: Floats = np.sum(list(groups.values()), axis=0)
-    return next((name for name, people in groups.items() if bool((people >= total - people).all())), None)
+    first, *others = groups
+    is_total = all(bool((groups[first] >= groups[name]).all()) for name in others)
+    return first if is_total else None
 
 
 def with_everyone(groups: Mapping[str, Floats], named: str | None) -> dict[str, Floats]:

@@ -3,7 +3,7 @@
 from dataclasses import dataclass
 
 from ..core.limits import MOST_NUMBER
-from ..core.toml_values import TEXT, ascending, number, one_of, whole
+from ..core.toml_values import FLAG, TEXT, ascending, number, one_of, whole
 from ..measures.registry import DECAYS
 from .kinds import FILE, TEXTS, flag, setting, several
 
@@ -35,6 +35,20 @@ class ResultSettings:
         ascending(0, 10000, "minutes", False),
         "bands_nearest.csv: how many people have the nearest within these minutes; needs people and nearest",
         "[10, 20, 30]",
+    )
+    who_gains: bool | None = setting(
+        FLAG,
+        "who_gains.csv: who gains and who loses; without it, if people are named and scenarios compared",
+        "true",
+    )
+    thresholds: tuple[float, ...] = setting(
+        ascending(0.1, 100, "percent", False, 3),
+        "who_gains.csv: a smaller change, in percent of the access before, counts as none",
+        "[10, 25]",
+        (10.0, 25.0),
+    )
+    gain_least: float = setting(
+        number(0, 1e15, "opportunities"), "who_gains.csv: a smaller change counts as none, too", "100", 0.0
     )
     max_minutes: float | None = setting(
         number(0, 10000, "minutes"),

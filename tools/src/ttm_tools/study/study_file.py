@@ -141,6 +141,8 @@ def agree_on_results(study: Study, results: Entry, opportunities: Entry) -> None
     if (settings.bands or settings.nearest_bands) and not (settings.access and has_people):
         key = "bands" if settings.bands else "nearest_bands"
         raise results.fault("needs access, and people of [opportunities]", key)
+    if settings.who_gains and not (settings.access and has_people):
+        raise results.fault("needs access, and people of [opportunities]", "who_gains")
     if settings.nearest_bands and not settings.nearest:
         raise results.fault("needs nearest", "nearest_bands")
     needs_value = bool(DECAYS[settings.decay].value)

@@ -37,7 +37,7 @@ def groups_of(path: str, people: Counts, everyone: str | None) -> dict[str, Floa
         return with_everyone(groups, everyone)
     except ValueError as known:
         name, others = display_text(str(known)), [display_text(own) for own in groups if own != str(known)]
-        what = f"{name} is at least the sum of {', '.join(others)} at every origin"
+        what = f"{name} is nowhere smaller than {', '.join(others)}, and may count everyone"
         raise InputError(path, f"{what}: set --all {name}, or --all {SUM}") from None
 
 

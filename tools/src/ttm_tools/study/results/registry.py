@@ -31,6 +31,11 @@ RESULTS = (
         "its distribution among people; people by band, with stacked bars",
         "results.tables.people_stages",
     ),
+    StudyResult(
+        "`who_gains.csv`",
+        "how many people gain and lose access, by scenario, group and threshold, and the access of the mean person",
+        "results.gains.gain_stages",
+    ),
     StudyResult("`nearest.csv`", "the time to the nearest", "results.tables.nearest_stages"),
     StudyResult(
         "`equity_nearest.csv`, `equity_nearest.md`, `bands_nearest.csv`, `bands_nearest/`",

@@ -18,6 +18,7 @@ from ...measures.access_table import AccessKind, AccessTable
 from ...measures.opportunities import Counts
 from ...views import equity
 from ...views.access import ACCESS, Measured, NEAREST, long_rows
+from ...views.gains import header_of_gains
 from ...views.picture_files import write_picture
 from ...views.windows import FigureLabels, WindowColumn, figure_by_time, figure_of_heat, figure_of_maps
 from ..counted import COUNTED, PEOPLE
@@ -29,6 +30,7 @@ from ..settings import DayWindow
 from ..stages import Stage
 from ..windows import WINDOWS, matrix_of
 from .tables import LOSE, Measurement, POINTS, Records, STOPS, StudyMatrix, measurements_of
+from .gains import WHO_GAINS, are_wanted, rows_of_gains, words_of
 from .window_changes import changes_of, fields_of, write_changes
 
 HEADS = names_of(WINDOW_COLUMNS)
@@ -42,7 +44,7 @@ KINDS = {  # of pictures, and what each shows
 DECIMALS = 6
 EQUITY = f"{WINDOWS}/equity.csv"
 COLUMNS = ["date", "window", "group", "scenario", "people", "mean", "least_tenth"]  # of the report
-CHANGES = f"{WINDOWS}/compare.csv"
+CHANGES, GAINS = f"{WINDOWS}/compare.csv", f"{WINDOWS}/{WHO_GAINS}"
 CHANGE_COLUMNS = ["date", "window", "lose", "cut_off", "gain", "newly_reached", "group", "mean_change"]
 
 
@@ -61,6 +63,7 @@ def tables_stage(results: StudyMatrix, of: Measurement) -> Stage:
     by_origin = f"{WINDOWS}/{of.kind}.csv"
     by_people = EQUITY if of.heads == ACCESS else f"{WINDOWS}/equity_{of.kind}.csv"
     pictures = [PICTURES] if study.results.maps and of.heads == ACCESS else []
+    gained = [GAINS] if of.heads == ACCESS and are_wanted(results) else []
     compared = [CHANGES] if study.results.compare and of.heads == ACCESS and results.others else []
 
     def make() -> list[str]:
@@ -74,14 +77,19 @@ def tables_stage(results: StudyMatrix, of: Measurement) -> Stage:
             with output(results.at(path)) as file:
                 wide, people = with_people(results, tables)
                 write_changes(file, list(changes_of(wide, results.inputs.base, people)), people.names)
+        for path in gained:
+            with output(results.at(path)) as file:
+                write_gains_by_window(file, results, tables)
         for _ in pictures:
             draw_all(results, tables)
-        return [f"{', '.join([by_origin, by_people, *compared, *pictures])}: {quantity(len(tables), 'window')}"]
+        written = [by_origin, by_people, *compared, *gained, *pictures]
+        return [f"{', '.join(written)}: {quantity(len(tables), 'window')}"]
 
     options = [*of.options, study.results.unit, [question.label for question in study.questions]]
     sums = [results.inputs.outputs_of(stage) for stage in ("counted", "people", "grid")]
     facts: dict[str, Any] = {**results.depends, "words": options, "windows": results.windows, "sums": sums}
-    return Stage(f"windows_{of.kind}", facts, [by_origin, by_people, *compared, *pictures], make)
+    facts |= {"who_gains": words_of(results)} if gained else {}
+    return Stage(f"windows_{of.kind}", facts, [by_origin, by_people, *compared, *gained, *pictures], make)
 
 
 def lines_of(results: StudyMatrix, of: Measurement, tables: dict[DayWindow, AccessTable]) -> Iterator[list[object]]:
@@ -132,6 +140,13 @@ def write_spread(out: BinaryIO, tables: dict[DayWindow, AccessTable], results: S
         header, *rows = equity.rows_of(equity.measured(table, people, options))
         lines += [[*question.head, *row] for row in rows]
     write_rows(out, [*HEADS, *header], lines)
+
+
+def write_gains_by_window(out: BinaryIO, results: StudyMatrix, tables: dict[DayWindow, AccessTable]) -> None:
+    """Who gains and who loses, window by window."""
+    wide, people = with_people(results, tables)
+    lines = [[*question.head, *row] for question, own in wide.items() for row in rows_of_gains(results, own, people)]
+    write_rows(out, [*HEADS, *header_of_gains()], lines)
 
 
 def kinds_drawn(results: StudyMatrix) -> list[AccessKind]:
