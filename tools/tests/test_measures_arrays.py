@@ -34,6 +34,13 @@ def test_of_destinations_at_the_same_time_the_first_comes_first() -> None:
     assert places[:, 1].tolist() == [[-1, -1, -1]] * 3
 
 
+def test_only_destinations_with_the_same_kind_tie() -> None:
+    """Of three destinations at the same time the first two have a school, the last a park."""
+    kinds = np.array([[1.0, 0.0], [1.0, 0.0], [0.0, 1.0]])
+    _, _, ties = completing(np.full((1, 3), 600, np.float32), kinds, [1, 2])
+    assert ties.tolist() == [[[1, 1], [0, 0]]]
+
+
 @pytest.mark.parametrize("method", ["floating", "balanced", "availability"])
 def test_competition_is_the_same_by_blocks(method: str) -> None:
     market = Market(method, NUMBERS, np.array([100.0, 200.0, 0.0]), Decay("step"))
