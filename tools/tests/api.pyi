@@ -476,14 +476,24 @@ class Matrix:
         self, from_id: str | int, *, scenario: str | None = None, percentile: int | None = None
     ) -> GeoDataFrame:
         """All destinations with the `seconds` from one origin. Has the destinations' index and columns."""
-    def nearest(self, opportunity: str | None = None, count: int = 1) -> GeoDataFrame:
+    def nearest(
+        self, opportunity: str | None = None, count: int = 1, *, counted: Literal["opportunities", "places"] = "opportunities"
+    ) -> GeoDataFrame:
         """Time to the nearest destination, or until `count` of an opportunity are reached.
+
+        With `counted="places"` each destination with any of it counts once: 2 is the second nearest hospital, whatever
+        its beds. Without an opportunity each destination counts once.
 
         Returns
         -------
         GeoDataFrame
-            scenario, percentile, from_id, to_id (the destination that completes the count), seconds, geometry.
+            scenario, percentile, from_id, opportunity, counted, count, to_id (the destination that completes the
+            count, of several at the same time the first), seconds, ties (how many others have this time), geometry.
         """
+    def nearest_ties(
+        self, opportunity: str | None = None, count: int = 1, *, counted: Literal["opportunities", "places"] = "opportunities"
+    ) -> GeoDataFrame:
+        """All destinations that complete a count at the same time, where several do: columns of `nearest`, no ties."""
     def access(
         self, opportunities: str | Sequence[str], minutes: Sequence[float], *, decay: Decay = ...
     ) -> GeoDataFrame:

@@ -47,10 +47,42 @@ def test_decays_by_hand(small: Town) -> None:
 
 def test_the_nearest_by_hand(small: Town) -> None:
     arguments = ["--opportunities", small.path("jobs.csv"), "--nearest", "1,10,11,16"]
-    lines = "base,A,jobs,50,1,600\nbase,A,jobs,50,10,600\nbase,A,jobs,50,11,1800\nbase,A,jobs,50,16,\n"
-    assert measured(small, *arguments) == "scenario,id,opportunity,percentile,nearest,seconds\n" + lines
+    near, far = "600,B,B,0\n", "1800,C,C,0\n"
+    lines = f"base,A,jobs,50,1,{near}base,A,jobs,50,10,{near}base,A,jobs,50,11,{far}base,A,jobs,50,16,,,,\n"
+    head = "scenario,id,opportunity,percentile,nearest,seconds,to_id,to_name,ties\n"
+    assert measured(small, *arguments) == head + lines
     arguments = ["--opportunities", small.path("more.csv"), "--column", "schools", "--nearest", "0.5,1"]
     assert [row["seconds"] for row in read(measured(small, *arguments))] == ["600", "1800"]
+
+
+def ends(town: Town, *arguments: str) -> list[tuple[str, str, str, str]]:
+    rows = read(measured(town, *arguments))
+    return [(row["seconds"], row["to_id"], row["to_name"], row["ties"]) for row in rows]
+
+
+def test_the_nearest_has_the_first_name_of_file_points_and_feed(small: Town) -> None:
+    """Only C has a name in the file of opportunities; B has one in the feed, and another in a file of points."""
+    arguments = ["--opportunities", small.path("more.csv"), "--column", "schools", "--nearest", "0.5,1"]
+    assert ends(small, *arguments) == [("600", "B", "B", "0"), ("1800", "C", "Gamma", "0")]
+    named = read(Path(small.feed, "stops.txt").read_text())
+    (own,) = [row["stop_name"] for row in named if row["stop_id"] == "B"]
+    assert own != "B" and ends(small, *arguments, "--feed", small.feed)[0] == ("600", "B", own, "0")
+    points = small.write("places.csv", "id,name,lat,lon", [[name, f"Place {name}", 1, 2] for name in "ABC"])
+    found = ends(small, *arguments, "--points", points)
+    assert found == [("600", "B", "Place B", "0"), ("1800", "C", "Gamma", "0")]
+
+
+def test_ties_are_other_destinations_with_the_opportunity_at_the_same_time(small: Town) -> None:
+    """From A the jobs at B and C are 600 seconds away, as D without any is; three jobs are complete at C and not B."""
+    small.matrix(town_matrix(True, {"base": {"A": [0, 600, 600, 600, 700]}}, stops="ABCDE"))
+    jobs = small.write("tied.csv", "stop_id,jobs", [["B", 2], ["C", 2], ["D", 0], ["E", 9]])
+    arguments = ["--opportunities", jobs, "--nearest", "1,3,5"]
+    assert ends(small, *arguments) == [("600", "B", "B", "1"), ("600", "C", "C", "1"), ("700", "E", "E", "0")]
+    assert ends(small, *arguments[:3], "1,2,3,4", "--of", "places")[1:] == [
+        ("600", "C", "C", "1"),
+        ("700", "E", "E", "0"),
+        ("", "", "", ""),
+    ]
 
 
 def test_a_column_for_each_opportunity_and_cutoff(small: Town) -> None:

@@ -36,6 +36,7 @@ def frames(network: Network) -> dict[str, Any]:  # noqa: F811
         "reaching": both.reaching(1),
         "reached_from": both.reached_from(1),
         "nearest": both.nearest("jobs"),
+        "nearest_ties": both.nearest_ties("jobs"),
         "access": access,
         "competition": both.competition("jobs", "people", minutes=[30]),
         "difference": both.difference("late"),

@@ -125,6 +125,38 @@ def test_the_nearest_names_the_destination_that_completes_the_count(matrix: Matr
     assert np.isnan(none["seconds"].iloc[0]) and none["seconds"].iloc[2] == 900
 
 
+def test_the_nearest_says_what_was_counted(matrix: Matrix) -> None:
+    """Jobs are 1, 2 and 4, so the third place is the third with any, and the third job is at the second place."""
+    third = matrix.nearest("jobs", 3, counted="places")
+    assert third[["opportunity", "counted", "count"]].drop_duplicates().values.tolist() == [["jobs", "places", 3]]
+    assert third["to_id"].isna().tolist() == [True, False, False, True] and third["to_id"].tolist()[1:3] == ["z", "z"]
+    assert matrix.nearest()[["opportunity", "counted"]].drop_duplicates().values.tolist() == [["places", "places"]]
+    with pytest.raises(ArgumentError, match="counted is 'beds'; allowed: opportunities, places"):
+        matrix.nearest("jobs", counted="beds")  # type: ignore[arg-type]
+    with pytest.raises(ArgumentError, match="count is 0; allowed: 1 or more"):
+        matrix.nearest_ties("jobs", 0)
+
+
+def test_ties_are_counted_and_listed(matrix: Matrix) -> None:
+    """From 7 both x and y are 600 seconds away, from 8 both y and z, and x is nearer."""
+    cells = {("today", 50): np.array([[600, 600, NONE], [60, 600, 600]], np.float32)}
+    context = Context(matrix.origins, matrix.destinations.assign(beds=[1, 0, 1]))
+    tied = Matrix(ArrayMatrix(["7", "8"], ["x", "y", "z"], cells), context)
+    assert tied.nearest()[["to_id", "seconds", "ties"]].values.tolist() == [["x", 600, 1], ["x", 60, 0]]
+    second = tied.nearest(count=2)
+    assert second[["to_id", "ties"]].values.tolist() == [["y", 1], ["y", 1]]
+    found = tied.nearest_ties(count=2)
+    assert found[["from_id", "to_id", "seconds"]].values.tolist() == [
+        [7, "x", 600],
+        [7, "y", 600],
+        [8, "y", 600],
+        [8, "z", 600],
+    ]
+    assert found.crs == 4326 and found.geometry.iloc[3].y == 51.1
+    assert tied.nearest("beds")["ties"].tolist() == [0, 0]  # y has no beds
+    assert len(tied.nearest_ties("beds", 2)) == 0 and tied.nearest("beds", 2)["ties"].tolist() == [0, 0]
+
+
 def test_a_difference_counts_destinations_by_what_became_of_them(matrix: Matrix) -> None:
     found = matrix.difference("tram", tolerance="1 min")
     counts = found[["cut_off", "slower", "unchanged", "faster", "new"]]

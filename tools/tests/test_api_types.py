@@ -84,7 +84,8 @@ for block in times.blocks(10):
 reveal_type(times.load())
 reveal_type(times.reaching("s"))
 reveal_type(times.reached_from(1, percentile=50))
-reveal_type(times.nearest("beds", 2))
+reveal_type(times.nearest("beds", 2, counted="places"))
+reveal_type(times.nearest_ties("beds"))
 access = times.access(["jobs"], minutes=[30], decay=ttm.Decay.logistic(sd=10))
 reveal_type(access)
 reveal_type(times.competition("beds", "people", [30], method="balanced", decay=ttm.Decay.linear(5)))
@@ -149,7 +150,7 @@ def test_no_public_result_is_any(folder: Path) -> None:
     said = checked(folder, CLIENT)
     errors = [line for line in said if ": note: Revealed type" not in line]
     assert errors == [], errors
-    assert len(said) == CLIENT.count("reveal_type(") == 60
+    assert len(said) == CLIENT.count("reveal_type(") == 61
     assert [line for line in said if "Any" in line.partition("Revealed type is")[2]] == []
 
 

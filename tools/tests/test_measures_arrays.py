@@ -28,10 +28,17 @@ def test_the_nearest_destinations_complete_a_count() -> None:
 
 
 def test_of_destinations_at_the_same_time_the_first_comes_first() -> None:
-    places, seconds = completing(SECONDS, NUMBERS, [1, 2, 4])
+    places, seconds, ties = completing(SECONDS, NUMBERS, [1, 2, 4])
     assert places[:, 0].tolist() == [[0, 0, 2], [1, 0, 2], [3, 3, 3]]  # from 1 both 0 and 2 are 600 seconds away
-    assert seconds[1, 0].tolist() == [0, 600, 600]
+    assert seconds[1, 0].tolist() == [0, 600, 600] and ties[:, 0].tolist() == [[0, 0, 0], [0, 1, 1], [0, 0, 0]]
     assert places[:, 1].tolist() == [[-1, -1, -1]] * 3
+
+
+def test_only_destinations_with_the_same_kind_tie() -> None:
+    """Of three destinations at the same time the first two have a school, the last a park."""
+    kinds = np.array([[1.0, 0.0], [1.0, 0.0], [0.0, 1.0]])
+    _, _, ties = completing(np.full((1, 3), 600, np.float32), kinds, [1, 2])
+    assert ties.tolist() == [[[1, 1], [0, 0]]]
 
 
 @pytest.mark.parametrize("method", ["floating", "balanced", "availability"])

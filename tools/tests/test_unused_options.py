@@ -21,6 +21,8 @@ def in_a_folder_of_its_own(tmp_path: Path, monkeypatch: pytest.MonkeyPatch) -> N
         ("access --opportunities jobs.csv --nearest 1 --decay linear", "--decay does nothing with --nearest"),
         ("access --opportunities jobs.csv --nearest 1 --decay-v 5", "--decay-value does nothing with --nearest"),
         ("access --opportunities jobs.csv --interval 15,45 --cutoffs 30", "--cutoffs does nothing with --interval"),
+        ("access --opportunities jobs.csv --of places", "--of goes with --nearest"),
+        ("access --opportunities jobs.csv --feed .", "--feed goes with --nearest"),
         ("compare --by pair --within 900", "--within goes with --by origin"),
         ("compare --by pair --least 1", "--least and --listed go with --by origin"),
         ("long --access --reached", "--reached does nothing with --access"),

@@ -38,6 +38,15 @@ def read_counts(paths: Sequence[str], stops: Sequence[str], kind: str, wanted: S
     return Counts(names, np.concatenate([np.zeros((len(stops), 0)), *columns], axis=1))
 
 
+def names_in(paths: Sequence[str]) -> dict[str, str]:
+    """The names that files give places, in a column `name` or `stop_name`; of two names the first counts."""
+    found = dict[str, str]()
+    for path in paths:
+        for _, (place, *names) in rows(path, [identifier_of(path)], ["name", "stop_name"]):
+            found.setdefault(place, next((display_text(name.strip()) for name in names if name.strip()), ""))
+    return {place: name for place, name in found.items() if name}
+
+
 def called(column: str, path: str) -> str:
     return Path(path).stem if column == OWN_NAME else column
 

@@ -22,7 +22,7 @@ from .chosen import Chosen, Context, MatrixPart, picked, positions
 from .decay import Decay
 from .differences import difference_frame, pairs_frame
 from .omx_places import write_places_of
-from .opportunities import access_frame, competition_frame, nearest_frame
+from .opportunities import Counted, access_frame, competition_frame, nearest_frame, ties_frame
 from .pages import WRITE_PAGE, SavedPage, call
 
 if TYPE_CHECKING:
@@ -160,17 +160,27 @@ class Matrix:
         part = self.sel(from_id=from_id)._part
         return self.destinations.assign(seconds=part.seconds(*part.one(scenario, percentile))[0].astype(np.float64))
 
-    def nearest(self, opportunity: str | None = None, count: int = 1) -> geopandas.GeoDataFrame:
+    def nearest(
+        self, opportunity: str | None = None, count: int = 1, *, counted: Counted = "opportunities"
+    ) -> geopandas.GeoDataFrame:
         """Time to the nearest destination, or until `count` of an opportunity are reached.
+
+        With `counted="places"` each destination with any of it counts once: 2 is the second nearest hospital, whatever
+        its beds. Without an opportunity each destination counts once.
 
         Returns
         -------
         GeoDataFrame
-            scenario, percentile, from_id, to_id (the destination that completes the count), seconds, geometry.
+            scenario, percentile, from_id, opportunity, counted, count, to_id (the destination that completes the
+            count, of several at the same time the first), seconds, ties (how many others have this time), geometry.
         """
-        if count < 1:
-            raise not_allowed("count", count, "1 or more")
-        return nearest_frame(self._part, opportunity, count)
+        return nearest_frame(self._part, opportunity, count, counted)
+
+    def nearest_ties(
+        self, opportunity: str | None = None, count: int = 1, *, counted: Counted = "opportunities"
+    ) -> geopandas.GeoDataFrame:
+        """All destinations that complete a count at the same time, where several do: columns of `nearest`, no ties."""
+        return ties_frame(self._part, opportunity, count, counted)
 
     def access(
         self, opportunities: str | Sequence[str], minutes: Sequence[float], *, decay: Decay = Decay()

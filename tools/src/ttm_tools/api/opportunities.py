@@ -1,21 +1,23 @@
 """Access to opportunities, as frames."""
 
 from collections.abc import Callable, Iterator, Sequence
-from typing import Any
+from typing import Any, Literal
 
 import geopandas
 import numpy as np
 import pandas
 
-from ..core.arrays import Floats, Seconds
+from ..core.arrays import Floats, Places, Seconds
 from ..core.errors import InputError
 from ..core.question import not_allowed
 from ..core.toml_values import near
 from ..measures.access import access, completing
 from ..measures.competition import Market, competition
-from ..measures.registry import COMPETITIONS
+from ..measures.registry import COMPETITIONS, OPPORTUNITIES, PLACES
 from .chosen import MatrixPart
 from .decay import Decay, weighting_of
+
+Counted = Literal["opportunities", "places"]  # what a count of the nearest counts
 
 
 def numbers_in(argument: str, frame: geopandas.GeoDataFrame, names: str | Sequence[str]) -> tuple[list[str], Floats]:
@@ -91,23 +93,59 @@ def access_frame(
     return in_frames(part, sums)
 
 
-def nearest_frame(part: MatrixPart, opportunity: str | None, count: float) -> geopandas.GeoDataFrame:
-    """Return the time until a count is reached, and the destination that completes it: see `Matrix.nearest`."""
+def counted_in(
+    part: MatrixPart, opportunity: str | None, count: float, counted: str
+) -> tuple[dict[str, str | float], Floats]:
+    """Return the columns that say what is counted, and the number of each destination."""
+    if not 1 <= count < np.inf:
+        raise not_allowed("count", count, "1 or more")
+    if counted not in (OPPORTUNITIES, PLACES):
+        raise not_allowed("counted", counted, f"{OPPORTUNITIES}, {PLACES}")
     if opportunity is None:
-        numbers = np.ones(len(part.destinations))
-    else:
-        numbers = numbers_in("destinations", part.destinations, opportunity)[1][:, 0]
+        return {"opportunity": PLACES, "counted": PLACES, "count": count}, np.ones(len(part.destinations))
+    numbers = numbers_in("destinations", part.destinations, opportunity)[1][:, 0]
+    about: dict[str, str | float] = {"opportunity": opportunity, "counted": counted, "count": count}
+    return about, (numbers > 0).astype(np.float64) if counted == PLACES else numbers
+
+
+def nearest_frame(part: MatrixPart, opportunity: str | None, count: float, counted: str) -> geopandas.GeoDataFrame:
+    """Return the time until a count is reached, and the destination that completes it: see `Matrix.nearest`."""
+    sought, numbers = counted_in(part, opportunity, count, counted)
     ends = part.destinations["id"]
 
     def times(scenario: str, percentile: int) -> geopandas.GeoDataFrame:
         blocks = seconds_by_block(part, scenario, percentile)
         pieces = [completing(seconds, numbers[:, None], [count]) for seconds in blocks]
-        place, found = (np.concatenate(column)[:, 0, 0] for column in zip(*pieces))
+        place, found, ties = (np.concatenate(column)[:, 0, 0] for column in zip(*pieces))
         to_id = pandas.Series(ends.to_numpy()[np.maximum(place, 0)]).where(place >= 0)
         about = {"scenario": scenario, "percentile": percentile}
-        return by_origin(part, about, {"to_id": to_id.to_numpy(), "seconds": found})
+        repeated = {name: [value] * len(found) for name, value in sought.items()}
+        return by_origin(part, about, {**repeated, "to_id": to_id.to_numpy(), "seconds": found, "ties": ties})
 
     return in_frames(part, times)
+
+
+def ties_frame(part: MatrixPart, opportunity: str | None, count: float, counted: str) -> geopandas.GeoDataFrame:
+    """Return all destinations that are equally near, where several are: see `Matrix.nearest_ties`."""
+    sought, numbers = counted_in(part, opportunity, count, counted)
+    ends = part.destinations["id"].to_numpy()
+
+    def tied(scenario: str, percentile: int) -> geopandas.GeoDataFrame:
+        rows, columns, times, begin = list[Places](), list[Places](), list[Floats](), 0
+        for seconds in seconds_by_block(part, scenario, percentile):
+            _, found, ties = (array[:, 0, 0] for array in completing(seconds, numbers[:, None], [count]))
+            there = (seconds == found[:, None]) & (numbers > 0) & (ties > 0)[:, None]
+            row, column = np.nonzero(there)
+            rows.append(row + begin)
+            columns.append(column)
+            times.append(found[row].astype(np.float64))
+            begin += len(seconds)
+        column, found, origins = np.concatenate(columns), np.concatenate(times), part.origins.iloc[np.concatenate(rows)]
+        about = {"scenario": scenario, "percentile": percentile, "from_id": origins["id"].to_numpy(), **sought}
+        columns_found = {**about, "to_id": ends[column], "seconds": found}
+        return geopandas.GeoDataFrame(columns_found, geometry=origins.geometry.to_numpy(), crs=part.origins.crs)
+
+    return in_frames(part, tied)
 
 
 def competition_frame(

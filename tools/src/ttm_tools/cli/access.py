@@ -1,19 +1,21 @@
 import argparse
 import functools
 from dataclasses import replace
-from typing import TYPE_CHECKING, Callable
+from typing import TYPE_CHECKING, Callable, Sequence
 
 from ..core.errors import ArgumentError, needs
 from ..core.files import output
-from ..measures.registry import COMPETITIONS, DECAYS
+from ..measures.registry import COMPETITIONS, DECAYS, OPPORTUNITIES, PLACES
 from .options import Parser, column_of, decimals, opened, scenarios_of
 from .unused import refuse_unused
 
 if TYPE_CHECKING:
     from ..core.arrays import Floats
+    from ..gtfs.stops import Stops
     from ..matrices import Matrix, Share
     from ..measures.access import Decay
     from ..measures.opportunities import Counts
+    from ..views.access import Measured
 
 SUMMARY = "opportunities within limits, weighted by travel time, and the time to the nearest"
 HELP = """\
@@ -29,10 +31,14 @@ decimals; a stop that is not in the file has none. The columns stop_name, stop_l
 counted; a column `opportunities` takes the name of its file. A stop that is not in the matrix is an error.
 
 The long form has a line for each number: scenario, id (of the origin), opportunity, percentile, cutoff (minutes) and
-accessibility; with --nearest the last two are nearest and seconds, which is empty if fewer are reached. With --scenario
-there is no column scenario, and the columns are those of r5r. The wide form has a line for each origin and percentile,
-and a column for each opportunity and cutoff. A travel time equal to the cutoff counts, as it does for ttm: --cutoffs 30
-is its --within 1800. Memory: some 300 MB, and 8 bytes for each number."""
+accessibility. With --nearest the last ones are nearest, seconds, to_id and to_name (the destination that completes the
+number), and ties (how many others have the same travel time); the last four are empty if fewer are reached. A name is
+that in a column name or stop_name of the file of opportunities, else that of --points or --feed, else the identifier.
+Of destinations with the same travel time the first in the matrix comes first. --of places counts each destination with
+any of an opportunity once, so that 2 is the second nearest hospital, whatever its beds. With --scenario there is no
+column scenario. The wide form has a line for each origin and percentile, and a column for each opportunity and cutoff.
+A travel time equal to the cutoff counts, as it does for ttm: --cutoffs 30 is its --within 1800. Memory: some 300 MB,
+and 8 bytes for each number, 40 with --nearest."""
 
 
 def describe(parser: Parser) -> None:
@@ -47,6 +53,10 @@ def describe(parser: Parser) -> None:
     parser.add_number("--decay-value", what, decimals("minutes", 0, 10000), without="none; these two need it")
     what = "instead of access, the time within which this many are reached, between commas"
     parser.add_numbers("--nearest", what, decimals("", 0, 1e15), without="access is measured")
+    what = "with --nearest, what a number counts: opportunities, or each destination with any of them once"
+    parser.add_choice("--of", (OPPORTUNITIES, PLACES), what, OPPORTUNITIES)
+    what = "with --nearest, the unpacked feed of the matrix, for the names of destinations"
+    parser.add_text("--feed", "FOLDER", what, without="identifiers")
     what = "the mean over all cutoffs of whole minutes from one number to the other, such as 15,45"
     parser.add_numbers("--interval", what, decimals("minutes", 0, 1000), without="one number for each of --cutoffs")
     what = "access where people compete: a floating catchment, a balanced one, or spatial availability; needs --demand"
@@ -54,7 +64,7 @@ def describe(parser: Parser) -> None:
     parser.add_text("--demand", "FILE", "how many people are at each origin, for --competition", without="none")
     parser.add_text("--demand-column", "NAME", "its column of people", without="the only one")
     parser.add_text("--scenario", "NAME", "the scenario to measure", without="all")
-    parser.add_points("all origins and stops")
+    parser.add_points()
     parser.add_share(without="all")
     parser.add_choice("--form", ("long", "wide"), "a line for each number, or a column", "long")
     parser.add_out("the file of the table")
@@ -68,12 +78,15 @@ def run(args: argparse.Namespace) -> None:
     from ..places.selection import select_points
     from ..views.access import ACCESS, Form, NEAREST, measured, write_access
 
-    matrix, _ = select_points(opened(args), None, args.points)
+    matrix, stops = select_points(opened(args), args.feed, args.points)
     scenarios = scenarios_of(matrix, [args.scenario] if args.scenario else [])
     shares = matrix.shares if args.share is None else [matrix.share(args.share)]
     counts = read_counts(args.opportunities, matrix.stops, "stop of the matrix", args.column)
-    measure = measure_of(args, matrix, counts)
-    found = [measured(matrix, scenario, shares, measure) for scenario in scenarios]
+    if args.nearest:
+        found = nearest_of(args, (matrix, stops), (scenarios, shares), counts)
+    else:
+        measure = measure_of(args, matrix, counts)
+        found = [measured(matrix, scenario, shares, measure) for scenario in scenarios]
     if args.competition:  # for each person there may be little
         found = [replace(table, decimals=12) for table in found]
     heads, limits = (NEAREST, args.nearest) if args.nearest else (ACCESS, args.cutoffs)
@@ -87,6 +100,8 @@ def run(args: argparse.Namespace) -> None:
 def refuse_together(args: argparse.Namespace) -> None:
     if args.nearest:
         refuse_unused(args, "does nothing with --nearest", "cutoffs", "decay", "decay_value")
+    else:
+        refuse_unused(args, "goes with --nearest", "of", "feed")
     if args.interval:
         refuse_unused(args, "does nothing with --interval", "cutoffs")
     if args.decay == "exponential" and min(args.cutoffs) < 0.01:
@@ -104,13 +119,29 @@ def refuse_together(args: argparse.Namespace) -> None:
         raise ArgumentError("--interval goes with --decay step")
 
 
+def nearest_of(
+    args: argparse.Namespace,
+    shown: "tuple[Matrix, Stops | None]",
+    kinds: "tuple[Sequence[str], Sequence[Share]]",
+    counts: "Counts",
+) -> "list[Measured]":
+    """The times to the nearest of some scenarios and shares, and their destinations."""
+    from ..api.count_files import names_in
+    from ..views.access import measured_nearest
+    from ..views.nearest_ends import destination_names, nearest_with_ends
+
+    (matrix, stops), (scenarios, shares) = shown, kinds
+    numbers = counts.of_places().numbers if args.of == PLACES else counts.numbers
+    times = functools.partial(nearest_with_ends, numbers=numbers, counts=args.nearest)
+    measure = functools.partial(matrix.measure, function=times)
+    names = destination_names(matrix.stops, names_in(args.opportunities), stops)
+    return [measured_nearest(matrix, scenario, shares, measure, names) for scenario in scenarios]
+
+
 def measure_of(args: argparse.Namespace, matrix: "Matrix", counts: "Counts") -> "Callable[[str, Share], Floats]":
     """What is measured of a scenario and a share."""
-    from ..measures.access import Decay, Interval, access, nearest
+    from ..measures.access import Decay, Interval, access
 
-    if args.nearest:
-        times = functools.partial(nearest, numbers=counts.numbers, counts=args.nearest)
-        return functools.partial(matrix.measure, function=times)
     decay = Decay(args.decay, args.decay_value)
     if args.competition:
         return shares_of(args, matrix, counts, decay)

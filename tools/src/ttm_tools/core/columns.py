@@ -68,6 +68,10 @@ REPAIRS = named("file", "record", "column", "value", "rule", "done")
 ERRORS = named("file", "record", "column", "value", "fault", "allowed")
 ACCESS = named("id", "opportunity", "percentile", "cutoff", "accessibility")
 NEAREST = named("id", "opportunity", "percentile", "nearest", "seconds")
+ENDS = (  # behind NEAREST
+    *named("to_id", "to_name", what="the destination that completes the number; empty if it isn't reached"),
+    *named("ties", what="how many other destinations with this opportunity have the same travel time"),
+)
 WINDOWS = named("date", "window", "from", "to")  # first columns of a study's tables by window
 WINDOW_CHANGES = (  # after WINDOWS, in the table of changes of access
     *named("scenario", "opportunity", "percentile", "cutoff"),
@@ -76,6 +80,7 @@ WINDOW_CHANGES = (  # after WINDOWS, in the table of changes of access
     *named("mean_change", what="mean change of access of the group, after minus before"),
 )
 EXPLAINED = {  # by command; docs/reference/measures.md has a table for each
+    "access": ENDS,
     "compare": (*BY_PAIR, *BY_ORIGIN),
     "bands": (*BANDS[:-2], *BANDS_OF_NEAREST),
     "explain": JOURNEYS,

@@ -11,7 +11,7 @@ from typing import Sequence
 
 import numpy as np
 
-from ..core.arrays import Floats, Places, Seconds
+from ..core.arrays import Floats, Mask, Places, Seconds
 from ..core.errors import ArgumentError
 from .registry import DECAYS
 
@@ -122,8 +122,9 @@ def nearest(seconds: Seconds, numbers: Floats, counts: Sequence[float]) -> Float
     return seconds_at(there, order, ranks_of(order, numbers[used], counts))
 
 
-def completing(seconds: Seconds, numbers: Floats, counts: Sequence[float]) -> tuple[Places, Floats]:
-    """Returns the destination that completes each count, -1 where none does, and the seconds to it: see `nearest`.
+def completing(seconds: Seconds, numbers: Floats, counts: Sequence[float]) -> tuple[Places, Floats, Places]:
+    """Returns the destination that completes each count, -1 where none does, the seconds to it, and its ties: how many
+    other destinations with this kind of opportunity have the same travel time. See `nearest`.
 
     Of destinations with the same travel time the first comes first.
     """
@@ -134,7 +135,24 @@ def completing(seconds: Seconds, numbers: Floats, counts: Sequence[float]) -> tu
     found = seconds_at(there, order, ranks)
     columns = np.append(used[order], np.full((len(order), 1), -1), axis=1)
     ends = np.take_along_axis(columns[:, None], ranks, axis=2)
-    return np.where(np.isnan(found), -1, ends), found
+    return np.where(np.isnan(found), -1, ends), found, ties_of(there, numbers[used] > 0, found)
+
+
+def ties_of(seconds: Seconds, wanted: Mask, found: Floats) -> Places:
+    """Returns how many destinations are as far as each one that was found, itself not counted.
+
+    Parameters
+    ----------
+    wanted
+        Which destinations have a kind of opportunity, of shape (destinations, columns).
+    found
+        Seconds of shape (origins, columns, counts), NaN where none was found, which ties with none.
+    """
+    ties = np.zeros(found.shape, np.intp)
+    for column, there in enumerate(wanted.T):
+        for place in range(found.shape[2]):
+            ties[:, column, place] = (seconds[:, there] == found[:, column, place, None]).sum(axis=1) - 1
+    return np.maximum(ties, 0)
 
 
 def ranks_of(order: Places, numbers: Floats, counts: Sequence[float]) -> Places:

@@ -30,6 +30,8 @@ def by_name(*measures: Measure) -> dict[str, Measure]:
     return {measure.name: measure for measure in measures}
 
 
+OPPORTUNITIES, PLACES = "opportunities", "places"  # what a number of the nearest counts
+
 DECAYS = by_name(
     Measure(
         "step",

@@ -1,24 +1,27 @@
 """Tables of access: a line for each number, as r5r has it, or a column for each."""
 
 import itertools
-from dataclasses import dataclass
+from dataclasses import dataclass, replace
 from typing import BinaryIO, Callable, Iterator, Sequence
 
 import numpy as np
 
 from ..core.arrays import Floats
+from ..core.columns import ENDS, names_of
 from ..core.errors import InputError
 from ..core.tables import write_rows
 from ..core.text import decimal, display_text
 from ..matrices import Matrix, Share
+from .nearest_ends import DestinationNames, Ends, divided
 
 LONG, WIDE = "long", "wide"
-ACCESS, NEAREST = ("cutoff", "accessibility"), ("nearest", "seconds")  # the last two columns of the long form
+ACCESS = ("cutoff", "accessibility")  # the last columns of the long form
+NEAREST = ("nearest", "seconds", *names_of(ENDS))
 
 
 @dataclass(frozen=True)
 class Form:
-    heads: tuple[str, str]  # ACCESS or NEAREST
+    heads: tuple[str, ...]  # ACCESS or NEAREST
     shape: str = LONG  # or WIDE
     with_scenario: bool = True
 
@@ -32,6 +35,7 @@ class Measured:
     shares: list[Share]
     numbers: Floats  # by share, origin, opportunity, and cutoff (or count of the nearest)
     decimals: int = 6  # with which they are written
+    ends: Ends | None = None  # of the nearest: the destinations, by the same axes
 
 
 def origins_of(matrix: Matrix, scenario: str) -> list[str]:
@@ -49,6 +53,19 @@ def measured(
 ) -> Measured:
     origins = origins_of(matrix, scenario)
     return Measured(scenario, origins, list(shares), np.stack([measure(scenario, share) for share in shares]))
+
+
+def measured_nearest(
+    matrix: Matrix,
+    scenario: str,
+    shares: Sequence[Share],
+    measure: Callable[[str, Share], Floats],
+    destinations: DestinationNames,
+) -> Measured:
+    """The times to the nearest with their destinations; `measure` applies `nearest_with_ends`."""
+    found = measured(matrix, scenario, shares, measure)
+    seconds, ends = divided(found.numbers, destinations)
+    return replace(found, numbers=seconds, ends=ends)
 
 
 def write_access(
@@ -82,6 +99,7 @@ def long_rows(
             numbers = of.numbers[:, row].tolist()
             for column, name in enumerate(opportunities):
                 for place, share in enumerate(of.shares):
-                    for limit, number in zip(limits, numbers[place][column]):
+                    for rank, (limit, number) in enumerate(zip(limits, numbers[place][column])):
                         head = [*[of.scenario] * with_scenario, origin, name, "" if share is None else share]
-                        yield [*head, limit, decimal(number, of.decimals)]
+                        end = of.ends.fields((place, row, column, rank)) if of.ends else []
+                        yield [*head, limit, decimal(number, of.decimals), *end]

@@ -14,14 +14,15 @@ from ...core.files import atomic_folder, output
 from ...core.text import decimal, display_text
 from ...gtfs.stops import Stops
 from ...matrices import Matrix, capped, open_matrix, pair_of
-from ...measures.access import Decay, access, nearest
+from ...measures.access import Decay, access
 from ...measures.access_table import AccessKind, AccessTable
 from ...measures.comparison import compare
 from ...measures.opportunities import Counts
 from ...places.selection import select_points
 from ...views import bands, equity, tables
-from ...views.access import ACCESS, Form, Measured, NEAREST, measured, write_access
+from ...views.access import ACCESS, Form, Measured, NEAREST, measured, measured_nearest, write_access
 from ...views.differences import summary, write_origins, write_pairs
+from ...views.nearest_ends import destination_names, nearest_with_ends
 from ...views.picture_files import write_picture
 from ..counted import COUNTED, PEOPLE
 from ..inputs import Inputs
@@ -108,22 +109,25 @@ class Measurement:
     """What is measured of each matrix of a study: access, or the time to the nearest."""
 
     kind: str  # access or nearest
-    heads: tuple[str, str]
+    heads: tuple[str, ...]
     limits: Sequence[float]
     options: list[Any]  # of the study's file, on which the numbers depend
     measure: Callable[..., Floats]
 
-    def of(self, matrix: Matrix, counts: Counts) -> list[Measured]:
-        """The numbers of all scenarios."""
+    def of(self, matrix: Matrix, counts: Counts, stops: Stops) -> list[Measured]:
+        """The numbers of all scenarios; of the nearest with their destinations."""
         measure = functools.partial(matrix.measure, function=functools.partial(self.measure, numbers=counts.numbers))
-        return [measured(matrix, scenario, matrix.shares, measure) for scenario in matrix.scenarios]
+        if self.heads != NEAREST:
+            return [measured(matrix, scenario, matrix.shares, measure) for scenario in matrix.scenarios]
+        names = destination_names(matrix.stops, {}, stops)
+        return [measured_nearest(matrix, scenario, matrix.shares, measure, names) for scenario in matrix.scenarios]
 
 
 def measurements_of(study: Study) -> list[Measurement]:
     settings, cutoffs, limits = study.results, study.cutoffs, study.results.nearest
     decay = Decay(settings.decay, settings.decay_value)
     of_access = functools.partial(access, weighting=decay, cutoffs=cutoffs)
-    of_nearest = functools.partial(nearest, counts=limits)
+    of_nearest = functools.partial(nearest_with_ends, counts=limits)
     options = [decay.kind, decay.value, list(cutoffs)]
     kinds = [Measurement("access", ACCESS, cutoffs, options, of_access)] if settings.access else []
     return kinds + ([Measurement("nearest", NEAREST, limits, [list(limits)], of_nearest)] if limits else [])
@@ -142,15 +146,17 @@ def table_stage(results: StudyMatrix, of: Measurement) -> Stage:
     path = f"{of.kind}.csv"
 
     def make() -> list[str]:
-        matrix, _ = results.open()
+        matrix, stops = results.open()
         counts = results.counts(matrix)
-        found = of.of(matrix, counts)
+        found = of.of(matrix, counts, stops)
         with output(results.at(path)) as file:
             write_access(file, found, counts.names, of.limits, Form(of.heads))
         return [f"{path}: {', '.join(map(display_text, counts.names))}"]
 
     options = [*of.options, results.study.results.max_minutes]
-    facts = {"matrix": results.sum, "words": options, "counted": results.inputs.outputs_of("counted")}
+    facts: dict[str, Any] = {"matrix": results.sum, "words": options, "counted": results.inputs.outputs_of("counted")}
+    if of.heads == NEAREST:
+        facts["stops"] = results.inputs.stops_sum  # their names
     return Stage(of.kind, facts, [path], make)
 
 

@@ -96,9 +96,9 @@ def lines_of(results: StudyMatrix, of: Measurement, tables: dict[DayWindow, Acce
     """The lines of the table by origin, window by window; each window's numbers are kept for the table by people."""
     for question in results.study.questions:
         path = path_of(results, question)
-        matrix, _ = results.open(path)
+        matrix, stops = results.open(path)
         counts = results.counts(matrix)
-        found = of.of(matrix, counts)
+        found = of.of(matrix, counts, stops)
         tables[question] = table_of(path, found, counts, of)
         texts = [decimal(limit) for limit in of.limits]
         yield from ([*question.head, *line] for line in long_rows(found, counts.names, texts, True))
