@@ -105,6 +105,12 @@ def test_names_and_shapes_on_the_map_have_contrast() -> None:
         assert contrast(classes.TABLE["lines"][name]["colour"], classes.TOKENS["land"]) >= LEAST_SHAPE, name
 
 
+@pytest.mark.parametrize("name", classes.TABLE["ground"]["names"], ids=lambda name: str(name["kind"]))
+def test_each_name_of_the_ground_has_contrast_on_its_surfaces(name: dict[str, Any]) -> None:
+    for ground in ("land", "water", "park", "street1", "street2", "street3"):  # "land" is the colour of its halo, too
+        assert contrast(classes.TOKENS[name["colour"]], classes.TOKENS[ground]) >= LEAST_TEXT, ground
+
+
 @pytest.mark.parametrize("sight", SIGHTS)
 def test_each_class_is_lighter_than_the_one_before_it(sight: str) -> None:
     lightness = [float(lab(colour, sight)[0]) for colour in classes.NEAR]

@@ -2,6 +2,7 @@
 // and what lies where.
 
 import { CHANGED_LINES } from "../core/constants.js";
+import { oppositePairs, overlapping } from "../core/opposite.js";
 import { table } from "../core/table.js";
 import { Areas } from "./areas.js";
 import { Drawing } from "./drawing.js";
@@ -26,6 +27,9 @@ export class PageMap {
     this.top = document.getElementById("tools") === null ? 18 : ABOVE;
     this.many = 2000; // marks in the picture, from which on they are stamped
     this.hasSquares = this.areas.any || numbers.widths.some((width) => width > 0);
+    this.pairs = oppositePairs(head.names, numbers.places, this.stops());
+    this.leftOut = new Uint8Array(head.names.length); // places whose mark the opposite stop has, too
+    this.sharing = (_count) => {}; // with the number of pairs that share a mark, whenever places are painted
     this.lines = {}; // on the world, and of which numbers
     this.ground = head.ground === null ? null : new GroundLayer(numbers.ground);
     this.under = []; // what additions paint below the places, and
@@ -57,6 +61,12 @@ export class PageMap {
     this.addTip(tipOf);
     this.isMoved = false; // since it last showed all places
     this.map.on("moveend", () => { this.isMoved = true; });
+  }
+
+  /** The places that have a mark and neither a cell nor an area. */
+  stops() {
+    return Array.from(head.names.keys()).filter((place) => isPlaced(place) && numbers.widths[place] === 0
+      && !(this.areas.any && this.areas.has(place)));
   }
 
   addNorth() {
@@ -169,7 +179,7 @@ export class PageMap {
   nearest(x, y, scale, amongAreas) {
     let found = -1, least = (REACH / scale) ** 2;
     for (let place = 0; place < head.names.length; place++) {
-      if (this.areas.any && this.areas.has(place) !== amongAreas) {
+      if (this.leftOut[place] || (this.areas.any && this.areas.has(place) !== amongAreas)) {
         continue;
       }
       const east = this.points[2 * place] - x, south = this.points[2 * place + 1] - y;
@@ -209,7 +219,16 @@ export class PageMap {
     paintNames(pen, view, this.ground.names, this.hasSquares ? [] : spots);
   }
 
+  /** Finds the opposite stops that share a mark at this zoom. */
+  shareMarks({ scale }) {
+    const shared = overlapping(this.pairs, this.points, (2 * this.radius()) / scale, this.shown);
+    this.leftOut.fill(0);
+    shared.forEach(([, other]) => { this.leftOut[other] = 1; });
+    this.sharing(shared.length);
+  }
+
   paint(pen, view) {
+    this.shareMarks(view);
     const areas = this.areasUnder.filter(({ isOn }) => isOn()), hasAreas = areas.length > 0 || this.hasSquares;
     if (this.ground !== null && hasAreas) {
       this.paintWithAreas(pen, view, areas);
@@ -317,6 +336,9 @@ export class PageMap {
     for (let place = 0; place < head.names.length; place++) {
       const x = points[2 * place] * scale - view.x, y = points[2 * place + 1] * scale - view.y;
       const isNear = x > -40 && y > -40 && x < width + 40 && y < height + 40;
+      if (this.leftOut[place]) {
+        continue;
+      }
       if (isNear || (areas.any && areas.has(place) && areas.isSeen(place, view))) {
         groups[classes === null ? 0 : classes[place]].push(place);
         count++;

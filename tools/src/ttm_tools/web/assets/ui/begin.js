@@ -3,6 +3,7 @@
 import { PageMap } from "../map/map.js";
 import { additions, head, readNumbers } from "../page/data.js";
 import { shareTold } from "../core/format.js";
+import { pairsTold } from "../core/opposite.js";
 import { showAll } from "./answer.js";
 import { element, fill, made, optionsOf } from "./elements.js";
 import { fillCounted } from "./headline.js";
@@ -79,6 +80,7 @@ export async function begin() {
   fillControls();
   await readNumbers();
   setPage(new PageMap(choose, tipOf));
+  page.sharing = (count) => { element("key-pairs").textContent = pairsTold(count); };
   addControls();
   addPrinting();
   addShell();

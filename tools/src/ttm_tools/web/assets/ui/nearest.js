@@ -10,7 +10,7 @@ import { MOST_LOSERS, changesTold } from "./answer.js";
 import { element, fill, heads, line, made } from "./elements.js";
 import { histogramOf } from "./histogram.js";
 import { state } from "./state.js";
-import { choose, classesOfOrigins, showOnMap } from "./view.js";
+import { choose, classesOfOrigins, ranksOfOrigins, showOnMap } from "./view.js";
 
 export function showNearest(words, now, before) {
   const sought = words.nearest === 1 ? singular(words.short) : words.short;
@@ -28,7 +28,8 @@ export function showNearest(words, now, before) {
   showHistogramOfNearest(now, before, (value) => (before === null ? marks[classOf(value)].colour
     : value > 0 ? table.scales.loss.at(-1) : value < 0 ? table.scales.gain.at(-1) : table.marks.same.colour));
   const title = before === null ? "Time to the nearest" : "Change of the time to the nearest";
-  showOnMap(title, classesOfOrigins(classes, marks.length), [...marks, table.marks["no-origin"]]);
+  const all = [...marks, table.marks["no-origin"]];
+  showOnMap(title, classesOfOrigins(classes, marks.length), all, ranksOfOrigins(now));
 }
 
 /** The number of places from which this many are reached, and the minutes from half of these. */

@@ -139,7 +139,8 @@ function keyItems(pen) {
 
 function paintKey(pen, key, wide) {
   Object.assign(pen, { textBaseline: "middle", fillStyle: table.tokens.ink, font: letters(14, 700) });
-  pen.fillText(element("key-title").textContent, 0, KEY_ROW / 2 - 6, wide);
+  const heading = ["key-title", "key-pairs"].map((name) => element(name).textContent).filter(Boolean).join(" · ");
+  pen.fillText(heading, 0, KEY_ROW / 2 - 6, wide);
   pen.font = letters(14, 400);
   for (const { item, x, row } of key.placed) {
     const y = KEY_ROW * (row + 1) + KEY_ROW / 2 - 6, high = (item.swatch * item.mark.height) / item.mark.width;

@@ -97,23 +97,25 @@ function showNoTimes() {
   showOnMap("Places", classes, having.map(([mark, word]) => ({ ...mark, label: `${word} travel times` })));
 }
 
-/** The marks of travel times or of their change, and which of them each place has; a place beyond the slider's minutes
-    has one of its own. */
+/** The marks of travel times or of their change, which of them each place has, and its minutes; a place beyond the
+    slider's minutes has a mark of its own. */
 export function classesOfTimes(now, before) {
   const { marks, classOf } = before === null ? timeClasses() : changeClasses(), count = marks.length;
   const beyond = { ...table.marks.beyond, label: table.marks.beyond.label.replace("{end}", state.minutes) };
   const classes = new Uint8Array(head.names.length).fill(count + 1);
+  const ranks = new Uint16Array(head.names.length).fill(NEVER + 1);
   const classAt = before === null ? classesOfMinutes(classOf) : null;
   for (let column = 0; column < now.length; column++) {
     const place = numbers.columns[column], minutes = now[column], earlier = before === null ? minutes : before[column];
     const isBeyond = Math.min(minutes, earlier) > state.minutes && Math.max(minutes, earlier) !== NEVER;
+    ranks[place] = minutes;
     classes[place] = isBeyond ? count : before === null ? classAt[minutes] : classOf(earlier, minutes);
   }
-  return { classes, marks: [...marks, beyond, table.marks["no-destination"]] };
+  return { classes, marks: [...marks, beyond, table.marks["no-destination"]], ranks };
 }
 
 function showTimes(now, before) {
-  const { classes, marks } = classesOfTimes(now, before);
+  const { classes, marks, ranks } = classesOfTimes(now, before);
   element("from-here").hidden = true;
   showTimesTold(state.place, state.scenario, now, before);
   showHeadline(now, before);
@@ -121,18 +123,18 @@ function showTimes(now, before) {
   if (element("all-part").open) {
     showAll(now, before);
   }
-  showOnMap(before === null ? "Travel time, waiting included" : "Change of travel time", classes, marks);
+  showOnMap(before === null ? "Travel time, waiting included" : "Change of travel time", classes, marks, ranks);
 }
 
-/** Shows classes on the map and in the key. */
-export function showOnMap(title, classes, marks) {
+/** Shows classes on the map and in the key. Of opposite stops that share a mark, the one of the lower rank has it. */
+export function showOnMap(title, classes, marks, ranks = null) {
   const counts = new Array(marks.length).fill(0);
   for (let place = 0; place < classes.length; place++) {
     counts[classes[place]]++;
   }
   showKey(title, marks, counts);
   showLinesKey(state.scenario);
-  page.show({ classes, marks, place: state.place, scenario: state.scenario });
+  page.show({ classes, marks, ranks, place: state.place, scenario: state.scenario });
 }
 
 /** The number of the measure of access that is chosen, and its words. */
@@ -164,7 +166,7 @@ function showAccess() {
   if (before === null) {
     const { marks, classOf } = accessClasses(...spanOf(number));
     showHistogram(words, Array.from(now), state.weight, (value) => marks[classOf(value)].colour);
-    showOnMap("Access", classesOfOrigins(Array.from(now, classOf), marks.length - 1), marks);
+    showOnMap("Access", classesOfOrigins(Array.from(now, classOf), marks.length - 1), marks, ranksOfAccess(now));
   } else {
     showAccessChange(words, now, before);
   }
@@ -177,7 +179,7 @@ function showAccessChange(words, now, before) {
   showHistogram(words, Array.from(now, (access, origin) => access - before[origin]), state.weight, colourOf);
   showLosers(now, before, choose);
   const classes = Array.from(now, (access, origin) => classOf(before[origin], access));
-  showOnMap("Change of access", classesOfOrigins(classes, marks.length - 1), marks);
+  showOnMap("Change of access", classesOfOrigins(classes, marks.length - 1), marks, ranksOfAccess(now));
 }
 
 /** The classes of all places, where those of the origins are known. */
@@ -186,6 +188,15 @@ export function classesOfOrigins(classes, otherwise) {
   classes.forEach((number, origin) => { all[numbers.origins[origin]] = number; });
   return all;
 }
+
+/** The ranks of all places by a number of each origin, the lowest first. */
+export function ranksOfOrigins(values) {
+  const ranks = new Float64Array(head.names.length).fill(Infinity);
+  values.forEach((value, origin) => { ranks[numbers.origins[origin]] = value; });
+  return ranks;
+}
+
+const ranksOfAccess = (now) => ranksOfOrigins(now.map((access) => -access));
 
 /** The least and the most access of a measure in all scenarios, so that classes stay where scenarios are switched; and
     whether all of it is whole numbers. */
