@@ -142,7 +142,8 @@ def windows_by_rule(entry: Entry) -> tuple[Window, ...]:
         raise entry.fault(what, key, str(length), f"1 to {quantity(minutes, 'minute')}")
     starts = range(start, start + minutes - length + 1, every)
     if len(starts) > MOST_WINDOWS:
-        what = f"gives {len(starts):,} windows, and {MOST_WINDOWS} are allowed; use every = {EVERY} or a shorter day"
+        found = quantity(len(starts), "window")
+        what = f"gives {found}, and {MOST_WINDOWS} are allowed; use every = {EVERY} or a shorter day"
         raise entry.fault(what, "windows").noting(limit=MOST_WINDOWS)
     pairs = ((minute_text(at), minute_text(at + length - 1)) for at in starts)
     return tuple(Window(first.replace(":", ""), first, last) for first, last in pairs)
