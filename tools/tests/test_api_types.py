@@ -151,7 +151,7 @@ def test_no_public_result_is_any(folder: Path) -> None:
     said = checked(folder, CLIENT)
     errors = [line for line in said if ": note: Revealed type" not in line]
     assert errors == [], errors
-    assert len(said) == CLIENT.count("reveal_type(") == 61
+    assert len(said) == CLIENT.count("reveal_type(") == 62
     assert [line for line in said if "Any" in line.partition("Revealed type is")[2]] == []
 
 
